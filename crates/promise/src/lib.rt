@@ -1,0 +1,1 @@
+// What every contract is made of: definitions in specs/, their laws in proofs/. There is no code.

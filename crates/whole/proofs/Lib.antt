@@ -1,0 +1,7 @@
+pub mod Parts
+pub mod Laws
+pub mod Ring
+pub mod Auto
+pub mod Machine
+pub mod Floors
+pub mod Lines
