@@ -1,0 +1,71 @@
+-- A refusal is known by what it says: no two say the same, and none says what an accepted answer says. With these, an answer enum's `said…` leaves one value for each answer.
+use mathlib.Core.Path.{_≡_, refl, sym, _∙_, ap}
+use mathlib.Core.Bool.{cond}
+use Prim.Native.Nat.{ℕ, _≤_}
+use native.Mathlib.Omega.{arith}
+use lib.Dec.{eqb}
+use Rattle.refusal.specs.declared.Refusal.{Refusal}
+use Rattle.refusal.specs.declared.Refusal.the-variants.{Job, Kind, Box, State, Coord, Empty, Room, Command, Cut, Step, Text, Turn, Extent, Name}
+use Rattle.refusal.specs.Refusals.{numberOf, placeOf}
+use Rattle.refusal.specs.Said.{Said, accepted, refused}
+
+-- the refusal of a number and a place
+refusalOf : ℕ → ℕ → Refusal
+refusalOf n place =
+    cond (eqb n 1) Job (
+    cond (eqb n 2) Kind (
+    cond (eqb n 3) Box (
+    cond (eqb n 4) State (
+    cond (eqb n 5) Coord (
+    cond (eqb n 6) Empty (
+    cond (eqb n 7) Room (
+    cond (eqb n 8) Command (
+    cond (eqb n 9) Cut (
+    cond (eqb n 10) Step (
+    cond (eqb n 11) Text (
+    cond (eqb n 12) Turn (
+    cond (eqb n 13) Extent (
+    Name)))))))))))))
+
+read-back : (r : Refusal) → refusalOf (numberOf r) (placeOf r) ≡ r
+unfolding refusalOf
+read-back Job = refl
+read-back Kind = refl
+read-back Box = refl
+read-back State = refl
+read-back Coord = refl
+read-back Empty = refl
+read-back Room = refl
+read-back Command = refl
+read-back Cut = refl
+read-back Step = refl
+read-back Text = refl
+read-back Turn = refl
+read-back Extent = refl
+read-back Name = refl
+
+pub same-refusal : (r r′ : Refusal) → numberOf r ≡ numberOf r′ → placeOf r ≡ placeOf r′ → r ≡ r′
+same-refusal r r′ e f = sym (read-back r) ∙ (λ i. refusalOf (e i) (f i)) ∙ read-back r′
+
+numbered : (r : Refusal) → 1 ≤ numberOf r
+numbered Job = omega arith
+numbered Kind = omega arith
+numbered Box = omega arith
+numbered State = omega arith
+numbered Coord = omega arith
+numbered Empty = omega arith
+numbered Room = omega arith
+numbered Command = omega arith
+numbered Cut = omega arith
+numbered Step = omega arith
+numbered Text = omega arith
+numbered Turn = omega arith
+numbered Extent = omega arith
+numbered Name = omega arith
+
+module _ {X : Type 0} {v v′ : X} where
+  pub one-refusal : (r r′ : Refusal) → refused r v ≡ refused r′ v′ → r ≡ r′
+  one-refusal r r′ e = same-refusal r r′ (ap (λ (s : Said X). s .number) e) (ap (λ (s : Said X). s .place) e)
+
+  pub never-both : (r : Refusal) → accepted v ≡ refused r v′ → ⊥
+  never-both r e = let z : 0 ≡ numberOf r = ap (λ (s : Said X). s .number) e in omega (arith, numbered r)

@@ -1,0 +1,14 @@
+-- Document 01: the kinds (KIND: "not 1 point, 2 line, 3 polygon") and the domain ("at most 1,048,576 words, or the lent list's length if less").
+use Prim.Native.Nat.{ℕ}
+use mathlib.Core.Bool.{Bool, cond, _&&_}
+use lib.Dec.{leb}
+
+abbrev pub isKind : ℕ → Bool
+isKind kind = leb 1 kind && leb kind 3
+
+abbrev pub maxWords : ℕ
+maxWords = 1048576
+
+-- how many words there is room for in a lent list of that length
+abbrev pub room : ℕ → ℕ
+room length = cond (leb length maxWords) length maxWords
