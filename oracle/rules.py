@@ -24,13 +24,6 @@ def small_clips():
             yield (*segment, 0, width, 0, height)
 
 
-def random_clips():
-    random = cases.Random(cases.KEPT_SEED)
-    for _ in range(RANDOM_CLIPS):
-        box = random.pick(cases.BOXES)
-        yield cases.near_point(random, box) + cases.near_point(random, box) + box
-
-
 def as_job(kind):
     def make(clip):
         x1, y1, x2, y2, *box = clip
@@ -47,27 +40,27 @@ def ask(rule, kind, lines):
     return keep.ask(kind, lines)
 
 
-def same_segment(clip, answer):
+def whole(clip, answer):
     """A clip's answer, `none` taken as the segment as given."""
     return as_clip(clip[:4]) if answer == "none" else answer
 
 
 def size(clip):
-    """Small boxes first, then small coordinates."""
-    return sum(clip[4:]), sum(map(abs, clip[:4])), clip
+    """Small boxes first, then small numbers."""
+    x_min, x_max, y_min, y_max = clip[4:]
+    return x_max - x_min + y_max - y_min, sum(map(abs, clip)), clip
 
 
 def compare(title, clips, kind, to_line):
     lines = [to_line(clip) for clip in clips]
     usual = ask("overlap", kind, lines)
-    exact = None
     for rule in ("always", "exact", "strict"):
         other = ask(rule, kind, lines)
         if kind == "clips":
-            pairs = [(same_segment(c, a), same_segment(c, b)) for c, a, b in zip(clips, usual, other)]
+            pairs = [(whole(clip, a), whole(clip, b)) for clip, a, b in zip(clips, usual, other)]
         else:
             pairs = list(zip(usual, other))
-        changed = [(size(c), c, a, b) for c, (a, b) in zip(clips, pairs) if a != b]
+        changed = [(size(clip), clip, a, b) for clip, (a, b) in zip(clips, pairs) if a != b]
         print(f"{title}, {rule}: {len(changed)} of {len(clips)} differ")
         if changed:
             _, clip, a, b = min(changed)
@@ -75,7 +68,8 @@ def compare(title, clips, kind, to_line):
 
 
 def main():
-    small, random = list(small_clips()), list(random_clips())
+    small = list(small_clips())
+    random = list(cases.clips(cases.Random(cases.KEPT_SEED), RANDOM_CLIPS))
     compare("small clips", small, "clips", as_clip)
     compare("random clips", random, "clips", as_clip)
     compare("small two-point lines", small, "jobs", as_job(cases.LINE))

@@ -3,11 +3,11 @@
 --     Divided divided                    the machine's quotient, which rounds toward zero, and its remainder
 --     down same floor-is                 the floor from these; the definition `floor` is the floor
 --     quot-fits rem-fits floor-fits      quotient, remainder and floor of a number of a width are of that width
-use mathlib.Core.Path.{_≡_, refl, sym, _∙_, ap, subst}
+use mathlib.Core.Path.{_≡_, refl, _∙_, ap}
 use mathlib.Core.Bool.{Bool, true, false, cond}
-use mathlib.Core.Logic.{_⊎_, ⊎-elim}
+use mathlib.Core.Logic.{⊎-elim}
 use mathlib.Core.List.{List, [], _∷_}
-use Prim.Native.Nat.{ℕ, zero, suc, _+_, _*_, _-_, _/_, _%_, _^_, _<_, _≤_, zero-le}
+use Prim.Native.Nat.{ℕ, zero, suc, _/_, _%_, _^_, _≤_, zero-le}
 use native.Mathlib.Omega.{arith}
 use native.Mathlib.Nat.{div-add-mod', mod-lt, div-le-self}
 use lib.IntN.{ℤ, pos, negsuc, negℤ, _+ℤ_, _-ℤ_, _*ℤ_}
@@ -15,10 +15,10 @@ use lib.Signed.{_≤ℤ_, _<ℤ_, ltZ, quotZ, remZ, mag, mag-rem}
 use mir.Syntax.{Width}
 use mir.Val.{SFits, hbits}
 use mir.ValLaws.{sfits-le}
-use Rattle.whole.proofs.Parts.{p, n, neg-p, neg-n, zarith, le-out, lt-out, eq-out}
+use Rattle.whole.proofs.Parts.{p, n, neg-p, neg-n, zarith, le-out, lt-out}
 use Rattle.whole.proofs.Laws.{*-nonneg, diff, ≤-or-<, ≤-antisym}
 use Rattle.whole.proofs.Machine.{lo, hi, fit, lt-yes, lt-no}
-use Rattle.whole.proofs.Auto.{reads, ring!, ≤:, <:, ≡:, ≤!, <!, ≡! }
+use Rattle.whole.proofs.Auto.{reads, ring!, ≤:, <:, ≡:, ≤!, <! }
 use Rattle.whole.specs.Floor.{IsFloor, floor}
 
 -- ---- the floor among whole numbers

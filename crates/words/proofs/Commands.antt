@@ -1,20 +1,19 @@
 -- Laws of command words: encoding and decoding undo each other, and an answer is known by what it says.
-use mathlib.Core.Path.{_≡_, refl, sym, _∙_, ap}
-use mathlib.Core.Bool.{Bool, true, false, cond, _||_}
-use Prim.Native.Nat.{ℕ, _+_, _*_, _/_, _%_, _≤_}
+use mathlib.Core.Path.{_≡_, refl, sym, ap}
+use mathlib.Core.Bool.{true, false}
+use Prim.Native.Nat.{ℕ, _/_, _%_, _≤_}
 use native.Mathlib.Omega.{arith}
-use borrow.Author.Tests.{eq-eqb, ne-eqb, le-leb}
-use lib.Dec.{leb, eqb}
-use Rattle.refusal.specs.Said.{Said, accepted, refused}
+use borrow.Author.Tests.{ne-eqb}
+use lib.Dec.{eqb}
+use Rattle.refusal.specs.Said.{Said, accepted}
 use Rattle.refusal.proofs.Laws.{one-refusal, never-both}
 use Rattle.words.specs.declared.command.Command.{Command}
 use Rattle.words.specs.declared.command.Command.the-variants.{MoveTo, LineTo, ClosePath}
-use Rattle.words.specs.declared.command.CommandInt.{CommandInt}
 use Rattle.words.specs.declared.command.CommandWord.{CommandWord}
 use Rattle.words.specs.declared.command.CommandWord.the-variants.{Word, Refused as WordRefused}
 use Rattle.words.specs.declared.command.CommandRead.{CommandRead}
 use Rattle.words.specs.declared.command.CommandRead.the-variants.{Read, Refused as ReadRefused}
-use Rattle.words.specs.Commands.{idOf, commandWord, maxCount, encoded, saidWord, IdCount, isId, decoded, saidCommand}
+use Rattle.words.specs.Commands.{idOf, commandWord, saidWord, IdCount, isId, decoded, saidCommand}
 
 pub id-small : (c : Command) → idOf c ≤ 7
 id-small MoveTo = omega arith

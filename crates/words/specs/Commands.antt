@@ -6,7 +6,6 @@ use Rattle.refusal.specs.declared.Refusal.the-variants.{Command as NoCommand, R
 use Rattle.refusal.specs.Said.{Said, accepted, refused}
 use Rattle.words.specs.declared.command.Command.{Command}
 use Rattle.words.specs.declared.command.Command.the-variants.{MoveTo, LineTo, ClosePath}
-use Rattle.words.specs.declared.command.CommandInt.{CommandInt}
 use Rattle.words.specs.declared.command.CommandWord.{CommandWord}
 use Rattle.words.specs.declared.command.CommandWord.the-variants.{Word, Refused as WordRefused}
 use Rattle.words.specs.declared.command.CommandRead.{CommandRead}

@@ -1,5 +1,4 @@
 -- Each known id gives its command with the count above it; without one of the three the id is refused.
-use borrow.Author.Tests.{ne-eqb}
 use Rattle.words.specs.declared.command.Command.the-variants.{MoveTo, LineTo, ClosePath}
 use Rattle.words.proofs.Commands.{says-id, says-none}
 use Rattle.words.proofs.command.CommandInt.decode.Statement.{statement}
