@@ -1,9 +1,9 @@
 #!/usr/bin/env python3
 """Makes cases for the driver, a line each: cases.py KIND [SEED [COUNT]]
 
-KIND is jobs, states, clips, params, commands, tiles or large. First come the
-fixed cases (short ones exhaustively, each boundary by itself), then COUNT random
-ones. The same arguments give the same lines on every machine.
+KIND is jobs, states, clips, params, commands, tiles, large_jobs or large_tiles.
+First come the fixed cases (short ones exhaustively, each boundary by itself), then
+COUNT random ones. The same arguments give the same lines on every machine.
 """
 
 import itertools
@@ -14,7 +14,7 @@ LIMIT = 1_073_741_823  # of coordinates and box edges
 FILE_LIMIT = 65_536  # bytes of a job file or a tile script
 KEPT_SEED = 1
 KEPT_COUNT = {"jobs": 260, "states": 60, "clips": 400, "params": 100, "commands": 40,
-              "tiles": 60, "large": 8}
+              "tiles": 60, "large_jobs": 8, "large_tiles": 0}
 
 
 class Random:
@@ -208,21 +208,23 @@ def states(random, count):
         yield random_job(random, sizes=(1, 2, 3))
 
 
-def large(random, count):
+def large_jobs(random, count):
     """Jobs at the program's sizes: 65,536 bytes and 16,384 words. Not kept."""
+    box = (0, 10, 0, 10)
     room = (FILE_LIMIT - 4 * 7) // 8  # points of a job with one part
     for points in (room - 1, room, room + 1):
         part = [(at % 2, at // 2 % 2) for at in range(points)]
-        yield job(POINT, (0, 10, 0, 10), [part])
-    # Crossing the box costs six words a point, so the words run out first.
-    for size in range(2729, 2734):
-        part = [(-3 if at % 2 else 13, at % 9 + 1) for at in range(size)]
-        for kind in (LINE, POLYGON):
-            yield job(kind, (0, 10, 0, 10), [part])
+        yield job(POINT, box, [part])
+        yield job(POINT, box, [part, []])  # of room points: 65,536 bytes exactly
+    # Crossing the box costs six words a point: 2,731 points of a line fill the words.
+    for points in (2730, 2731, 2732):
+        part = [(13, 9) if at % 2 else (-3, 1) for at in range(points)]
+        yield job(LINE, box, [part])
+        yield job(POLYGON, box, [part])
     for _ in range(count):
-        kind, box = random.between(1, 3), random.pick(BOXES)
-        size = random.between(room // 4, room)
-        yield job(kind, box, [[near_point(random, box) for _ in range(size)]])
+        box = random.pick(BOXES)
+        points = random.between(room // 4, room)
+        yield job(random.between(1, 3), box, [[near_point(random, box) for _ in range(points)]])
 
 
 # Clips, parameters, commands
@@ -323,7 +325,8 @@ def sample_tiles():
     for extent in EXTENTS:
         yield script(create(b"a", extent), ADD, extent=extent)
         yield script(create(b"a", extent), ADD)
-    yield script(create(b"a"), ADD, create(b"b"), ADD, create(b"a"), ADD, create(b"c", 1), ADD, create(b"c"), ADD)
+    yield script(create(b"a"), ADD, create(b"b"), ADD, create(b"a"), ADD, create(b"c", 1), ADD,
+                 create(b"c"), ADD)
     yield script(create(b"a"), point, CLOSE, ADD, create(b"a"), point, CLOSE, create(b""), ADD)
     for kind in (POINT, LINE, POLYGON):
         yield script(create(b"a"), open_feature(kind), CLOSE, ADD)
@@ -340,7 +343,8 @@ def sample_tiles():
         yield script(create(b"a"), point, *tags, *tags, CLOSE, ADD)
     # The same bits under different kinds, and both zeros in both orders.
     for n in (0, 1):
-        yield script(create(b"a"), point, *(tag(b"k", kind, n) for kind in range(FLOAT, BOOL + 1)), CLOSE, ADD)
+        tags = [tag(b"k", kind, n) for kind in range(FLOAT, BOOL + 1)]
+        yield script(create(b"a"), point, *tags, CLOSE, ADD)
     for zeros in ((0, 0x8000_0000), (0x8000_0000, 0)):
         yield script(create(b"a"), point, *(tag(b"k", FLOAT, n) for n in zeros), CLOSE, ADD)
         yield script(create(b"a"), point, *(tag(b"k", DOUBLE, n << 32) for n in zeros), CLOSE, ADD)
@@ -360,7 +364,8 @@ def sample_tiles():
     for size in (125, 126, 127, 128):
         yield script(create(b"a"), point, tag(b"k" * size, TEXT, b"v" * size), CLOSE, ADD)
     # More keys than one byte's index.
-    yield script(create(b"a"), point, *(tag(bytes([97 + n % 26, 97 + n // 26]), UINT, n) for n in range(130)), CLOSE, ADD)
+    tags = [tag(bytes([97 + n % 26, 97 + n // 26]), UINT, n) for n in range(130)]
+    yield script(create(b"a"), point, *tags, CLOSE, ADD)
     for size in (1023, 1024, 1025):
         yield script(create(b"n" * size), ADD)
     yield script(create(b"a"), point, tag(b"k" * 1024, TEXT, b"v" * 1024), CLOSE, ADD)
@@ -421,7 +426,18 @@ def tiles(random, count):
         yield damaged_tile(random, good) if at % 8 == 7 else good
 
 
-KINDS = {f.__name__: f for f in (jobs, states, clips, params, commands, tiles, large)}
+def large_tiles(_random, _count):
+    """Scripts whose nested lengths pass two bytes, and of 65,536 bytes. Not kept."""
+    for more in range(-20, 10):  # geometry, feature and layer each pass 16,383 bytes
+        words = [2**32 - 1] * 3270 + [0] * (2**14 - 5 * 3270 + more)
+        yield script(create(b"a"), open_feature(LINE, words), CLOSE, ADD)
+    head = len(script(create(b"a"), open_feature(LINE), CLOSE, ADD))
+    for more in (-1, 0, 1):
+        words = [128] * ((FILE_LIMIT - head) // 4 + more)
+        yield script(create(b"a"), open_feature(LINE, words), CLOSE, ADD)
+
+
+KINDS = {f.__name__: f for f in (jobs, states, clips, params, commands, tiles, large_jobs, large_tiles)}
 
 
 def lines(kind, seed=KEPT_SEED, count=None):

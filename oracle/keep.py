@@ -23,7 +23,7 @@ def ask(kind, lines):
     given = "".join(line + "\n" for line in lines)
     run = subprocess.run([DRIVER, kind], input=given, capture_output=True, text=True)
     if run.returncode != 0:
-        sys.exit(run.stderr.strip() or "the driver failed: the two copies of the Rust differ")
+        sys.exit(f"the driver failed: {run.stderr.strip()}")
     return run.stdout.splitlines()
 
 

@@ -74,6 +74,7 @@ def main():
     compare("random clips", random, "clips", as_clip)
     compare("small two-point lines", small, "jobs", as_job(cases.LINE))
     compare("small two-point rings", small, "jobs", as_job(cases.POLYGON))
+    compare("random two-point lines", random, "jobs", as_job(cases.LINE))
 
 
 if __name__ == "__main__":

@@ -1,10 +1,10 @@
 //! Job files: whole jobs, and the encoder's state after every call.
 
-use crate::words::{checked_box, geometry_words, within};
 use crate::numbers;
+use crate::words::{checked_box, geometry_words, within};
 use mvt_open::State;
 use pointy::BBox;
-use std::panic::{catch_unwind, AssertUnwindSafe};
+use std::panic::{self, AssertUnwindSafe};
 
 /// The words the program's buffer holds, from document 01.
 const WORD_ROOM: usize = 16_384;
@@ -26,7 +26,10 @@ fn read(bytes: &[u8]) -> Result<Job, &'static str> {
         return Err("JOB");
     }
     let (ends, body) = rest.split_at(part_count);
-    let points: Vec<(i32, i32)> = body.chunks_exact(2).map(|p| (p[0] as i32, p[1] as i32)).collect();
+    let points: Vec<(i32, i32)> = body
+        .chunks_exact(2)
+        .map(|p| (p[0] as i32, p[1] as i32))
+        .collect();
     let ascending = ends.windows(2).all(|e| e[0] <= e[1]);
     if body.len() % 2 != 0 || !ascending || ends[part_count - 1] as usize != points.len() {
         return Err("JOB");
@@ -45,7 +48,11 @@ fn read(bytes: &[u8]) -> Result<Job, &'static str> {
         parts.push(points[start..end as usize].to_vec());
         start = end as usize;
     }
-    Ok(Job { kind: head[0], bbox, parts })
+    Ok(Job {
+        kind: head[0],
+        bbox,
+        parts,
+    })
 }
 
 /// The words as the unchanged copy gives them: the last part is completed by
@@ -56,7 +63,9 @@ fn words_unchanged(job: &Job) -> Vec<u32> {
     let mut encoder = GeomEncoder::new(kind).bbox(job.bbox);
     for (at, part) in job.parts.iter().enumerate() {
         for &(x, y) in part {
-            encoder.add_point(x, y).expect("whole coordinates are accepted");
+            encoder
+                .add_point(x, y)
+                .expect("whole coordinates are accepted");
         }
         if at + 1 < job.parts.len() {
             encoder.complete_geom().expect("completing has no refusal");
@@ -81,20 +90,27 @@ fn run(job: &Job, mut show: impl FnMut(&str, &State)) -> Run {
     use mvt_open::{GeomEncoder, GeomType};
     let kind = [GeomType::Point, GeomType::Linestring, GeomType::Polygon][job.kind as usize - 1];
     let mut encoder = GeomEncoder::new(kind).bbox(job.bbox);
-    let mut run = Run { words: Vec::new(), points: 0, panicked: false, full_at: None };
+    let mut run = Run {
+        words: Vec::new(),
+        points: 0,
+        panicked: false,
+        full_at: None,
+    };
     show("new", &encoder.state());
     for part in &job.parts {
         for &(x, y) in part {
-            encoder.add_point(x, y).expect("whole coordinates are accepted");
+            encoder
+                .add_point(x, y)
+                .expect("whole coordinates are accepted");
             if encoder.state().words.len() > WORD_ROOM {
                 run.full_at.get_or_insert(run.points);
             }
             run.points += 1;
             show("add", &encoder.state());
         }
-        match catch_unwind(AssertUnwindSafe(|| encoder.complete_geom())) {
-            Ok(done) => done.expect("completing has no refusal"),
-            Err(_) => {
+        match unless_panic(|| encoder.complete_geom()) {
+            Some(done) => done.expect("completing has no refusal"),
+            None => {
                 run.panicked = true;
                 return run;
             }
@@ -108,17 +124,32 @@ fn run(job: &Job, mut show: impl FnMut(&str, &State)) -> Run {
     run
 }
 
+/// What a call answers, or `None` where the Rust panics: that is an answer too,
+/// so nothing is printed about it.
+fn unless_panic<T>(call: impl FnOnce() -> T) -> Option<T> {
+    let usual = panic::take_hook();
+    panic::set_hook(Box::new(|_| {}));
+    let answer = panic::catch_unwind(AssertUnwindSafe(call));
+    panic::set_hook(usual);
+    answer.ok()
+}
+
 /// The words, or why the job is outside the comparison. Both copies are asked
 /// and must agree.
 fn answer(bytes: &[u8], show: impl FnMut(&str, &State)) -> Result<Vec<u32>, String> {
     let job = read(bytes).map_err(|name| format!("outside {name}"))?;
     let run = run(&job, show);
-    let unchanged = catch_unwind(|| words_unchanged(&job)).ok();
+    let unchanged = unless_panic(|| words_unchanged(&job));
     if run.panicked {
         assert_eq!(unchanged, None, "the two copies differ");
+        assert_eq!((job.kind, run.points), (1, 0), "a panic not known so far");
         return Err(format!("outside EMPTY panic at {}", run.points));
     }
-    assert_eq!(unchanged.as_ref(), Some(&run.words), "the two copies differ");
+    assert_eq!(
+        unchanged.as_ref(),
+        Some(&run.words),
+        "the two copies differ"
+    );
     // The Rust's list grows without a limit, so it has no answer of its own here.
     match run.full_at {
         Some(points) => Err(format!("outside ROOM at {points}")),
@@ -168,5 +199,8 @@ fn state_text(call: &str, state: &State) -> String {
 
 /// Each word with the separator before it.
 fn listed(separator: char, words: &[u32]) -> String {
-    words.iter().map(|word| format!("{separator}{word}")).collect()
+    words
+        .iter()
+        .map(|word| format!("{separator}{word}"))
+        .collect()
 }

@@ -22,8 +22,6 @@ const USAGE: &str = "usage: driver jobs|states|clips|params|commands|tiles (a ca
 struct BadLine;
 
 fn main() -> ExitCode {
-    // A panic of the Rust is an answer, told by the mode that met it.
-    std::panic::set_hook(Box::new(|_| {}));
     match run() {
         Ok(()) => ExitCode::SUCCESS,
         Err(text) => {
@@ -58,7 +56,9 @@ fn run() -> Result<(), String> {
 /// Answers one file the way our programs print it.
 fn one_file(answer: fn(&[u8]) -> String) -> Result<(), String> {
     let mut bytes = Vec::new();
-    io::stdin().read_to_end(&mut bytes).map_err(|e| e.to_string())?;
+    io::stdin()
+        .read_to_end(&mut bytes)
+        .map_err(|e| e.to_string())?;
     print!("{}", answer(&bytes));
     Ok(())
 }
@@ -69,13 +69,19 @@ fn from_hex(line: &str) -> Result<Vec<u8>, BadLine> {
     if digits.len() % 2 != 0 {
         return Err(BadLine);
     }
-    digits.chunks(2).map(|c| Ok((digit(c[0])? * 16 + digit(c[1])?) as u8)).collect()
+    digits
+        .chunks(2)
+        .map(|c| Ok((digit(c[0])? * 16 + digit(c[1])?) as u8))
+        .collect()
 }
 
 /// Exactly `N` decimal numbers, blanks between them.
 fn decimals<T: std::str::FromStr, const N: usize>(line: &str) -> Result<[T; N], BadLine> {
     let numbers: Result<Vec<T>, _> = line.split_whitespace().map(str::parse).collect();
-    numbers.map_err(|_| BadLine)?.try_into().map_err(|_| BadLine)
+    numbers
+        .map_err(|_| BadLine)?
+        .try_into()
+        .map_err(|_| BadLine)
 }
 
 /// Numbers as text, blanks between them.

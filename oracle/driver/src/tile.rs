@@ -132,15 +132,22 @@ struct Answer {
 fn answer(script: &[u8]) -> Result<Answer, String> {
     let numbers = numbers(script).ok_or("outside JOB at 0")?;
     let mut reader = Reader(&numbers);
-    let extent = reader.number().map_err(|name| format!("outside {name} at 0"))?;
+    let extent = reader
+        .number()
+        .map_err(|name| format!("outside {name} at 0"))?;
     let mut tile = Tile::new(extent);
     assert_eq!(tile.extent(), extent);
-    let mut answer = Answer { outcomes: Vec::new(), tags: Vec::new(), bytes: Vec::new() };
+    let mut answer = Answer {
+        outcomes: Vec::new(),
+        tags: Vec::new(),
+        bytes: Vec::new(),
+    };
     let mut hand = Hand::Nothing;
     while !reader.0.is_empty() {
         let outside = |name| format!("outside {name} at {}", answer.outcomes.len() + 1);
         let operation = reader.operation().map_err(outside)?;
-        let (next, outcome) = perform(&mut tile, hand, operation, &mut answer.tags).map_err(outside)?;
+        let (next, outcome) =
+            perform(&mut tile, hand, operation, &mut answer.tags).map_err(outside)?;
         hand = next;
         answer.outcomes.push(outcome);
     }
@@ -170,7 +177,10 @@ fn perform(
         (_, Hand::Lost) => return Err("LOST"),
         (Operation::Open(kind, words), Hand::Layer(layer)) => {
             let geometry = GeomData::given(kind, words.clone());
-            assert_eq!((geometry.len(), geometry.is_empty()), (words.len(), words.is_empty()));
+            assert_eq!(
+                (geometry.len(), geometry.is_empty()),
+                (words.len(), words.is_empty())
+            );
             Hand::Feature(layer.into_feature(geometry))
         }
         (Operation::SetId(id), Hand::Feature(mut feature)) => {
@@ -229,10 +239,22 @@ pub fn answer_line(script: &[u8]) -> String {
         Ok(answer) => answer,
         Err(outside) => return outside,
     };
-    let outcomes: String = answer.outcomes.iter().map(|o| format!(" {}", outcome_text(o))).collect();
-    let tags: String = answer.tags.iter().map(|index| format!(" {index}")).collect();
+    let outcomes: String = answer
+        .outcomes
+        .iter()
+        .map(|o| format!(" {}", outcome_text(o)))
+        .collect();
+    let tags: String = answer
+        .tags
+        .iter()
+        .map(|index| format!(" {index}"))
+        .collect();
     let bytes = &answer.bytes;
-    let line = format!("outcomes{outcomes}; tags{tags}; bytes {} {}", bytes.len(), hex(bytes));
+    let line = format!(
+        "outcomes{outcomes}; tags{tags}; bytes {} {}",
+        bytes.len(),
+        hex(bytes)
+    );
     line.trim_end().into()
 }
 
@@ -243,7 +265,15 @@ pub fn program_output(script: &[u8]) -> String {
         Ok(answer) => answer,
         Err(outside) => return outside + "\n",
     };
-    let outcomes: String = answer.outcomes.iter().map(|o| outcome_text(o) + "\n").collect();
-    let lines: String = answer.bytes.chunks(32).map(|line| hex(line) + "\n").collect();
+    let outcomes: String = answer
+        .outcomes
+        .iter()
+        .map(|o| outcome_text(o) + "\n")
+        .collect();
+    let lines: String = answer
+        .bytes
+        .chunks(32)
+        .map(|line| hex(line) + "\n")
+        .collect();
     format!("{outcomes}bytes {}\n{lines}", answer.bytes.len())
 }

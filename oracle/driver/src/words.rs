@@ -36,7 +36,9 @@ pub fn clip(case: [i32; 8]) -> String {
 /// The word of a parameter. The unchanged copy hides it, but writes it as the
 /// x step of a single point; both copies must agree.
 pub fn param([value]: [i32; 1]) -> String {
-    let point = GeomEncoder::new(GeomType::Point).point(value, 0).and_then(GeomEncoder::encode);
+    let point = GeomEncoder::new(GeomType::Point)
+        .point(value, 0)
+        .and_then(GeomEncoder::encode);
     let words = geometry_words(point.expect("a point is accepted"));
     let word = mvt_open::param_word(value);
     assert_eq!(words, [9, word, 0], "the two copies differ");

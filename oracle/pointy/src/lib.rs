@@ -57,7 +57,12 @@ pub struct BBox<T> {
 
 impl<T: Num> BBox<T> {
     pub fn new(x_min: T, x_max: T, y_min: T, y_max: T) -> Self {
-        BBox { x_min, x_max, y_min, y_max }
+        BBox {
+            x_min,
+            x_max,
+            y_min,
+            y_max,
+        }
     }
 
     pub fn x_min(&self) -> T {
