@@ -3,14 +3,14 @@
 --     take-lay drop-lay                  the list up to the run's end, and from there on
 --     lay-before lay-inside lay-after    each element: before, in and after the run
 --     lay-next lay-over                  a run laid behind a run; a run laid over one of its length
---     lay-one                            one store
+--     lay-one lay-store                  one store; a run stored element by element
 use mathlib.Core.Path.{_≡_, sym, _∙_, ap}
 use mathlib.Core.List.{List, [], _∷_, _++_, append-assoc, append-nil}
-use Prim.Native.Nat.{ℕ, _+_, _-_, _<_, _≤_}
+use Prim.Native.Nat.{ℕ, suc, _+_, _-_, _<_, _≤_}
 use native.Mathlib.Numerals.{add-one}
 use native.Mathlib.Omega.{arith}
 use lib.ListN.{length, take, drop, getD, set, length-append, length-drop, take-append-drop, List·getD-append}
-use lib.Seq.{length-take-le, take-at, drop-at, drop-drop, getD-append-add, getD-take, getD-drop, set-split}
+use lib.Seq.{length-take-le, take-suc, drop-cons, set-at, take-at, drop-at, drop-drop, getD-append-add, getD-take, getD-drop, set-split}
 use Rattle.promise.specs.Laid.{lay}
 
 module _ {E : Type 0} where
@@ -71,3 +71,13 @@ module _ {E : Type 0} where
   -- one store
   pub lay-one : (l : List E) (i : ℕ) (a : E) → i < length l → set l i a ≡ lay i (a ∷ []) l
   lay-one l i a h = set-split l i a h ∙ rw (append-assoc (take i l) (a ∷ []) (drop (i + 1) l), add-one)
+
+  -- a run that is laid element by element: the next one is stored behind those that are laid
+  pub lay-store : (at i j : ℕ) (run l : List E) (d : E) → i < length run → at + length run ≤ length l → j ≡ suc i → set (lay at (take i run) l) (at + i) (getD run i d) ≡ lay at (take j run) l
+  lay-store at i j run l d h fits e =
+      let n : length (take i run) ≡ i = length-take-le i run (omega arith) in
+      let n′ : length (take (suc i) run) ≡ suc i = length-take-le (suc i) run (omega arith) in
+      let k : length (take at l ++ take i run) ≡ at + i = rw (length-append, length-take-le at l (omega arith), n) in
+      let s : at + suc i ≡ suc (at + i) = omega arith in
+      rw (e, n, n′, s, drop-cons l (at + i) d (omega arith), set-at (take at l ++ take i run) _ (drop (suc (at + i)) l) (getD run i d) (at + i) k, take-suc run i d h)
+      (simp append-assoc)

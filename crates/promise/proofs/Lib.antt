@@ -1,3 +1,4 @@
 pub mod Unique
 pub mod Laying
+pub mod Copying
 pub mod Cases

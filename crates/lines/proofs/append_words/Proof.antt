@@ -1,0 +1,63 @@
+-- Each turn lays the next word's line behind those that are laid.
+use Prim.Native.Nat.{_-_}
+use borrow.Author.Needs.{needs}
+use lib.ListN.{length}
+use Rattle.lines.proofs.Columns.{Column, column-start, column-room, column-turn, column-done}
+use Rattle.lines.proofs.append_words.Statement.{statement}
+use Rattle.lines.proofs.append_words.Tie as tie
+
+abbrev Inv-loop : tie.InvT-loop
+Inv-loop words at text₀ next₀ i₀ text next i = Column words at text₀ text next i
+
+abbrev μ-loop : tie.MeasureT-loop
+μ-loop words at text₀ next₀ i₀ text next i = length words - i
+
+loop-holds : tie.Need-loop-holds Inv-loop μ-loop
+loop-holds c = column-start (c .before .before .pre)
+
+mul-wide : tie.Need-mul-wide Inv-loop μ-loop
+mul-wide c = search needs
+
+shared-slice-read-wide : tie.Need-shared-slice-read-wide Inv-loop μ-loop
+shared-slice-read-wide c = search needs
+
+wide-requires : tie.Need-wide-requires Inv-loop μ-loop
+wide-requires c κs = search needs
+
+append-number-requires : tie.Need-append-number-requires Inv-loop μ-loop
+append-number-requires c κs = column-room (c .before .before .before .before .loop .inv) (search needs)
+
+add-i : tie.Need-add-i Inv-loop μ-loop
+add-i c = search needs
+
+loop-less : tie.Need-loop-less Inv-loop μ-loop
+loop-less c = search needs
+
+loop-again : tie.Need-loop-again Inv-loop μ-loop
+loop-again c =
+    let n = c .before .before in
+    let w = n .before .before in
+    column-turn (w .before .before .before .loop .inv) _ _ (w .wide .result) (search needs) (w .wide .ensures) (search needs) (n .append-number .ensures)
+
+same-length : tie.Need-same-length Inv-loop μ-loop
+same-length c = search needs
+
+returns : tie.Need-returns Inv-loop μ-loop
+returns c = column-done (c .before .loop .inv) (search needs)
+
+pub append-words-spec : {M : Type 1} → statement M
+append-words-spec =
+    tie.close
+    (tie.spec
+    Inv-loop
+    μ-loop
+    loop-holds
+    mul-wide
+    shared-slice-read-wide
+    wide-requires
+    append-number-requires
+    add-i
+    loop-less
+    loop-again
+    same-length
+    returns)

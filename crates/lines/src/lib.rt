@@ -1,0 +1,82 @@
+// What the programs print, laid out in lent bytes: lines of numbers in decimal.
+ghost use mathlib.Core.Path.{_≡_};
+ghost use Prim.Native.Nat.{_+_, _*_, _≤_};
+ghost use lib.ListN.{length};
+ghost use Rattle.promise.specs.Answers.{Gives};
+ghost use Rattle.promise.specs.Laid.{lay};
+ghost use Rattle.lines.specs.Decimal.{ended};
+ghost use Rattle.lines.specs.Printed.{column, shown, wordsText, wordsRoom, refusedText, refusedRoom};
+
+// Lays `bytes` at a place of the text.
+fn append(bytes: &[u8], at: usize, text: &mut [u8])
+    requires { ⌜ at + length (now bytes) ≤ length (now text) ⌝ }
+    ensures { λ _. ⌜ now (text .exit) ≡ lay at (now (bytes .entry)) (now (text .entry)) ⌝ }
+{
+    let mut i = 0;
+    while i < bytes.len() {
+        text[at + i] = bytes[i];
+        i += 1;
+    }
+}
+
+// Lays a number's digits and then `end` at a place of the text, and answers the place after them. A u64 has at most twenty digits.
+fn append_number(n: u64, end: u8, at: usize, text: &mut [u8]) -> usize
+    requires { ⌜ at + 21 ≤ length (now text) ⌝ }
+    ensures { λ r. ⌜ Gives (record { answer = at + length (ended n end); memory = lay at (ended n end) (now (text .entry)) }) r (now (text .exit)) ⌝ }
+{
+    let mut digits = [0u8; 20];
+    let k = io::decimal(n, &mut digits);
+    append(&digits[..k], at, text);
+    let next = at + k;
+    text[next] = end;
+    next + 1
+}
+
+// Lays each word on a line of its own, from a place of the text on, and answers the place after them.
+fn append_words(words: &[u32], at: usize, text: &mut [u8]) -> usize
+    requires { ⌜ at + 21 * length (now words) ≤ length (now text) ⌝ }
+    ensures { λ r. ⌜ Gives (record { answer = at + length (column (now (words .entry))); memory = lay at (column (now (words .entry))) (now (text .entry)) }) r (now (text .exit)) ⌝ }
+{
+    let mut next = at;
+    let mut i = 0;
+    while i < words.len() {
+        next = append_number(wide(words[i]), b'\n', next, text);
+        i += 1;
+    }
+    next
+}
+
+fn wide(word: u32) -> u64
+    ensures { λ r. ⌜ r ≡ word ⌝ }
+{
+    word as u64
+}
+
+// `words N` and then each word on its own line: how many bytes it is. A text of fewer than 27 bytes, and 21 for each word, stays as it is, and the answer is 0.
+pub fn show_words(words: &[u32], text: &mut [u8]) -> usize
+    ensures { λ r. ⌜ Gives (shown (wordsRoom (now (words .entry))) (wordsText (now (words .entry))) (now (text .entry))) r (now (text .exit)) ⌝ }
+{
+    let n = words.len();
+    if text.len() < 27 {
+        return 0;
+    }
+    if (text.len() - 27) / 21 < n {
+        return 0;
+    }
+    append(b"words ", 0, text);
+    let at = append_number(n as u64, b'\n', 6, text);
+    append_words(words, at, text)
+}
+
+// `refused R at P`: how many bytes it is. A text of fewer than 53 bytes stays as it is, and the answer is 0.
+pub fn show_refused(number: u32, points: usize, text: &mut [u8]) -> usize
+    ensures { λ r. ⌜ Gives (shown refusedRoom (refusedText number points) (now (text .entry))) r (now (text .exit)) ⌝ }
+{
+    if text.len() < 53 {
+        return 0;
+    }
+    append(b"refused ", 0, text);
+    let at = append_number(number as u64, b' ', 8, text);
+    append(b"at ", at, text);
+    append_number(points as u64, b'\n', at + 3, text)
+}

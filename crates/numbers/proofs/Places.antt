@@ -1,0 +1,67 @@
+-- How many numbers a file has, and where each of them stands; and a number read as a signed one.
+use mathlib.Core.Path.{_≡_, refl, sym, _∙_, ap}
+use mathlib.Core.List.{List, [], _∷_}
+use Prim.Native.Nat.{ℕ, zero, suc, _+_, _*_, _-_, _/_, _<_, _≤_, _^_}
+use native.Mathlib.Omega.{arith}
+use borrow.Author.Tests.{lt-ltb, le-ltb}
+use lib.IntN.{pos, negsuc, _-ℤ_}
+use lib.ListN.{length, getD}
+use mir.Syntax.{w32}
+use mir.Val.{SFits, toZ}
+use mir.Facts.{toZ-pos}
+use Rattle.whole.proofs.Parts.{zarith, -parts}
+use Rattle.refusal.specs.Said.{Said}
+use Rattle.refusal.proofs.Laws.{one-refusal, never-both}
+use Rattle.numbers.specs.declared.Numbers.{Numbers}
+use Rattle.numbers.specs.declared.Numbers.the-variants.{Read, Refused}
+use Rattle.numbers.specs.Numbers.{numbersOf, numberAt, signedOf, saidNumbers}
+
+pub numbers-long : (l : List ℕ) → length (numbersOf l) ≡ length l / 4
+numbers-long [] = refl
+numbers-long (a ∷ []) = refl
+numbers-long (a ∷ b ∷ []) = refl
+numbers-long (a ∷ b ∷ c ∷ []) = refl
+numbers-long (a ∷ b ∷ c ∷ d ∷ rest) = omega (arith, numbers-long rest)
+
+pub numbers-at : (l : List ℕ) (i : ℕ) → 4 * i + 4 ≤ length l → getD (numbersOf l) i 0 ≡ numberAt l (4 * i)
+numbers-at [] i h = absurd (omega arith)
+numbers-at (a ∷ []) i h = absurd (omega arith)
+numbers-at (a ∷ b ∷ []) i h = absurd (omega arith)
+numbers-at (a ∷ b ∷ c ∷ []) i h = absurd (omega arith)
+numbers-at (a ∷ b ∷ c ∷ d ∷ rest) zero h = refl
+numbers-at (a ∷ b ∷ c ∷ d ∷ rest) (suc i) h =
+    let e0 : 4 * suc i ≡ suc (suc (suc (suc (4 * i)))) = omega arith in
+    let e1 : suc (suc (suc (suc (4 * i)))) + 1 ≡ suc (suc (suc (suc (4 * i + 1)))) = omega arith in
+    let e2 : suc (suc (suc (suc (4 * i)))) + 2 ≡ suc (suc (suc (suc (4 * i + 2)))) = omega arith in
+    let e3 : suc (suc (suc (suc (4 * i)))) + 3 ≡ suc (suc (suc (suc (4 * i + 3)))) = omega arith in
+    rw (e0, e1, e2, e3) (numbers-at rest i (omega arith))
+
+-- ---- as the machine computes the signed number
+module _ (n : ℕ) (l : n < 2 ^ 32) where
+  low : n < 2147483648 → pos n ≡ signedOf n
+  low h = rw (lt-ltb n 2147483648 h)
+
+  pub signed-low : n < 2147483648 → toZ w32 n ≡ signedOf n
+  signed-low h = toZ-pos w32 (omega arith) ∙ low h
+
+  -- -1 - (4294967295 - n)
+  high : 2147483648 ≤ n → negsuc 0 -ℤ toZ w32 (4294967295 - n) ≡ negsuc (4294967295 - n)
+  high h =
+      let e : toZ w32 (4294967295 - n) ≡ pos (4294967295 - n) = toZ-pos w32 (omega arith) in
+      rw e (omega (zarith, -parts (negsuc 0) (pos (4294967295 - n))))
+
+  pub high-fits : 2147483648 ≤ n → SFits w32 (negsuc 0 -ℤ toZ w32 (4294967295 - n))
+  high-fits h = rw (high h) (record { sfits = omega arith })
+
+  less : 2147483648 ≤ n → negsuc (4294967295 - n) ≡ signedOf n
+  less h = rw (le-ltb n 2147483648 h) (omega (zarith, -parts (pos n) (pos 4294967296)))
+
+  pub signed-high : 2147483648 ≤ n → negsuc 0 -ℤ toZ w32 (4294967295 - n) ≡ signedOf n
+  signed-high h = high h ∙ less h
+
+-- ---- one value for each answer
+pub one-numbers : (r r′ : Numbers) → saidNumbers r ≡ saidNumbers r′ → r ≡ r′
+one-numbers (Read n) (Read n′) e = ap (λ (s : Said ℕ). Read (s .values)) e
+one-numbers (Read n) (Refused r) e = absurd (never-both r e)
+one-numbers (Refused r) (Read n) e = absurd (never-both r (sym e))
+one-numbers (Refused r) (Refused r′) e = ap Refused (one-refusal r r′ e)
