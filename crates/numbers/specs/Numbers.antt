@@ -32,7 +32,7 @@ abbrev pub numberAt : List ℕ → ℕ → ℕ
 numberAt bytes at = number (getD bytes at 0) (getD bytes (at + 1) 0) (getD bytes (at + 2) 0) (getD bytes (at + 3) 0)
 
 -- JOB for a file that is too long or cut inside a number, ROOM for a list that is too short
-abbrev pub reading : List ℕ → List ℕ → Written (Said ℕ) (List ℕ)
+unfoldable pub reading : List ℕ → List ℕ → Written (Said ℕ) (List ℕ)
 reading bytes out =
     cond (leb (length bytes) maxBytes) (
     cond (eqb (length bytes % 4) 0) (
