@@ -1,0 +1,142 @@
+-- What a caller of `clip` cites. All of it is about the definitions of specs/, so callers need no word of how a cut is made. With r the answer of a call:
+--     coord-facts coord-is good-facts good-is       the tests of a point and of a box, as facts and back
+--     box-refused coord-refused not-refused         what a call says, by its three cases
+--     one-answer                                    what an answer says leaves one answer
+--     answer-is never-refused                       a good box and ends within the limit: r is `Done (clip b s)`, and no refusal
+--     answered was-good were-coords demand-clip     where r is `Done c`: c is the clip's, box and ends were good, and demand 3 holds of c
+--     clip-coord0 clip-coord1 clip-within           the clipped segment's ends lie within the limit
+use mathlib.Core.Path.{_≡_, refl, sym, _∙_, ap, subst}
+use mathlib.Core.Bool.{Bool, true, false, cond, _&&_}
+use mathlib.Core.List.{List, [], _∷_}
+use mathlib.Core.Logic.{⊎-elim}
+use native.Mathlib.Omega.{arith}
+use Prim.Native.Nat.{ℕ}
+use lib.IntN.{ℤ, negℤ}
+use lib.Signed.{_≤ℤ_, ltZ, leZ}
+use Rattle.whole.proofs.Laws.{≤-trans}
+use Rattle.whole.proofs.Machine.{lt-yes, le-yes}
+use Rattle.refusal.specs.declared.Refusal.{Refusal}
+use Rattle.refusal.specs.declared.Refusal.the-variants.{Box, Coord as CoordRefusal}
+use Rattle.refusal.specs.Said.{Said, accepted, refused}
+use Rattle.refusal.proofs.Laws.{one-refusal, never-both}
+use Rattle.clip.specs.declared.Pt.{Pt}
+use Rattle.clip.specs.declared.Seg.{Seg}
+use Rattle.clip.specs.declared.BBox.{BBox}
+use Rattle.clip.specs.declared.ClippedSeg.{ClippedSeg}
+use Rattle.clip.specs.declared.Clipped.{Clipped}
+use Rattle.clip.specs.declared.Clipped.the-variants.{Done, Refused}
+use Rattle.clip.specs.Domain.{limit, within, isCoord, isGood}
+use Rattle.clip.specs.Facts.{Within, Coord, Good}
+use Rattle.clip.specs.Cutting.{clip}
+use Rattle.clip.specs.Answer.{saidClipped, areCoords, clipped}
+use Rattle.clip.specs.Demand3.{Demand3, Inside, Placed, Moved}
+use Rattle.clip.proofs.Tests.{le-is, lt-is, both, both-is}
+use Rattle.clip.proofs.Ends.{Proper}
+use Rattle.clip.proofs.Demands.{demand-3}
+
+-- ---- the tests as facts, and back
+within-facts : {z : ℤ} → within z ≡ true → Within z
+within-facts {z} e = let h = both (leZ (negℤ limit) z) (leZ z limit) e in record { least = le-yes (h .0); most = le-yes (h .1) }
+
+within-is : {z : ℤ} → Within z → within z ≡ true
+within-is h = both-is (le-is (h .least)) (le-is (h .most))
+
+pub coord-facts : {p : Pt} → isCoord p ≡ true → Coord p
+unfolding isCoord
+coord-facts {p} e = let h = both (within (p .x)) (within (p .y)) e in record { at-x = within-facts (h .0); at-y = within-facts (h .1) }
+
+pub coord-is : {p : Pt} → Coord p → isCoord p ≡ true
+unfolding isCoord
+coord-is h = both-is (within-is (h .at-x)) (within-is (h .at-y))
+
+pub good-facts : {b : BBox} → isGood b ≡ true → Good b
+unfolding isGood
+good-facts {b} e =
+    let wide = ltZ (b .«x_min») (b .«x_max») in
+    let tall = ltZ (b .«y_min») (b .«y_max») in
+    let h = both (wide && tall && (within (b .«x_min») && within (b .«x_max»))) (within (b .«y_min») && within (b .«y_max»)) e in
+    let k = both (wide && tall) (within (b .«x_min») && within (b .«x_max»)) (h .0) in
+    let o = both wide tall (k .0) in
+    let u = both (within (b .«x_min»)) (within (b .«x_max»)) (k .1) in
+    let v = both (within (b .«y_min»)) (within (b .«y_max»)) (h .1) in
+    record { wide = lt-yes (o .0); tall = lt-yes (o .1); left = within-facts (u .0); right = within-facts (u .1); bottom = within-facts (v .0); top = within-facts (v .1) }
+
+pub good-is : {b : BBox} → Good b → isGood b ≡ true
+unfolding isGood
+good-is h = both-is (both-is (both-is (lt-is (h .wide)) (lt-is (h .tall))) (both-is (within-is (h .left)) (within-is (h .right)))) (both-is (within-is (h .bottom)) (within-is (h .top)))
+
+pub good-proper : {b : BBox} → Good b → Proper b
+good-proper h = record { wide = h .wide; tall = h .tall }
+
+-- ---- the answer by its cases
+-- what an answer says leaves one answer
+pub one-answer : (r r′ : Clipped) → saidClipped r ≡ saidClipped r′ → r ≡ r′
+one-answer (Done c) (Done d) e = let f : c ∷ [] ≡ d ∷ [] = ap (λ (s : Said (List ClippedSeg)). s .values) e in cc
+one-answer (Done c) (Refused r) e = absurd (never-both r e)
+one-answer (Refused r) (Done c) e = absurd (never-both r (sym e))
+one-answer (Refused r) (Refused q) e = ap Refused (one-refusal r q e)
+
+module _ (s : Seg) (b : BBox) where
+  pub box-refused : isGood b ≡ false → clipped s b ≡ refused Box []
+  unfolding clipped
+  box-refused g = rw g refl
+
+  pub coord-refused : isGood b ≡ true → areCoords s ≡ false → clipped s b ≡ refused CoordRefusal []
+  unfolding clipped
+  coord-refused g e = rw (g, e) refl
+
+  pub not-refused : isGood b ≡ true → areCoords s ≡ true → clipped s b ≡ accepted (clip b s ∷ [])
+  unfolding clipped
+  not-refused g e = rw (g, e) refl
+
+  -- an answer that is no refusal is the clip's, of a good box and ends within the limit
+  by-cases : (g t : Bool) (c : ClippedSeg) → accepted (c ∷ []) ≡ cond g (cond t (accepted (clip b s ∷ [])) (refused CoordRefusal [])) (refused Box []) → (g ≡ true) × ((t ≡ true) × (c ≡ clip b s))
+  by-cases true true c e = let f : c ∷ [] ≡ clip b s ∷ [] = ap (λ (s : Said (List ClippedSeg)). s .values) e in (refl, (refl, cc))
+  by-cases true false c e = absurd (never-both CoordRefusal e)
+  by-cases false t c e = absurd (never-both Box e)
+
+  module _ (r : Clipped) (a : saidClipped r ≡ clipped s b) where
+    pub answer-is : isGood b ≡ true → areCoords s ≡ true → r ≡ Done (clip b s)
+    answer-is g t = one-answer r (Done (clip b s)) (a ∙ not-refused g t)
+
+    pub never-refused : (e : Refusal) → r ≡ Refused e → isGood b ≡ true → areCoords s ≡ true → ⊥
+    never-refused e f g t = let k = answer-is g t in let z : _≡_ {A = ℕ} 0 1 = cc in omega arith
+
+    module _ (c : ClippedSeg) (d : r ≡ Done c) where
+      cases : (isGood b ≡ true) × ((areCoords s ≡ true) × (c ≡ clip b s))
+      unfolding clipped
+      cases = by-cases (isGood b) (areCoords s) c (sym (ap saidClipped d) ∙ a)
+
+      pub was-good : isGood b ≡ true
+      was-good = cases .0
+
+      pub were-coords : areCoords s ≡ true
+      were-coords = cases .1 .0
+
+      pub answered : c ≡ clip b s
+      answered = cases .1 .1
+
+      pub demand-clip : Demand3 b s (c .seg)
+      demand-clip = subst (λ (x : ClippedSeg). Demand3 b s (x .seg)) (sym answered) (demand-3 b (good-proper (good-facts was-good)) s)
+
+-- ---- the clipped segment's ends lie within the limit
+between : {l u z : ℤ} → Within l → Within u → l ≤ℤ z → z ≤ℤ u → Within z
+between hl hu h k = record { least = ≤-trans (hl .least) h; most = ≤-trans k (hu .most) }
+
+pub inside-coord : {b : BBox} {p : Pt} → Good b → Inside b p → Coord p
+inside-coord g i = record { at-x = between (g .left) (g .right) (i .left) (i .right); at-y = between (g .bottom) (g .top) (i .bottom) (i .top) }
+
+placed-coord : {b : BBox} {s : Seg} (p r : Pt) → Good b → Coord p → Placed b s p r → Coord r
+placed-coord {b} {s} p r g h x = ⊎-elim (λ (e : r ≡ p). subst Coord (sym e) h) (λ (m : Moved b s r). inside-coord g (m .edge .inside)) x
+
+module _ {b : BBox} (s : Seg) (g : Good b) where
+  pub clip-coord0 : Coord (s .p0) → Coord (clip b s .seg .p0)
+  clip-coord0 h = placed-coord (s .p0) _ g h (demand-3 b (good-proper g) s .placed0)
+
+  pub clip-coord1 : Coord (s .p1) → Coord (clip b s .seg .p1)
+  clip-coord1 h = placed-coord (s .p1) _ g h (demand-3 b (good-proper g) s .placed1)
+
+pub clip-within : (b : BBox) (s : Seg) → isGood b ≡ true → areCoords s ≡ true → areCoords (clip b s .seg) ≡ true
+clip-within b s g e =
+    let k = both (isCoord (s .p0)) (isCoord (s .p1)) e in
+    both-is (coord-is (clip-coord0 s (good-facts g) (coord-facts (k .0)))) (coord-is (clip-coord1 s (good-facts g) (coord-facts (k .1))))

@@ -1,0 +1,15 @@
+pub mod Callers
+pub mod Demands
+pub mod Overlaps
+pub mod Readings
+pub mod Roundings
+pub mod Tight
+pub mod Tests
+pub mod Ends
+pub mod Verdicts
+pub mod Slopes
+pub mod Fates
+pub mod Tracks
+pub mod Held
+pub mod Heights
+pub mod Returns

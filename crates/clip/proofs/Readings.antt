@@ -1,0 +1,89 @@
+-- Document 01's reading of "a crossing replaces the end strictly outside that edge, if one is": the crossing is found once, p0 is asked before p1. It gives the same segment as the reading
+-- by which each end asks for itself (proofs/Ends), since a segment with both ends strictly outside has no crossing, and the crossing of the reversed segment is the same.
+use mathlib.Core.Path.{_≡_, refl, _∙_, ap}
+use mathlib.Core.Bool.{Bool, true, false, cond}
+use lib.IntN.{ℤ, _-ℤ_}
+use lib.Signed.{_<ℤ_, ltZ}
+use native.Mathlib.Omega.{arith}
+use Rattle.whole.proofs.Parts.{zarith, -parts, neg-p, neg-n}
+use Rattle.whole.proofs.Machine.{lt-yes}
+use Rattle.clip.specs.declared.Pt.{Pt}
+use Rattle.clip.specs.declared.Seg.{Seg}
+use Rattle.clip.specs.declared.BBox.{BBox}
+use Rattle.clip.specs.declared.Crossing.{Crossing}
+use Rattle.clip.specs.declared.Crossing.the-variants.{Missing, At}
+use Rattle.clip.specs.Cutting.{crossInOrder, crossAtX, crossAtY, swap, swapped, replace, cutXMin, cutXMax, cutYMin, cutYMax, cuts}
+use Rattle.clip.proofs.Ends.{Side, low, high, edge, beyond, put, move, join, endsX, endsY, ends, swapBox, swapSeg}
+use Rattle.clip.proofs.Verdicts.{verdict}
+use Rattle.clip.proofs.Fates.{Out, none-beyond}
+
+-- ---- the ends exchanged
+either : {A : Type 0} (s t : Bool) (x y z : A) → (s ≡ true → t ≡ true → ⊥) → cond s x (cond t y z) ≡ cond t y (cond s x z)
+either true true x y z h = absurd (h refl refl)
+either true false x y z h = refl
+either false true x y z h = refl
+either false false x y z h = refl
+
+not-each : (a b : ℤ) → a <ℤ b → b <ℤ a → ⊥
+not-each a b h k = omega zarith
+
+pub crossing-sym : (p q : Pt) (x a b : ℤ) → crossAtX p q x a b ≡ crossAtX q p x a b
+unfolding crossAtX
+crossing-sym p q x a b =
+    either (ltZ (p .x) (q .x)) (ltZ (q .x) (p .x)) (crossInOrder p q x a b) (crossInOrder q p x a b) Missing (λ u v. not-each (p .x) (q .x) (lt-yes u) (lt-yes v))
+
+-- ---- one cut
+one-end : (u v : Bool) (t : Seg) (w : Crossing) → (u ≡ true → v ≡ true → w ≡ Missing)
+    → replace u v t w ≡ join (cond u (put (t .p0) w) (t .p0)) (cond v (put (t .p1) w) (t .p1))
+one-end true true t Missing h = refl
+one-end true true t (At p) h = absurd (let e = h refl refl in let z : _≡_ {A = Prim.Native.Nat.ℕ} 0 1 = cc in omega arith)
+one-end true false t Missing h = refl
+one-end true false t (At p) h = refl
+one-end false true t Missing h = refl
+one-end false true t (At p) h = refl
+one-end false false t Missing h = refl
+one-end false false t (At p) h = refl
+
+out : (s : Side) (b : BBox) (p : Pt) → beyond s (edge s b) (p .x) ≡ true → Out s b p
+out low b p e = let l : p .x <ℤ b .«x_min» = lt-yes e in omega (zarith, -parts (b .«x_min») (p .x))
+out high b p e = let l : b .«x_max» <ℤ p .x = lt-yes e in omega (zarith, -parts (b .«x_max») (p .x), neg-p (b .«x_max» -ℤ p .x), neg-n (b .«x_max» -ℤ p .x))
+
+pub cut-x : (s : Side) (b : BBox) (t : Seg)
+    → replace (beyond s (edge s b) (t .p0 .x)) (beyond s (edge s b) (t .p1 .x)) t (crossAtX (t .p0) (t .p1) (edge s b) (b .«y_min») (b .«y_max»)) ≡ endsX s b t
+unfolding move
+cut-x s b t =
+    one-end _ _ t (crossAtX (t .p0) (t .p1) (edge s b) (b .«y_min») (b .«y_max»)) (λ u v. none-beyond s b (out s b (t .p0) u) (out s b (t .p1) v) (verdict _ _ _ (t .p0) (t .p1))) ∙
+    ap (λ (w : Crossing). join (move s b (t .p0) (t .p1)) (cond (beyond s (edge s b) (t .p1 .x)) (put (t .p1) w) (t .p1))) (crossing-sym (t .p0) (t .p1) (edge s b) (b .«y_min») (b .«y_max»))
+
+-- ---- at y
+swap-replace : (u v : Bool) (t : Seg) (w : Crossing) → replace u v t (swapped w) ≡ swapSeg (replace u v (swapSeg t) w)
+swap-replace u v t Missing = refl
+swap-replace true v t (At p) = refl
+swap-replace false true t (At p) = refl
+swap-replace false false t (At p) = refl
+
+pub cut-y : (s : Side) (b : BBox) (t : Seg)
+    → replace (beyond s (edge s (swapBox b)) (t .p0 .y)) (beyond s (edge s (swapBox b)) (t .p1 .y)) t (crossAtY (t .p0) (t .p1) (edge s (swapBox b)) (b .«x_min») (b .«x_max»)) ≡ endsY s b t
+cut-y s b t =
+    let c = edge s (swapBox b) in
+    swap-replace (beyond s c (t .p0 .y)) (beyond s c (t .p1 .y)) t (crossAtX (swap (t .p0)) (swap (t .p1)) c (b .«x_min») (b .«x_max»)) ∙ ap swapSeg (cut-x s (swapBox b) (swapSeg t))
+
+module _ (b : BBox) (t : Seg) where
+  pub at-x-min : cutXMin b t ≡ endsX low b t
+  at-x-min = cut-x low b t
+
+  pub at-x-max : cutXMax b t ≡ endsX high b t
+  at-x-max = cut-x high b t
+
+  pub at-y-min : cutYMin b t ≡ endsY low b t
+  at-y-min = cut-y low b t
+
+  pub at-y-max : cutYMax b t ≡ endsY high b t
+  at-y-max = cut-y high b t
+
+-- the four cuts in either reading
+pub cuts-are-ends : (b : BBox) (t : Seg) → cuts b t ≡ ends b t
+unfolding cuts
+cuts-are-ends b t =
+    ap (λ (s : Seg). cutYMax b (cutYMin b (cutXMax b s))) (at-x-min b t) ∙ ap (λ (s : Seg). cutYMax b (cutYMin b s)) (at-x-max b (endsX low b t)) ∙
+    ap (cutYMax b) (at-y-min b (endsX high b (endsX low b t))) ∙ at-y-max b (endsY low b (endsX high b (endsX low b t)))

@@ -1,0 +1,81 @@
+-- Document 01, "Cutting a segment", in its order: the crossing at x, the crossing at y, the four cuts; and `bounded_by` as document 01 takes it ("Modules, leaves first").
+-- "A crossing replaces the end strictly outside that edge, if one is" is read so: the crossing is found once, p0 is asked before p1. That each end may ask for itself, with the same result,
+-- is `cuts-are-ends` of proofs/Readings; that the overlap test changes no answer is `clip-cuts` of proofs/Overlaps.
+use mathlib.Core.Bool.{Bool, cond, _&&_}
+use lib.IntN.{ℤ, _+ℤ_, _-ℤ_, _*ℤ_}
+use lib.Signed.{ltZ, leZ}
+use Rattle.clip.specs.declared.Pt.{Pt}
+use Rattle.clip.specs.declared.Seg.{Seg}
+use Rattle.clip.specs.declared.BBox.{BBox}
+use Rattle.clip.specs.declared.Crossing.{Crossing}
+use Rattle.clip.specs.declared.Crossing.the-variants.{Missing, At}
+use Rattle.clip.specs.declared.ClippedSeg.{ClippedSeg}
+use Rattle.clip.specs.Rounding.{round}
+
+-- the smaller and the larger of two numbers
+abbrev pub least : ℤ → ℤ → ℤ
+least m n = cond (leZ m n) m n
+
+abbrev pub most : ℤ → ℤ → ℤ
+most m n = cond (leZ m n) n m
+
+-- the y at x of the line from (x1, y1) to (x2, y2), x1 < x2, rounded
+abbrev pub height : ℤ → ℤ → ℤ → ℤ → ℤ → ℤ
+height x1 y1 x2 y2 x = y1 +ℤ round ((y2 -ℤ y1) *ℤ (x -ℤ x1)) (x2 -ℤ x1)
+
+-- a y outside [a, b] is no crossing
+abbrev pub inRange : ℤ → ℤ → ℤ → ℤ → Crossing
+inRange x a b y = cond (leZ a y && leZ y b) (At (record { x = x; y = y })) Missing
+
+-- p left of q: x does not lie outside them, and the segment's y range does not miss [a, b]
+abbrev pub reaches : Pt → Pt → ℤ → ℤ → ℤ → Bool
+reaches p q x a b = leZ (p .x) x && leZ x (q .x) && (leZ a (most (p .y) (q .y)) && leZ (least (p .y) (q .y)) b)
+
+abbrev pub crossInOrder : Pt → Pt → ℤ → ℤ → ℤ → Crossing
+crossInOrder p q x a b = cond (reaches p q x a b) (inRange x a b (height (p .x) (p .y) (q .x) (q .y) x)) Missing
+
+-- at x, with the ends put in order of x; none if they share one x
+unfoldable pub crossAtX : Pt → Pt → ℤ → ℤ → ℤ → Crossing
+crossAtX p q x a b = cond (ltZ (p .x) (q .x)) (crossInOrder p q x a b) (cond (ltZ (q .x) (p .x)) (crossInOrder q p x a b) Missing)
+
+-- at y: x and y change roles
+abbrev pub swap : Pt → Pt
+swap p = record { x = p .y; y = p .x }
+
+abbrev pub swapped : Crossing → Crossing
+swapped Missing = Missing
+swapped (At p) = At (swap p)
+
+abbrev pub crossAtY : Pt → Pt → ℤ → ℤ → ℤ → Crossing
+crossAtY p q y a b = swapped (crossAtX (swap p) (swap q) y a b)
+
+-- a crossing replaces the end strictly outside that edge, if one is: out0 and out1 say whether p0 and p1 are
+abbrev pub replace : Bool → Bool → Seg → Crossing → Seg
+replace out0 out1 s Missing = s
+replace out0 out1 s (At p) = cond out0 (record { p0 = p; p1 = s .p1 }) (cond out1 (record { p0 = s .p0; p1 = p }) s)
+
+abbrev pub cutXMin : BBox → Seg → Seg
+cutXMin b s = replace (ltZ (s .p0 .x) (b .«x_min»)) (ltZ (s .p1 .x) (b .«x_min»)) s (crossAtX (s .p0) (s .p1) (b .«x_min») (b .«y_min») (b .«y_max»))
+
+abbrev pub cutXMax : BBox → Seg → Seg
+cutXMax b s = replace (ltZ (b .«x_max») (s .p0 .x)) (ltZ (b .«x_max») (s .p1 .x)) s (crossAtX (s .p0) (s .p1) (b .«x_max») (b .«y_min») (b .«y_max»))
+
+abbrev pub cutYMin : BBox → Seg → Seg
+cutYMin b s = replace (ltZ (s .p0 .y) (b .«y_min»)) (ltZ (s .p1 .y) (b .«y_min»)) s (crossAtY (s .p0) (s .p1) (b .«y_min») (b .«x_min») (b .«x_max»))
+
+abbrev pub cutYMax : BBox → Seg → Seg
+cutYMax b s = replace (ltZ (b .«y_max») (s .p0 .y)) (ltZ (b .«y_max») (s .p1 .y)) s (crossAtY (s .p0) (s .p1) (b .«y_max») (b .«x_min») (b .«x_max»))
+
+-- at x_min, x_max, y_min, y_max in this order, each on the segment as it then is
+unfoldable pub cuts : BBox → Seg → Seg
+cuts b s = cutYMax b (cutYMin b (cutXMax b (cutXMin b s)))
+
+-- whether the segment's bounding rectangle and the box overlap, edges counted (`bounded_by`)
+unfoldable pub overlap : BBox → Seg → Bool
+overlap b s =
+    leZ (b .«x_min») (most (s .p0 .x) (s .p1 .x)) && leZ (least (s .p0 .x) (s .p1 .x)) (b .«x_max») &&
+    (leZ (b .«y_min») (most (s .p0 .y) (s .p1 .y)) && leZ (least (s .p0 .y) (s .p1 .y)) (b .«y_max»))
+
+-- without overlap the segment as given
+unfoldable pub clip : BBox → Seg → ClippedSeg
+clip b s = record { seg = cond (overlap b s) (cuts b s) s }

@@ -1,0 +1,34 @@
+-- The tests of specs/Domain as facts, for proofs and for what the private functions ask of their callers. No public promise cites them.
+-- That a test and its fact agree: `coord-facts`, `coord-is`, `good-facts`, `good-is` of proofs/Callers.
+use lib.IntN.{ℤ, negℤ}
+use lib.Signed.{_≤ℤ_, _<ℤ_}
+use Rattle.clip.specs.declared.Pt.{Pt}
+use Rattle.clip.specs.declared.BBox.{BBox}
+use Rattle.clip.specs.Domain.{limit}
+
+-- z lies within the limit
+pub record Within (z : ℤ) : Type 0 where
+  pub least : negℤ limit ≤ℤ z
+  pub most : z ≤ℤ limit
+
+pub record Coord (p : Pt) : Type 0 where
+  pub at-x : Within (p .x)
+  pub at-y : Within (p .y)
+
+pub record Good (b : BBox) : Type 0 where
+  pub wide : b .«x_min» <ℤ b .«x_max»
+  pub tall : b .«y_min» <ℤ b .«y_max»
+  pub left : Within (b .«x_min»)
+  pub right : Within (b .«x_max»)
+  pub bottom : Within (b .«y_min»)
+  pub top : Within (b .«y_max»)
+
+-- what the rounded crossing at x of the line from (x1, y1) to (x2, y2) is asked of
+pub record Asked (x1 y1 x2 y2 x : ℤ) : Type 0 where
+  pub in-x1 : Within x1
+  pub in-y1 : Within y1
+  pub in-x2 : Within x2
+  pub in-y2 : Within y2
+  pub from : x1 ≤ℤ x
+  pub to : x ≤ℤ x2
+  pub apart : x1 <ℤ x2

@@ -1,0 +1,62 @@
+-- Document 01, "Sample jobs": the three P clips, at the box 0..10, and the values at the limit, each computed from the definition.
+use mathlib.Core.Path.{_≡_, refl}
+use mathlib.Core.List.{List, [], _∷_}
+use lib.IntN.{ℤ, pos, negsuc}
+use Rattle.refusal.specs.Said.{Said, accepted}
+use Rattle.clip.specs.declared.Seg.{Seg}
+use Rattle.clip.specs.declared.BBox.{BBox}
+use Rattle.clip.specs.declared.ClippedSeg.{ClippedSeg}
+use Rattle.clip.specs.Domain.{isCoord, isGood}
+use Rattle.clip.specs.Cutting.{crossAtX, cuts, overlap, clip}
+use Rattle.clip.specs.Answer.{clipped}
+
+abbrev pub from : ℤ → ℤ → ℤ → ℤ → Seg
+from x0 y0 x1 y1 = record { p0 = record { x = x0; y = y0 }; p1 = record { x = x1; y = y1 } }
+
+abbrev pub box : ℤ → ℤ → BBox
+box lo hi = record { «x_min» = lo; «x_max» = hi; «y_min» = lo; «y_max» = hi }
+
+abbrev pub ten : BBox
+ten = box (pos 0) (pos 10)
+
+abbrev pub done : Seg → Said (List ClippedSeg)
+done s = accepted (record { seg = s } ∷ [])
+
+-- (-10,0)-(990,51): cutting the original segment four times would give (10,1)
+pub long-cut : clipped (from (negsuc 9) (pos 0) (pos 990) (pos 51)) ten ≡ done (from (pos 0) (pos 1) (pos 10) (pos 2))
+unfolding clipped isGood isCoord clip overlap cuts crossAtX
+long-cut = refl
+
+-- (-1,0)-(1,-1), which misses the box
+pub corner-miss : clipped (from (negsuc 0) (pos 0) (pos 1) (negsuc 0)) ten ≡ done (from (pos 0) (pos 0) (pos 0) (pos 0))
+unfolding clipped isGood isCoord clip overlap cuts crossAtX
+corner-miss = refl
+
+-- (0,-1)-(-1,1), a miss
+pub other-miss : clipped (from (pos 0) (negsuc 0) (negsuc 0) (pos 1)) ten ≡ done (from (pos 0) (pos 0) (negsuc 0) (pos 1))
+unfolding clipped isGood isCoord clip overlap cuts crossAtX
+other-miss = refl
+
+-- an edge and a coordinate at the limit are accepted, one further they are refused as 3 and as 5; a box 0..0 is refused as 3
+abbrev pub inTen : Seg
+inTen = from (pos 1) (pos 1) (pos 2) (pos 2)
+
+pub edge-at-limit : clipped inTen (box (negsuc 1073741822) (pos 1073741823)) ≡ done inTen
+unfolding clipped isGood isCoord clip overlap cuts crossAtX
+edge-at-limit = refl
+
+pub edge-beyond : clipped inTen (box (pos 0) (pos 1073741824)) .number ≡ 3
+unfolding clipped isGood
+edge-beyond = refl
+
+pub coord-at-limit : clipped (from (pos 1) (pos 1) (pos 1073741823) (pos 1)) ten ≡ done (from (pos 1) (pos 1) (pos 10) (pos 1))
+unfolding clipped isGood isCoord clip overlap cuts crossAtX
+coord-at-limit = refl
+
+pub coord-beyond : clipped (from (pos 1) (pos 1) (pos 1073741824) (pos 1)) ten .number ≡ 5
+unfolding clipped isGood isCoord
+coord-beyond = refl
+
+pub flat-box : clipped inTen (box (pos 0) (pos 0)) .number ≡ 3
+unfolding clipped isGood
+flat-box = refl
