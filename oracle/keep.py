@@ -12,6 +12,7 @@ import sys
 from pathlib import Path
 
 import cases
+from reading import vertices
 
 DRIVER = Path(__file__).resolve().parent / "target/release/driver"
 BINARY_LIMIT = 65_536  # bytes, so that a program with a bounded buffer reads each file
@@ -101,11 +102,23 @@ def keep(folder, kind):
     return f"{kind}: {len(pairs)} cases, {len(pairs) - len(inside)} of them outside the comparison"
 
 
+def keep_readings(folder):
+    """Every kept list of words with its vertices, by an independent reading."""
+    lists = sorted({answer for answer in ask("jobs", cases.lines("jobs")) if answer.startswith("words")})
+    pairs = [(words, [n for vertex in vertices(words) for n in vertex])
+             for words in ([int(n) for n in answer.split()[2:]] for answer in lists)]
+    (folder / "readings.txt").write_text("".join(
+        f"{' '.join(map(str, words))}\t{' '.join(map(str, numbers))}\n" for words, numbers in pairs))
+    write_binary(folder, "readings", [counted(counted(words) + counted(numbers)) for words, numbers in pairs])
+    return f"readings: {len(pairs)} lists of words"
+
+
 def main(arguments):
     if len(arguments) != 1:
         sys.exit("usage: keep.py FOLDER")
     for kind in RECORDS:
         print(keep(Path(arguments[0]), kind))
+    print(keep_readings(Path(arguments[0])))
 
 
 if __name__ == "__main__":

@@ -47,7 +47,7 @@ read-back Name = refl
 pub same-refusal : (r r′ : Refusal) → numberOf r ≡ numberOf r′ → placeOf r ≡ placeOf r′ → r ≡ r′
 same-refusal r r′ e f = sym (read-back r) ∙ (λ i. refusalOf (e i) (f i)) ∙ read-back r′
 
-numbered : (r : Refusal) → 1 ≤ numberOf r
+pub numbered : (r : Refusal) → 1 ≤ numberOf r
 numbered Job = omega arith
 numbered Kind = omega arith
 numbered Box = omega arith
