@@ -1,6 +1,8 @@
 // For the programs that replay stored answers of the Rust: a file of answers as numbers, and the line that says how many agree.
 ghost use mathlib.Core.Path.{_≡_};
 ghost use lib.Dec.{eqb};
+ghost use lib.ListN.{length};
+ghost use Rattle.replay.specs.Records.{Past, countFrom};
 ghost use Rattle.io.specs.Counts.{Counts};
 use numbers::Numbers;
 
@@ -20,6 +22,34 @@ pub fn load(path: &[u8], out: &mut [u32]) -> usize
         Numbers::Read(k) => k,
         Numbers::Refused(_) => 0,
     }
+}
+
+// The place after the record that begins at `at`.
+pub fn past(answers: &[u32], at: usize) -> usize
+    ensures { λ r. ⌜ Past (now (answers .entry)) at r ⌝ }
+{
+    let end = answers.len();
+    if end <= at {
+        return end;
+    }
+    let follow = answers[at] as usize;
+    if end - (at + 1) < follow {
+        return end;
+    }
+    at + 1 + follow
+}
+
+// How many records there are.
+pub fn count(answers: &[u32]) -> usize
+    ensures { λ r. ⌜ r ≡ countFrom (length (now (answers .entry))) (now (answers .entry)) 0 ⌝ }
+{
+    let mut n = 0;
+    let mut at = 0;
+    while at < answers.len() {
+        at = past(answers, at);
+        n += 1;
+    }
+    n
 }
 
 // Prints `NAME: K of N agree`, and answers whether all do. No contract can say what is printed.

@@ -1,0 +1,11 @@
+pub mod Traces
+pub mod Readings
+mod Examples
+mod Heads
+mod Steps
+mod Turns
+mod Structure
+mod Sizes
+mod Stores
+mod Walks
+mod Decodes

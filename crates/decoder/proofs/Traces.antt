@@ -1,0 +1,47 @@
+-- Laws of traces: vertices after vertices, going on from the cursor, and three numbers a vertex.
+use Prim.Native.Nat.{ℕ, zero, suc, _+_, _*_}
+use mathlib.Core.Path.{_≡_, refl, sym, _∙_, ap}
+use mathlib.Core.Bool.{Bool, true, false, cond}
+use mathlib.Core.List.{List, [], _∷_, _++_, append-assoc}
+use native.Mathlib.Omega.{arith}
+use lib.ListN.{length, drop}
+use lib.Seq.{drop-nil}
+use Rattle.refusal.specs.declared.Refusal.{Refusal}
+use Rattle.decoder.specs.Vertices.{Cursor, Vertex, Trace, traced, faulty, onto, andThen, numbers}
+
+pub onto-nil : (t : Trace) → onto [] t ≡ t
+onto-nil (traced vs c) = refl
+onto-nil (faulty r) = refl
+
+pub onto-onto : (vs us : List Vertex) (t : Trace) → onto vs (onto us t) ≡ onto (vs ++ us) t
+onto-onto vs us (traced ts c) = ap (λ (l : List Vertex). traced l c) (sym (append-assoc vs us ts))
+onto-onto vs us (faulty r) = refl
+
+pub then-onto : (vs : List Vertex) (t : Trace) (go : Cursor → Trace) → andThen (onto vs t) go ≡ onto vs (andThen t go)
+then-onto vs (traced us c) go = sym (onto-onto vs us (go c))
+then-onto vs (faulty r) go = refl
+
+pub then-same : (t : Trace) (f g : Cursor → Trace) → ((c : Cursor) → f c ≡ g c) → andThen t f ≡ andThen t g
+then-same (traced vs c) f g h = ap (onto vs) (h c)
+then-same (faulty r) f g h = refl
+
+-- the same through a test whose other answer is a fault
+pub then-test : (b : Bool) (vs : List Vertex) (r : Refusal) (t u : Trace) (go : Cursor → Trace) → u ≡ andThen t go →
+    cond b (onto vs u) (faulty r) ≡ andThen (cond b (onto vs t) (faulty r)) go
+then-test true vs r t u go e = ap (onto vs) e ∙ sym (then-onto vs t go)
+then-test false vs r t u go e = refl
+
+-- ---- three numbers a vertex
+pub numbers-length : (vs : List Vertex) → length (numbers vs) ≡ 3 * length vs
+numbers-length [] = refl
+numbers-length (v ∷ vs) = omega (arith, numbers-length vs)
+
+pub numbers-append : (vs us : List Vertex) → numbers (vs ++ us) ≡ numbers vs ++ numbers us
+numbers-append [] us = refl
+numbers-append (v ∷ vs) us = rw (numbers-append vs us)
+
+-- the numbers of the vertices from the i-th on
+pub numbers-drop : (i : ℕ) (vs : List Vertex) → drop (3 * i) (numbers vs) ≡ numbers (drop i vs)
+numbers-drop zero vs = refl
+numbers-drop (suc i) [] = drop-nil (3 * suc i)
+numbers-drop (suc i) (v ∷ vs) = let e : 3 * suc i ≡ suc (suc (suc (3 * i))) = omega arith in rw e (numbers-drop i vs)

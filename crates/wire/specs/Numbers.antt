@@ -1,0 +1,61 @@
+-- What stands in 32 and 64 bits (PB, "Signed Integers", "Non-varint Numbers"): bytes least significant first, halves put together, two's complement, zigzag.
+use Prim.Native.Nat.{ℕ, zero, suc, _+_, _*_, _/_, _%_, _<_}
+use mathlib.Core.Path.{_≡_, refl}
+use mathlib.Core.Bool.{cond}
+use mathlib.Core.List.{List, [], _∷_}
+use lib.Dec.{ltb}
+use lib.IntN.{ℤ, pos, _-ℤ_}
+use Rattle.words.specs.Params.{param}
+
+-- so many bytes of a number, the least significant first
+abbrev pub little : ℕ → ℕ → List ℕ
+little zero n = []
+little (suc more) n = n % 256 ∷ little more (n / 256)
+
+unfoldable pub fixed32 : ℕ → List ℕ
+fixed32 n = little 4 n
+
+unfoldable pub fixed64 : ℕ → List ℕ
+fixed64 n = little 8 n
+
+-- 64 bits of their halves
+abbrev pub wide : ℕ → ℕ → ℕ
+wide low high = low + 4294967296 * high
+
+-- the number whose two's complement the 64 bits are
+abbrev pub signed : ℕ → ℤ
+signed bits = cond (ltb bits 9223372036854775808) (pos bits) (pos bits -ℤ pos 18446744073709551616)
+
+-- a sint: MVT's parameter rule at 64 bits. An int goes out as its 64 bits, so that one below zero takes ten bytes
+unfoldable pub zigzag : ℕ → ℕ
+zigzag bits = param (signed bits)
+
+-- a word of 32 bits, held in 64
+pub record Word (word n : ℕ) : Type 0 where
+  pub same : n ≡ word
+  pub small : n < 4294967296
+
+-- ---- the float 1.0 by its bits; PB's table of zigzag: 0, -1, 1, -2 are 0, 1, 2, 3, and the least number is the largest
+pub one-as-float : fixed32 1065353216 ≡ 0 ∷ 0 ∷ 128 ∷ 63 ∷ []
+unfolding fixed32
+one-as-float = refl
+
+pub sint-nought : zigzag 0 ≡ 0
+unfolding zigzag param
+sint-nought = refl
+
+pub sint-minus-one : zigzag 18446744073709551615 ≡ 1
+unfolding zigzag param
+sint-minus-one = refl
+
+pub sint-one : zigzag 1 ≡ 2
+unfolding zigzag param
+sint-one = refl
+
+pub sint-minus-two : zigzag 18446744073709551614 ≡ 3
+unfolding zigzag param
+sint-minus-two = refl
+
+pub sint-least : zigzag 9223372036854775808 ≡ 18446744073709551615
+unfolding zigzag param
+sint-least = refl
