@@ -1,0 +1,12 @@
+pub mod Points
+pub mod Commands
+pub mod Stores
+pub mod States
+pub mod Pushing
+pub mod Boundaries
+pub mod Steps
+pub mod Calls
+pub mod Accepted
+pub mod Reached
+pub mod Costs
+pub mod Said

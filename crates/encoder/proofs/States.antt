@@ -1,0 +1,79 @@
+-- STATE as facts, and what they give the calls; tests joined by `&&` and tests that a call answered.
+use mathlib.Core.Path.{_≡_, refl}
+use mathlib.Core.Bool.{Bool, true, false, cond, not, _&&_, _||_}
+use Prim.Native.Nat.{ℕ, _+_, _/_, _≤_, _<_}
+use native.Mathlib.Omega.{arith}
+use borrow.Author.Tests.{leb-true, ltb-true, eqb-true, leb-false, not-true, not-false}
+use lib.Dec.{leb, ltb, eqb}
+use Rattle.promise.proofs.Cases.{told-yes, told-no}
+use Rattle.clip.specs.Domain.{isGood}
+use Rattle.words.specs.Geometries.{isKind, maxWords, room}
+use Rattle.encoder.specs.declared.GeomEncoder.{GeomEncoder}
+use Rattle.encoder.specs.States.{inLimit, valid}
+use Rattle.encoder.specs.Planning.{Ready}
+
+pub both : (s t : Bool) → (s && t) ≡ true → (s ≡ true) × (t ≡ true)
+both true t e = (refl, e)
+both false t e = absurd (let z : _≡_ {A = ℕ} 0 1 = cc in omega arith)
+
+-- what `if !f(..)` tells of a test b that f answers
+pub yes-of : (t b : Bool) → t ≡ b → not t ≡ false → b ≡ true
+yes-of t b e h = told-yes t b e (not-false t h)
+
+pub no-of : (t b : Bool) → t ≡ b → not t ≡ true → b ≡ false
+no-of t b e h = told-no t b e (not-true t h)
+
+-- ---- room
+module _ (n : ℕ) where
+  room-by : (t : Bool) → leb n maxWords ≡ t → (cond t n maxWords ≤ n) × (cond t n maxWords ≤ maxWords)
+  room-by true e = (omega arith, leb-true n maxWords e)
+  room-by false e = let h = leb-false n maxWords e in (omega arith, omega arith)
+
+  pub room-length : room n ≤ n
+  room-length = room-by (leb n maxWords) refl .0
+
+  pub room-cap : room n ≤ maxWords
+  room-cap = room-by (leb n maxWords) refl .1
+
+-- ---- the rules of STATE
+pub record Valid (s : GeomEncoder) (n : ℕ) : Type 0 where
+  pub fits : s .used ≤ room n
+  pub counted : s .count ≤ s .used / 2 + 1
+  pub placed : (s .count ≡ 0 → ⊥) → s .«cmd_offset» < s .used
+  pub kind : isKind (s .kind) ≡ true
+  pub good : isGood (s .bbox) ≡ true
+  pub end : inLimit (s .«xy_end») ≡ true
+  pub at0 : inLimit (s .pt0) ≡ true
+  pub at1 : inLimit (s .pt1) ≡ true
+
+either : (a b : Bool) → (a || b) ≡ true → (a ≡ true → ⊥) → b ≡ true
+either true b e n = absurd (n refl)
+either false b e n = e
+
+pub valid-facts : (s : GeomEncoder) (n : ℕ) → valid s n ≡ true → Valid s n
+unfolding valid
+valid-facts s n e =
+    let fits = leb (s .used) (room n) in
+    let counts = leb (s .count) (s .used / 2 + 1) in
+    let places = eqb (s .count) 0 || ltb (s .«cmd_offset») (s .used) in
+    let (a, points) = both (fits && counts && places && isKind (s .kind) && isGood (s .bbox)) (inLimit (s .«xy_end») && inLimit (s .pt0) && inLimit (s .pt1)) e in
+    let (b, good) = both (fits && counts && places && isKind (s .kind)) (isGood (s .bbox)) a in
+    let (c, kind) = both (fits && counts && places) (isKind (s .kind)) b in
+    let (d, place) = both (fits && counts) places c in
+    let (f, count) = both fits counts d in
+    let (g, at1) = both (inLimit (s .«xy_end») && inLimit (s .pt0)) (inLimit (s .pt1)) points in
+    let (end, at0) = both (inLimit (s .«xy_end»)) (inLimit (s .pt0)) g in
+    record {
+      fits = leb-true (s .used) (room n) f;
+      counted = leb-true (s .count) (s .used / 2 + 1) count;
+      placed = λ z. ltb-true (s .«cmd_offset») (s .used) (either (eqb (s .count) 0) (ltb (s .«cmd_offset») (s .used)) place (λ t. z (eqb-true (s .count) 0 t)));
+      kind = kind;
+      good = good;
+      end = end;
+      at0 = at0;
+      at1 = at1;
+    }
+
+-- what planning asks
+pub valid-ready : {s : GeomEncoder} {n : ℕ} → Valid s n → Ready maxWords s
+valid-ready {s} {n} v = record { few = omega (arith, v .fits, room-cap n); counted = v .counted; good = v .good; at0 = v .at0; at1 = v .at1 }

@@ -1,0 +1,21 @@
+-- Each end that the clip moved.
+use Rattle.encoder.proofs.Boundaries.{both-ends}
+use borrow.Author.Needs.{needs}
+use Rattle.encoder.proofs.moved_ends.Statement.{statement}
+use Rattle.encoder.proofs.moved_ends.Tie as tie
+
+clip-raw-requires : tie.Need-clip-raw-requires
+clip-raw-requires c κs = search needs
+
+if-moved-requires : tie.Need-if-moved-requires
+if-moved-requires c κs = search needs
+
+if-moved-requires-2 : tie.Need-if-moved-requires-2
+if-moved-requires-2 c κs = search needs
+
+returns : tie.Need-returns
+returns c = search (needs, both-ends)
+
+pub moved-ends-spec : {M : Type 1} → statement M
+moved-ends-spec =
+    tie.close (tie.spec clip-raw-requires if-moved-requires if-moved-requires-2 returns)

@@ -1,0 +1,56 @@
+-- What each way through `encode_file` answers, over plain lists.
+use mathlib.Core.Path.{_≡_, refl, sym, _∙_, ap}
+use mathlib.Core.List.{List, [], map}
+use Prim.Native.Nat.{ℕ, _+_, _-_, _<_, _≤_}
+use native.Mathlib.Omega.{arith}
+use borrow.Author.Tests.{le-leb, lt-leb}
+use lib.IntN.{ℤ}
+use lib.ListN.{length, take, drop, getD, length-map, length-drop}
+use lib.Seq.{take-all}
+use Rattle.promise.specs.Answers.{Gives}
+use Rattle.promise.specs.Laid.{lay}
+use Rattle.promise.proofs.Laying.{take-lay}
+use Rattle.refusal.specs.declared.Refusal.the-variants.{Job, Room}
+use Rattle.refusal.specs.Said.{Said, refused}
+use Rattle.clip.specs.declared.BBox.{BBox}
+use Rattle.numbers.specs.Numbers.{signedOf}
+use Rattle.whole_job.specs.Jobs.{encodedJob}
+use Rattle.job_file.specs.JobFile.{Memory, partsOf, boxOf, jobFile}
+
+module _ (file : List ℕ) (points : List ℤ) (words : List ℕ) (a : length file ≤ 16384) (b : 6 ≤ length file) (parts : ℕ) (e : parts ≡ getD file 5 0) where
+  abbrev m : Memory
+  m = record { points = points; words = words }
+
+  pub cut : length file - 6 < parts → Gives (jobFile file m) (refused Job 0) m
+  unfolding jobFile
+  cut h = rw (le-leb (length file) 16384 a, le-leb 6 (length file) b, ← e, lt-leb parts (length file - 6) h) (record { answer = refl; memory = refl })
+
+  module _ (h : parts ≤ length file - 6) where
+    pub no-room : length points < length file - (6 + parts) → Gives (jobFile file m) (refused Room 0) m
+    unfolding jobFile
+    no-room k =
+        rw (le-leb (length file) 16384 a, le-leb 6 (length file) b, ← e, le-leb parts (length file - 6) h, lt-leb (length file - (6 + parts)) (length points) k)
+        (record { answer = refl; memory = refl })
+
+    body-long : length (map signedOf (drop (6 + parts) file)) ≡ length file - (6 + parts)
+    body-long = length-map (drop (6 + parts) file) signedOf ∙ length-drop (6 + parts) file
+
+    -- the front of the points' list, once they are laid, is the points
+    pub laid-points : length file - (6 + parts) ≤ length points → (l : List ℤ) → l ≡ lay 0 (map signedOf (drop (6 + parts) file)) points
+        → take (length file - (6 + parts)) l ≡ map signedOf (drop (6 + parts) file)
+    laid-points k l g =
+        let z : length file - (6 + parts) ≡ 0 + length (map signedOf (drop (6 + parts) file)) = omega (arith, body-long) in
+        rw (z, g) (take-lay 0 (map signedOf (drop (6 + parts) file)) points (omega (arith, body-long)))
+
+    pub whole : length file - (6 + parts) ≤ length points → (l : List ℤ) → l ≡ lay 0 (map signedOf (take (length file - (6 + parts)) (drop (6 + parts) file))) points
+        → (bbox : BBox) → bbox ≡ boxOf file → (answer : Said ℕ) (ws : List ℕ)
+        → Gives (encodedJob (getD file 0 0) bbox (take (length file - (6 + parts)) l) (take (6 + parts - 6) (drop 6 file)) words) answer ws
+        → Gives (jobFile file m) answer (record { points = l; words = ws })
+    unfolding jobFile
+    whole k l g′ bbox f answer ws w =
+        let t : take (length file - (6 + parts)) (drop (6 + parts) file) ≡ drop (6 + parts) file = take-all (length file - (6 + parts)) (drop (6 + parts) file) (omega (arith, length-drop (6 + parts) file)) in
+        let g : l ≡ lay 0 (map signedOf (drop (6 + parts) file)) points = rw t at g′ in
+        let n : 6 + parts - 6 ≡ parts = omega arith in
+        let v = rw (laid-points k l g, f, n) at w in
+        rw (le-leb (length file) 16384 a, le-leb 6 (length file) b, ← e, le-leb parts (length file - 6) h, le-leb (length file - (6 + parts)) (length points) k)
+        (record { answer = v .answer; memory = λ i. record { points = g i; words = v .memory i } })

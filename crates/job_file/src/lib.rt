@@ -1,0 +1,75 @@
+// A job file's numbers to words (document 01, "Job file"): the contents table is taken apart, and the job encoded.
+ghost use mathlib.Core.Path.{_≡_};
+ghost use mathlib.Core.List.{map};
+ghost use Prim.Native.Nat.{_≤_};
+ghost use lib.ListN.{length};
+ghost use Rattle.promise.specs.Answers.{Gives};
+ghost use Rattle.promise.specs.Laid.{lay};
+ghost use Rattle.numbers.specs.Numbers.{signedOf};
+ghost use Rattle.whole_job.specs.Jobs.{saidEncoded};
+ghost use Rattle.job_file.specs.JobFile.{box, jobFile};
+use clip::BBox;
+use numbers::File;
+use numbers::signed;
+use refusal::Refusal;
+use whole_job::Encoded;
+
+// Lays numbers, read as signed ones, at the front of `out`.
+fn lay_signed(numbers: &[u32], out: &mut [i32])
+    requires { ⌜ length (now numbers) ≤ length (now out) ⌝ }
+    ensures { λ _. ⌜ now (out .exit) ≡ lay 0 (map signedOf (now (numbers .entry))) (now (out .entry)) ⌝ }
+{
+    let mut i = 0;
+    while i < numbers.len() {
+        out[i] = signed(numbers[i]);
+        i += 1;
+    }
+}
+
+// Four numbers as a box.
+fn box_of(left: u32, right: u32, bottom: u32, top: u32) -> BBox
+    ensures { λ r. ⌜ r ≡ box left right bottom top ⌝ }
+{
+    BBox {
+        x_min: signed(left),
+        x_max: signed(right),
+        y_min: signed(bottom),
+        y_max: signed(top),
+    }
+}
+
+fn wide(n: u32) -> usize
+    ensures { λ r. ⌜ r ≡ n ⌝ }
+{
+    n as usize
+}
+
+// The job that a file's numbers are: kind, box, part count, each part's end; then the points, which are laid in `points` as signed numbers.
+pub fn encode_file(file: &[u32], points: &mut [i32], words: &mut [u32]) -> Encoded
+    ensures { λ r. ⌜ Gives (jobFile (now (file .entry)) (record { points = now (points .entry); words = now (words .entry) })) (saidEncoded r) (record { points = now (points .exit); words = now (words .exit) }) ⌝ }
+{
+    let end = file.len();
+    if File::MAX_BYTES / 4 < end {
+        return Encoded::Refused(Refusal::Job, 0);
+    }
+    if end < 6 {
+        return Encoded::Refused(Refusal::Job, 0);
+    }
+    let parts = wide(file[5]);
+    if end - 6 < parts {
+        return Encoded::Refused(Refusal::Job, 0);
+    }
+    let body = 6 + parts;
+    let n = end - body;
+    if points.len() < n {
+        return Encoded::Refused(Refusal::Room, 0);
+    }
+    lay_signed(&file[body..], points);
+    whole_job::encode(
+        file[0],
+        box_of(file[1], file[2], file[3], file[4]),
+        &points[..n],
+        &file[6..body],
+        words,
+    )
+}

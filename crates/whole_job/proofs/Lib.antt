@@ -1,0 +1,4 @@
+pub mod Courses
+pub mod Turns
+pub mod Whole
+pub mod Within
