@@ -1,21 +1,25 @@
 -- What each way through `encode_file` answers, over plain lists.
-use mathlib.Core.Path.{_≡_, refl, sym, _∙_, ap}
-use mathlib.Core.List.{List, [], map}
+use mathlib.Core.Path.{_≡_, refl, sym, _∙_}
+use mathlib.Core.List.{List, map}
 use Prim.Native.Nat.{ℕ, _+_, _-_, _<_, _≤_}
 use native.Mathlib.Omega.{arith}
+use mathlib.Core.Bool.{Bool, true, false, cond}
 use borrow.Author.Tests.{le-leb, lt-leb}
+use lib.Dec.{leb}
 use lib.IntN.{ℤ}
 use lib.ListN.{length, take, drop, getD, length-map, length-drop}
 use lib.Seq.{take-all}
-use Rattle.promise.specs.Answers.{Gives}
+use Rattle.promise.specs.Answers.{Gives, kept}
 use Rattle.promise.specs.Laid.{lay}
 use Rattle.promise.proofs.Laying.{take-lay}
 use Rattle.refusal.specs.declared.Refusal.the-variants.{Job, Room}
-use Rattle.refusal.specs.Said.{Said, refused}
+use Rattle.refusal.specs.Said.{Said, accepted, refused}
+use Rattle.refusal.proofs.Laws.{never-both}
 use Rattle.clip.specs.declared.BBox.{BBox}
 use Rattle.numbers.specs.Numbers.{signedOf}
 use Rattle.whole_job.specs.Jobs.{encodedJob}
-use Rattle.job_file.specs.JobFile.{Memory, partsOf, boxOf, jobFile}
+use Rattle.whole_job.proofs.Within.{encoded-within}
+use Rattle.job_file.specs.JobFile.{Memory, kindOf, partsOf, boxOf, endsOf, pointsIn, encodes, jobFile}
 
 module _ (file : List ℕ) (points : List ℤ) (words : List ℕ) (a : length file ≤ 16384) (b : 6 ≤ length file) (parts : ℕ) (e : parts ≡ getD file 5 0) where
   abbrev m : Memory
@@ -54,3 +58,18 @@ module _ (file : List ℕ) (points : List ℤ) (words : List ℕ) (a : length fi
         let v = rw (laid-points k l g, f, n) at w in
         rw (le-leb (length file) 16384 a, le-leb 6 (length file) b, ← e, le-leb parts (length file - 6) h, le-leb (length file - (6 + parts)) (length points) k)
         (record { answer = v .answer; memory = λ i. record { points = g i; words = v .memory i } })
+
+-- ---- an accepted file uses no more words than there are
+pub file-within : (file : List ℕ) (m : Memory) (k : ℕ) → jobFile file m .answer ≡ accepted k → k ≤ length (m .words)
+unfolding jobFile
+file-within file m k =
+    by (leb (length file) 16384) (leb 6 (length file)) (leb (partsOf file) (length file - 6)) (leb (length file - (6 + partsOf file)) (length (m .points)))
+  where
+    by : (a b c d : Bool)
+        → cond a (cond b (cond c (cond d (encodes (encodedJob (kindOf file) (boxOf file) (pointsIn file) (endsOf file) (m .words)) (pointsIn file) (m .points)) (kept (refused Room 0) m)) (kept (refused Job 0) m)) (kept (refused Job 0) m)) (kept (refused Job 0) m) .answer ≡ accepted k
+        → k ≤ length (m .words)
+    by false b c d e = absurd (never-both Job (sym e))
+    by true false c d e = absurd (never-both Job (sym e))
+    by true true false d e = absurd (never-both Job (sym e))
+    by true true true false e = absurd (never-both Room (sym e))
+    by true true true true e = encoded-within (kindOf file) (boxOf file) (pointsIn file) (endsOf file) (m .words) k e

@@ -108,3 +108,10 @@ module _ (text l1 l2 l3 : List ℕ) (r2 : ℕ) where
       let f2 = front-more f1 (ended number space) (omega arith) r2 l2 g in
       let f3 = front-append f2 atHead (simp length-append (omega (arith, simp length-append at b))) l3 a in
       front-shown refusedRoom h (front-more f3 (ended points newline) (simp length-append (omega (arith, simp length-append at b, simp length-append at d))) r4 l4 k)
+
+-- ---- what the room is for: the bytes never take more
+pub words-short : (ws : List ℕ) → length (wordsText ws) ≤ wordsRoom ws
+words-short ws = simp length-append (omega (arith, simp length-append at (ended-short (length ws) newline), column-short ws))
+
+pub refused-short : (number points : ℕ) → length (refusedText number points) ≤ refusedRoom
+refused-short number points = simp length-append (omega (arith, simp length-append at (ended-short number space), simp length-append at (ended-short points newline)))

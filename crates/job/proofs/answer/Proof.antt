@@ -1,0 +1,150 @@
+-- The parts' answers, one after the other, are those of the definition; what is shown of the last one is the text.
+use Prim.Native.Nat.{_≤_}
+use mathlib.Core.Path.{sym}
+use native.Mathlib.Omega.{arith}
+use borrow.Author.Needs.{needs}
+use lib.ListN.{length}
+use lib.Seq.{length-take-le}
+use Rattle.numbers.proofs.Places.{read-within}
+use Rattle.job_file.proofs.Taking.{file-within}
+use Rattle.job.specs.Program.{printed}
+use Rattle.job.proofs.Telling.{no-numbers, no-job, all-words}
+use Rattle.job.proofs.answer.Statement.{statement}
+use Rattle.job.proofs.answer.Tie as tie
+
+read-numbers-requires : tie.Need-read-numbers-requires
+read-numbers-requires c κs = search needs
+
+enum-known-r : tie.Need-enum-known-r
+enum-known-r c = search needs
+
+number-requires : tie.Need-number-requires
+number-requires c κs = search needs
+
+show-refused-requires : tie.Need-show-refused-requires
+show-refused-requires c κs = search needs
+
+enum-known-n : tie.Need-enum-known-n
+enum-known-n c = search needs
+
+-- the numbers that were read, and the words that were used, are counts within their lists
+numbers-within : (c : tie.After-known-told2) → c .before .n .given .0 .0 ≤ length (c .before .before .before .before .before .before .before .before .before .before .before .args .numbers .now)
+numbers-within c = read-within _ _ _ _ (rw (c .before .n .given .1) at (c .before .before .before .before .before .read-numbers .ensures))
+
+words-within : (c : tie.After-known-told4) → c .before .used .given .0 .0 ≤ length (c .before .before .before .before .before .before .before .before .before .before .before .before .before .before .before .before .before .before .before .before .before .args .words .now)
+words-within c = file-within _ _ _ (sym ((rw (c .before .used .given .1) at (c .before .before .before .before .before .before .encode-file .ensures)) .answer))
+
+slice-reshare-prefix-encode-file : tie.Need-slice-reshare-prefix-encode-file
+slice-reshare-prefix-encode-file c = omega (arith, numbers-within c)
+
+slice-aggregate-encode-file : tie.Need-slice-aggregate-encode-file
+slice-aggregate-encode-file c = sym (length-take-le _ _ (omega (arith, numbers-within (c .before))))
+
+encode-file-requires : tie.Need-encode-file-requires
+encode-file-requires c κs = search needs
+
+enum-known-r-2 : tie.Need-enum-known-r-2
+enum-known-r-2 c = search needs
+
+number-requires-2 : tie.Need-number-requires-2
+number-requires-2 c κs = search needs
+
+show-refused-requires-2 : tie.Need-show-refused-requires-2
+show-refused-requires-2 c κs = search needs
+
+enum-known-used : tie.Need-enum-known-used
+enum-known-used c = search needs
+
+slice-reshare-prefix-show-words : tie.Need-slice-reshare-prefix-show-words
+slice-reshare-prefix-show-words c = omega (arith, words-within c)
+
+slice-aggregate-show-words : tie.Need-slice-aggregate-show-words
+slice-aggregate-show-words c = sym (length-take-le _ _ (omega (arith, words-within (c .before))))
+
+show-words-requires : tie.Need-show-words-requires
+show-words-requires c κs = search needs
+
+same-length : tie.Need-same-length
+same-length c = search needs
+
+same-length-2 : tie.Need-same-length-2
+same-length-2 c = search needs
+
+returns : tie.Need-returns
+unfolding printed
+returns c =
+    let n = c .before .before .before .before in
+    let k = n .before in
+    no-numbers _ _ _ (c .before .before .before .before .before .before .before .before .before .before .before .before .before .before .before .before .args .text .now) _ _ _ (k .before .r .given .0 .0) (c .before .before .before .before .before .before .before .before .before .before .before .before .before .before .before .before .pre .0) (rw (k .before .r .given .1) at (k .before .before .before .before .before .read-numbers .ensures)) (rw (n .number .ensures) at (c .before .before .show-refused .ensures))
+
+same-length-3 : tie.Need-same-length-3
+same-length-3 c = search needs
+
+same-length-4 : tie.Need-same-length-4
+same-length-4 c = search needs
+
+same-length-5 : tie.Need-same-length-5
+same-length-5 c = search needs
+
+same-length-6 : tie.Need-same-length-6
+same-length-6 c = search needs
+
+returns-2 : tie.Need-returns-2
+unfolding printed
+returns-2 c =
+    let n = c .before .before .before .before in
+    let k = n .before in
+    let t = k .before .before .before .before .before .before .before .before .before .before in
+    no-job _ _ _ (c .before .before .before .before .before .before .before .before .before .before .before .before .before .before .before .before .before .before .before .before .before .before .before .before .before .before .args .text .now) _ _ _ _ (rw (t .before .n .given .1) at (t .before .before .before .before .before .read-numbers .ensures)) _ (k .before .r2 .given .0 .0) _ (c .before .before .before .before .before .before .before .before .before .before .before .before .before .before .before .before .before .before .before .before .before .before .before .before .before .before .pre .0) (rw (k .before .r2 .given .1) at (k .before .before .before .before .before .before .encode-file .ensures)) (rw (n .number2 .ensures) at (c .before .before .show-refused2 .ensures))
+
+same-length-7 : tie.Need-same-length-7
+same-length-7 c = search needs
+
+same-length-8 : tie.Need-same-length-8
+same-length-8 c = search needs
+
+same-length-9 : tie.Need-same-length-9
+same-length-9 c = search needs
+
+same-length-10 : tie.Need-same-length-10
+same-length-10 c = search needs
+
+returns-3 : tie.Need-returns-3
+unfolding printed
+returns-3 c =
+    let k = c .before .before .before .before .before in
+    let t = k .before .before .before .before .before .before .before .before .before .before in
+    all-words _ _ _ (c .before .before .before .before .before .before .before .before .before .before .before .before .before .before .before .before .before .before .before .before .before .before .before .before .before .before .args .text .now) _ _ _ _ (rw (t .before .n .given .1) at (t .before .before .before .before .before .read-numbers .ensures)) _ (k .before .used .given .0 .0) (omega (arith, words-within k)) (omega arith) (rw (k .before .used .given .1) at (k .before .before .before .before .before .before .encode-file .ensures)) (c .before .before .show-words .ensures)
+
+pub answer-spec : {M : Type 1} → statement M
+answer-spec =
+    tie.close
+    (tie.spec
+    read-numbers-requires
+    enum-known-r
+    number-requires
+    show-refused-requires
+    enum-known-n
+    slice-reshare-prefix-encode-file
+    slice-aggregate-encode-file
+    encode-file-requires
+    enum-known-r-2
+    number-requires-2
+    show-refused-requires-2
+    enum-known-used
+    slice-reshare-prefix-show-words
+    slice-aggregate-show-words
+    show-words-requires
+    same-length
+    same-length-2
+    returns
+    same-length-3
+    same-length-4
+    same-length-5
+    same-length-6
+    returns-2
+    same-length-7
+    same-length-8
+    same-length-9
+    same-length-10
+    returns-3)
