@@ -1,4 +1,4 @@
--- Document 01, "Sample jobs": the three P clips, at the box 0..10, and the values at the limit, each computed from the definition.
+-- Document 01, "Sample jobs": the values at the limit and one beyond, each computed from the definition. (The three P clips stand with the other P samples, in crate `samples`.)
 use mathlib.Core.Path.{_≡_, refl}
 use mathlib.Core.List.{List, [], _∷_}
 use lib.IntN.{ℤ, pos, negsuc}
@@ -21,21 +21,6 @@ ten = box (pos 0) (pos 10)
 
 abbrev pub done : Seg → Said (List ClippedSeg)
 done s = accepted (record { seg = s } ∷ [])
-
--- (-10,0)-(990,51): cutting the original segment four times would give (10,1)
-pub long-cut : clipped (from (negsuc 9) (pos 0) (pos 990) (pos 51)) ten ≡ done (from (pos 0) (pos 1) (pos 10) (pos 2))
-unfolding clipped isGood isCoord clip overlap cuts crossAtX
-long-cut = refl
-
--- (-1,0)-(1,-1), which misses the box
-pub corner-miss : clipped (from (negsuc 0) (pos 0) (pos 1) (negsuc 0)) ten ≡ done (from (pos 0) (pos 0) (pos 0) (pos 0))
-unfolding clipped isGood isCoord clip overlap cuts crossAtX
-corner-miss = refl
-
--- (0,-1)-(-1,1), a miss
-pub other-miss : clipped (from (pos 0) (negsuc 0) (negsuc 0) (pos 1)) ten ≡ done (from (pos 0) (pos 0) (negsuc 0) (pos 1))
-unfolding clipped isGood isCoord clip overlap cuts crossAtX
-other-miss = refl
 
 -- an edge and a coordinate at the limit are accepted, one further they are refused as 3 and as 5; a box 0..0 is refused as 3
 abbrev pub inTen : Seg

@@ -5,7 +5,7 @@
 --     drawn-count drawn-nothing drawn-after drawn-step
 --                                     how many vertices a MoveTo or a LineTo gives; pairs after pairs; the vertex of a step that was written as parameters
 --     is-read is-accepted one-reading the call both ways, and one value for each answer
-use Prim.Native.Nat.{ℕ, zero, suc, _+_, _*_, _/_, _%_, _<_, _≤_}
+use Prim.Native.Nat.{ℕ, zero, suc, _*_, _/_, _%_, _<_, _≤_}
 use mathlib.Core.Path.{_≡_, refl, sym, _∙_, ap, subst}
 use mathlib.Core.Bool.{Bool, true, false, cond, not}
 use mathlib.Core.List.{List, [], _∷_, _++_}

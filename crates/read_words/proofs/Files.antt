@@ -12,7 +12,7 @@ use Rattle.refusal.specs.Refusals.{numberOf}
 use Rattle.refusal.specs.Said.{Said, accepted, refused}
 use Rattle.refusal.proofs.Laws.{numbered}
 use Rattle.decoder.specs.ReadingWords.{reading}
-use Rattle.read_words.specs.WordFiles.{Memory, onward}
+use Rattle.read_words.specs.WordFiles.{onward}
 
 module _ (w : Written (Said ℕ) (List ℕ)) (out : List ℤ) (l : List ℕ) where
   pub on : (n : ℕ) (a : Said ℕ) (o : List ℤ) → Gives w (accepted n) l → Gives (reading (take n l) out) a o → Gives (onward w out) a (record { words = l; out = o })

@@ -1,5 +1,5 @@
 -- An accepted job uses no more words than its list has.
-use mathlib.Core.Path.{_≡_, refl, sym, _∙_, ap}
+use mathlib.Core.Path.{_≡_, refl, sym, ap}
 use mathlib.Core.Bool.{Bool, true, false, cond}
 use mathlib.Core.List.{List, [], _∷_}
 use Prim.Native.Nat.{ℕ, _≤_}
@@ -24,7 +24,7 @@ use Rattle.encoder.specs.Completing.{isEmpty, closed, completed}
 use Rattle.encoder.specs.Calls.{Call, add, complete, call}
 use Rattle.encoder.proofs.States.{room-length}
 use Rattle.encoder.proofs.Reached.{Sound, fresh-sound, add-sound, complete-sound}
-use Rattle.whole_job.specs.Jobs.{Outcome, on, off, pointsOf, isJob, jobCalls, taken, stopped, go, outcome, run, encodedJob}
+use Rattle.whole_job.specs.Jobs.{off, pointsOf, isJob, jobCalls, taken, stopped, go, outcome, run, encodedJob}
 
 -- ---- a call whose number is zero says that it is done
 abbrev Answered : Type 0

@@ -1,5 +1,5 @@
 -- At 64 bits every i32 can be negated, and neither it nor its negation is below zero in the arm that casts it.
-use lib.IntN.{ℤ, pos, _-ℤ_}
+use lib.IntN.{pos, _-ℤ_}
 use lib.Signed.{_≤ℤ_, _<ℤ_}
 use mir.Syntax.{w32, w64}
 use Rattle.whole.proofs.Machine.{Back, back, widened, lt-yes, lt-no}

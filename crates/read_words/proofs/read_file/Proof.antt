@@ -5,9 +5,6 @@ use native.Mathlib.Omega.{arith}
 use borrow.Author.Needs.{needs}
 use lib.ListN.{length}
 use lib.Seq.{length-take-le}
-use Rattle.promise.specs.Answers.{Gives}
-use Rattle.refusal.specs.Said.{accepted}
-use Rattle.numbers.specs.Numbers.{reading}
 use Rattle.numbers.proofs.Places.{read-within}
 use Rattle.read_words.proofs.Files.{on, off}
 use Rattle.read_words.proofs.read_file.Statement.{statement}

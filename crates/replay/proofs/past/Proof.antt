@@ -1,5 +1,4 @@
 -- The tests are the definition's.
-use mathlib.Core.Path.{_≡_}
 use native.Mathlib.Omega.{arith}
 use borrow.Author.Needs.{needs}
 use Rattle.promise.proofs.Cases.{tests}
