@@ -1,8 +1,5 @@
-pub mod Fronts
-pub mod Varints
 pub mod Schema
-pub mod Numbers
+pub mod Heads
 pub mod Fields
 pub mod Copying
 pub mod Packing
-pub mod Readback

@@ -1,6 +1,2 @@
-pub mod Varints
 pub mod Schema
-pub mod Numbers
 pub mod Fields
-pub mod Puts
-pub mod Reading

@@ -1,7 +1,6 @@
 -- Laws of reading a varint, each once over the width: what is written reads back, whatever follows it, and nothing shorter does.
 --     varint-back varint-cut varint-least    of 64 bits: the number and its bytes; no part of them; no fewer bytes for that number
 --     read-fits read-used read-on            what was read is a number of 64 bits, of one to ten bytes that are there; more bytes change nothing but a cut
---     head-back key-number key-type          a head reads back to its field's number and wire type
 use Prim.Native.Nat.{ℕ, zero, suc, _+_, _*_, _/_, _%_, _≤_, _<_}
 use mathlib.Core.Path.{_≡_, refl, sym, ap, _∙_}
 use mathlib.Core.Bool.{Bool, true, false}
@@ -10,12 +9,9 @@ use native.Mathlib.Omega.{arith}
 use borrow.Author.Tests.{lt-ltb, le-ltb, ltb-true, ltb-false}
 use lib.ListN.{length, take}
 use lib.Dec.{ltb}
-use Rattle.wire.specs.declared.field.Field.{Field}
-use Rattle.wire.specs.Varints.{varintOf, varint}
-use Rattle.wire.specs.Schema.{numberOf, typeOf, keyOf, head}
-use Rattle.wire.specs.Reading.{VarintRead, good, cut, over, behind, readOf, readVarint}
-use Rattle.wire.proofs.Varints.{last, varint-one}
-use Rattle.wire.proofs.Schema.{small, key-small}
+use Rattle.varint.specs.Varints.{varintOf, varint}
+use Rattle.varint.specs.Reading.{VarintRead, good, cut, over, behind, readOf, readVarint}
+use Rattle.varint.proofs.Varints.{last}
 
 -- what can be read: one more than the largest number
 abbrev pub reach : ℕ → ℕ → ℕ
@@ -180,14 +176,3 @@ module _ (bytes : List ℕ) (n k : ℕ) (e : readVarint bytes ≡ good n k) wher
 pub read-on : (bytes rest : List ℕ) → (readVarint bytes ≡ cut → ⊥) → readVarint (bytes ++ rest) ≡ readVarint bytes
 unfolding readVarint
 read-on bytes rest h = on 2 9 bytes rest h
-
--- ---- heads
-pub head-back : (field : Field) (rest : List ℕ) → readVarint (head field ++ rest) ≡ good (keyOf field) 1
-unfolding head
-head-back field rest = varint-back (keyOf field) rest (omega (arith, key-small field)) ∙ ap (λ (l : List ℕ). good (keyOf field) (length l)) (varint-one (keyOf field) (key-small field))
-
-pub key-number : (field : Field) → keyOf field / 8 ≡ numberOf field
-key-number field = omega (arith, small field .type)
-
-pub key-type : (field : Field) → keyOf field % 8 ≡ typeOf field
-key-type field = omega (arith, small field .type)

@@ -1,9 +1,9 @@
 -- After each turn the bytes written, and the varint of what is left, are the varint of n.
 use native.Mathlib.Omega.{arith}
-use Rattle.wire.proofs.Varints.{Writing, writing-start, writing-room, writing-turn, writing-end}
+use Rattle.varint.proofs.Varints.{Writing, writing-start, writing-room, writing-turn, writing-end}
 use borrow.Author.Needs.{needs}
-use Rattle.wire.proofs.varint.lay_varint.Statement.{statement}
-use Rattle.wire.proofs.varint.lay_varint.Tie as tie
+use Rattle.varint.proofs.lay_varint.Statement.{statement}
+use Rattle.varint.proofs.lay_varint.Tie as tie
 
 abbrev Inv-loop : tie.InvT-loop
 Inv-loop n out₀ m₀ i₀ out m i = Writing n out₀ out m i

@@ -10,9 +10,9 @@ use lib.IntN.{pos, negsuc, _-ℤ_}
 use Rattle.whole.proofs.Parts.{zarith, -parts}
 use Rattle.words.specs.Params.{param, unparam}
 use Rattle.words.proofs.Params.{param-pos, param-neg, unparam-param}
-use Rattle.wire.specs.Varints.{varint}
-use Rattle.wire.specs.Numbers.{signed, zigzag}
-use Rattle.wire.proofs.Varints.{varint-size}
+use Rattle.varint.specs.Varints.{varint}
+use Rattle.varint.specs.Numbers.{signed, zigzag}
+use Rattle.varint.proofs.Varints.{varint-size}
 
 pub zigzag-low : (bits : ℕ) → bits < 9223372036854775808 → 2 * bits ≡ zigzag bits
 unfolding zigzag

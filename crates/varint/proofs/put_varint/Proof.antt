@@ -1,9 +1,9 @@
 -- Too short a list is left alone; any other has room for the varint.
 use native.Mathlib.Omega.{arith}
-use Rattle.wire.proofs.Fronts.{put-short, put-done}
+use Rattle.varint.proofs.Fronts.{put-short, put-done}
 use borrow.Author.Needs.{needs}
-use Rattle.wire.proofs.varint.put_varint.Statement.{statement}
-use Rattle.wire.proofs.varint.put_varint.Tie as tie
+use Rattle.varint.proofs.put_varint.Statement.{statement}
+use Rattle.varint.proofs.put_varint.Tie as tie
 
 varint-size-requires : tie.Need-varint-size-requires
 varint-size-requires c κs = search needs

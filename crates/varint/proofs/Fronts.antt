@@ -17,7 +17,7 @@ use borrow.Rule.Slice.PartMut.{midOf, putMid}
 use Rattle.promise.specs.Answers.{Gives}
 use Rattle.promise.specs.Laid.{lay}
 use Rattle.promise.proofs.Laying.{length-lay}
-use Rattle.wire.specs.Puts.{put, Puts}
+use Rattle.varint.specs.Puts.{put, Puts}
 
 -- ---- `&mut out[at..]`
 pub lent : (at : ℕ) (out : List ℕ) → midOf at (length out - at) out ≡ drop at out

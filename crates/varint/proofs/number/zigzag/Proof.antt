@@ -1,9 +1,9 @@
 -- Twice the number from zero on; below it, twice what is left to the largest, and one.
 use native.Mathlib.Omega.{arith}
-use Rattle.wire.proofs.Numbers.{zigzag-low, zigzag-high}
+use Rattle.varint.proofs.Numbers.{zigzag-low, zigzag-high}
 use borrow.Author.Needs.{needs}
-use Rattle.wire.proofs.number.zigzag.Statement.{statement}
-use Rattle.wire.proofs.number.zigzag.Tie as tie
+use Rattle.varint.proofs.number.zigzag.Statement.{statement}
+use Rattle.varint.proofs.number.zigzag.Tie as tie
 
 mul-result : tie.Need-mul-result
 mul-result c = search needs

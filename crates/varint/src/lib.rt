@@ -1,10 +1,13 @@
-// Varints: a number in one to ten bytes, seven bits a byte.
+// Varints: a number in one to ten bytes, seven bits a byte (PB). What every writer of bytes promises stands here too (specs/Puts): it lays its bytes at the front of
+// the lent list and answers how many they are; where they do not all fit it writes nothing and answers zero.
 ghost use mathlib.Core.Path.{_≡_};
 ghost use Prim.Native.Nat.{_+_, _%_, _≤_};
 ghost use lib.ListN.{length};
 ghost use Rattle.promise.specs.Answers.{Gives};
-ghost use Rattle.wire.specs.Varints.{varint};
-ghost use Rattle.wire.specs.Puts.{put, Puts};
+ghost use Rattle.varint.specs.Varints.{varint};
+ghost use Rattle.varint.specs.Puts.{put, Puts};
+
+pub mod number; // 64 bits: halves, zigzag
 
 pub fn varint_size(n: u64) -> usize
     ensures { λ r. ⌜ r ≡ length (varint n) ⌝ }

@@ -1,0 +1,4 @@
+pub mod Fronts
+pub mod Varints
+pub mod Numbers
+pub mod Readback

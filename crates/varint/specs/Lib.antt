@@ -1,0 +1,4 @@
+pub mod Puts
+pub mod Varints
+pub mod Numbers
+pub mod Reading
