@@ -21,16 +21,29 @@ use Rattle.encoder.specs.Completing.{finished, completed}
 use Rattle.whole_job.specs.Jobs.{isJob, encodedJob}
 use Rattle.decoder.specs.Vertices.{Trace, traced, faulty, numbers}
 use Rattle.decoder.specs.ReadingWords.{drawn, commands, traceFrom, trace}
+use Rattle.varint.specs.Varints.{varint}
+use Rattle.wire.specs.Schema.{head}
+use Rattle.wire.specs.Fields.{varintField, delimited}
+use Rattle.layer.specs.Held.{mem, seen}
+use Rattle.layer.specs.State.{valid as validLayer}
+use Rattle.layer.specs.Calls.{newLayer}
+use Rattle.value_bytes.specs.Texts.{textField}
+use Rattle.layer_bytes.specs.Layers.{layerBytes, layerField, nameAt}
+use Rattle.tile.specs.declared.Tile.{Tile}
+use Rattle.tile.specs.Tiles.{TileMemory, lists, validTile, freshTile}
+use Rattle.tile.specs.Adding.{addLayer}
 
--- ---- what is asked: a job (kind, box, points, part ends), or a clip (box, segment)
+-- ---- what is asked: a job (kind, box, points, part ends), a clip (box, segment), or a tile (extent, the name of its one layer, which has no features)
 pub data Asked : Type 0 where
   job : ℕ → BBox → List ℤ → List ℕ → Asked
   cut : BBox → Seg → Asked
+  tile : ℕ → List ℕ → Asked
 
--- ---- what is given: the refusal's number, or zero; a job's words, and three numbers a vertex of their reading; a clip's segment
+-- ---- what is given: the refusal's number, or zero; a job's words, and three numbers a vertex of their reading; a clip's segment; a tile's bytes
 pub data Given : Type 0 where
   words : ℕ → List ℕ → List ℤ → Given
   segment : ℕ → List ClippedSeg → Given
+  bytes : ℕ → List ℕ → Given
 
 -- the vertices that words read to
 abbrev pub readBack : Trace → List ℤ
@@ -43,10 +56,14 @@ jobGives w = words (w .answer .number) (take (w .answer .values) (w .memory)) (r
 abbrev pub cutGives : Said (List ClippedSeg) → Given
 cutGives a = segment (a .number) (a .values)
 
--- by the definitions; a job's words go into a list of zeros
+abbrev pub tileGives : Written (Said Tile) TileMemory → Given
+tileGives w = bytes (w .answer .number) (take (w .answer .values .used) (w .memory .bytes))
+
+-- by the definitions; a job's words and a tile's bytes go into lists of zeros
 abbrev pub gives : Asked → Given
 gives (job kind box points ends) = jobGives (encodedJob kind box points ends (replicate 32 0))
 gives (cut box s) = cutGives (clipped s box)
+gives (tile extent name) = tileGives (addLayer (freshTile extent) (seen (newLayer name extent) (mem [] [] name [])) (lists (replicate 2 0) (replicate 32 0)))
 
 -- ---- the samples
 pub record Sample : Type 0 where
@@ -111,9 +128,14 @@ samples =
       asked = cut (box 10) (from (pos 0) (negsuc 0) (negsuc 0) (pos 1));
       expected = segment 0 (record { seg = from (pos 0) (pos 0) (negsuc 0) (pos 1) } ∷ []);
     } ∷
+    -- a tile of extent 4096 with layer "a", which has no features: 1A 08 0A 01 61 28 80 20 78 02
+    record {
+      asked = tile 4096 (97 ∷ []);
+      expected = bytes 0 (26 ∷ 8 ∷ 10 ∷ 1 ∷ 97 ∷ 40 ∷ 128 ∷ 32 ∷ 120 ∷ 2 ∷ []);
+    } ∷
     []
 
 -- ---- each sample is given as it is expected
 pub samples-hold : map (λ (s : Sample). gives (s .asked)) samples ≡ map (λ (s : Sample). s .expected) samples
-unfolding encodedJob isJob valid isCoord isGood emission boundary added finished completed clip overlap cuts crossAtX clipped param unparam drawn commands traceFrom
+unfolding encodedJob isJob valid isCoord isGood emission boundary added finished completed clip overlap cuts crossAtX clipped param unparam drawn commands traceFrom addLayer validTile validLayer layerField layerBytes nameAt textField delimited varintField head varint
 samples-hold = refl

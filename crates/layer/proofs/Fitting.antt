@@ -1,0 +1,117 @@
+-- What the tests on figures say: `fits` figure by figure, `roomOf` against the lists and the caps, and `recordsOk` and `valid` at the returns of the
+-- functions that compute them.
+use Prim.Native.Nat.{ℕ, _*_, _/_, _≤_}
+use mathlib.Core.Path.{_≡_, refl, sym, ap, _∙_}
+use mathlib.Core.Bool.{Bool, true, false, cond, not, _&&_}
+use mathlib.Core.List.{List}
+use native.Mathlib.Omega.{arith}
+use native.Mathlib.Nat.{le-refl}
+use lib.ListN.{length, take}
+use lib.Dec.{leb}
+use borrow.Author.Tests.{le-leb, leb-true, leb-false, not-true, not-false}
+use Rattle.table.specs.declared.Found.{Found}
+use Rattle.table.specs.Keys.{keysIn}
+use Rattle.table.specs.Values.{valuesIn}
+use Rattle.records.specs.Records.{isFound, recordsIn, oneRecord}
+use Rattle.layer.specs.declared.Figures.{Figures}
+use Rattle.layer.specs.declared.Open.{Open}
+use Rattle.layer.specs.declared.Open.the-variants.{Shut, Since}
+use Rattle.layer.specs.declared.Layer.{Layer}
+use Rattle.layer.specs.Held.{mem, smaller, roomOf, fits, seen, maxKeys, maxValues, maxTexts, maxFeatureWords}
+use Rattle.layer.specs.State.{recordsOk, valid}
+
+pub never : {X : Type 0} → false ≡ true → X
+never p = absurd (let z : _≡_ {A = ℕ} 0 1 = cc in omega arith)
+
+pub both : (a b : Bool) → (a && b) ≡ true → (a ≡ true) × (b ≡ true)
+both true b e = (refl, e)
+both false b e = never e
+
+-- ---- figures
+pub record Within (a b : Figures) : Type 0 where
+  pub keys : a .keys ≤ b .keys
+  pub values : a .values ≤ b .values
+  pub texts : a .texts ≤ b .texts
+  pub features : a .features ≤ b .features
+
+pub within : (a b : Figures) → fits a b ≡ true → Within a b
+within a b e =
+    let p = both (leb (a .keys) (b .keys)) (leb (a .values) (b .values) && (leb (a .texts) (b .texts) && leb (a .features) (b .features))) e in
+    let q = both (leb (a .values) (b .values)) (leb (a .texts) (b .texts) && leb (a .features) (b .features)) (p .1) in
+    let r = both (leb (a .texts) (b .texts)) (leb (a .features) (b .features)) (q .1) in
+    record { keys = leb-true _ _ (p .0); values = leb-true _ _ (q .0); texts = leb-true _ _ (r .0); features = leb-true _ _ (r .1) }
+
+pub fits-yes : (a b : Figures) → Within a b → fits a b ≡ true
+fits-yes a b w = rw (le-leb _ _ (w .keys), le-leb _ _ (w .values), le-leb _ _ (w .texts), le-leb _ _ (w .features))
+
+smaller-by : (a b : ℕ) (t : Bool) → leb a b ≡ t → (cond t a b ≤ a) × (cond t a b ≤ b)
+smaller-by a b true e = (le-refl a, leb-true a b e)
+smaller-by a b false e = (omega (arith, leb-false a b e), le-refl b)
+
+pub smaller-le : (a b : ℕ) → (smaller a b ≤ a) × (smaller a b ≤ b)
+smaller-le a b = smaller-by a b (leb a b) refl
+
+-- figures that fit into the room fit into the lists and stay at or below the caps
+pub record Fit (u : Figures) (keys values texts features : ℕ) : Type 0 where
+  pub in-keys : u .keys * 2 ≤ keys
+  pub few-keys : u .keys ≤ maxKeys
+  pub in-values : u .values * 3 ≤ values
+  pub few-values : u .values ≤ maxValues
+  pub in-texts : u .texts ≤ texts
+  pub few-texts : u .texts ≤ maxTexts
+  pub in-features : u .features ≤ features
+  pub few-features : u .features ≤ maxFeatureWords
+
+pub fit : (u : Figures) (keys values texts features : ℕ) → fits u (roomOf keys values texts features) ≡ true → Fit u keys values texts features
+fit u keys values texts features e =
+    let w = within u (roomOf keys values texts features) e in
+    let k = smaller-le (keys / 2) maxKeys in
+    let v = smaller-le (values / 3) maxValues in
+    let t = smaller-le texts maxTexts in
+    let f = smaller-le features maxFeatureWords in
+    record {
+      in-keys = omega (arith, w .keys, k .0);
+      few-keys = omega (arith, w .keys, k .1);
+      in-values = omega (arith, w .values, v .0);
+      few-values = omega (arith, w .values, v .1);
+      in-texts = omega (arith, w .texts, t .0);
+      few-texts = omega (arith, w .texts, t .1);
+      in-features = omega (arith, w .features, f .0);
+      few-features = omega (arith, w .features, f .1);
+    }
+
+-- the same where a function answered it
+pub told-fit : (u : Figures) (keys values texts features : ℕ) (r : Bool) → r ≡ fits u (roomOf keys values texts features) → not r ≡ false → Fit u keys values texts features
+told-fit u keys values texts features r g h = fit u keys values texts features (sym g ∙ not-false r h)
+
+pub room-told : (u room : Figures) (keys values texts features : ℕ) (r : Bool) → room ≡ roomOf keys values texts features → r ≡ fits u room → r ≡ fits u (roomOf keys values texts features)
+room-told u room keys values texts features r e g = g ∙ ap (λ (x : Figures). fits u x) e
+
+-- ---- `since_ok`
+module _ (o used : Figures) (ws : List ℕ) (r : Bool) (g : r ≡ fits o used) where
+  pub since-not : not r ≡ true → false ≡ recordsOk (Since o) used ws
+  since-not h = rw (← g, not-true r h)
+
+  pub since-at : not r ≡ false → length ws ≡ used .features → o .features ≤ length ws
+  since-at h e = omega (arith, within o used (sym g ∙ not-false r h) .features)
+
+  pub since-is : not r ≡ false → (f : Found) → f ≡ recordsIn 0 0 (take (o .features) ws) → (a b : Bool) → a ≡ isFound f → b ≡ oneRecord ws (o .features) → (a && b) ≡ recordsOk (Since o) used ws
+  since-is h f p a b x y = rw (← g, not-false r h, x, y, p)
+
+-- ---- `records_ok`
+module _ (f : Open) (used : Figures) (ws : List ℕ) where
+  pub shut-is : f ≡ Shut → (n : Found) → n ≡ recordsIn 0 0 ws → (r : Bool) → r ≡ isFound n → r ≡ recordsOk f used ws
+  shut-is e n p r g = rw (e, g, p)
+
+  pub open-is : (o : Figures) → f ≡ Since o → (r : Bool) → r ≡ recordsOk (Since o) used ws → r ≡ recordsOk f used ws
+  open-is o e r g = rw e g
+
+-- ---- `is_valid`
+module _ (s : Layer) (ks vs ts fs : List ℕ) (r : Bool) (g : r ≡ fits (s .used) (roomOf (length ks) (length vs) (length ts) (length fs))) where
+  pub unfit : not r ≡ true → false ≡ valid (seen s (mem ks vs ts fs))
+  unfolding valid
+  unfit h = rw (← g, not-true r h)
+
+  pub valid-is : not r ≡ false → (a b c : Bool) → a ≡ keysIn (s .used .texts) (take (s .used .keys * 2) ks) → b ≡ valuesIn (s .used .texts) (take (s .used .values * 3) vs) → c ≡ recordsOk (s .feature) (s .used) (take (s .used .features) fs) → (leb (s .name) (s .used .texts) && (a && (b && c))) ≡ valid (seen s (mem ks vs ts fs))
+  unfolding valid
+  valid-is h a b c x y z = rw (← g, not-false r h, x, y, z)

@@ -1,0 +1,10 @@
+pub mod Fitting
+pub mod Said
+pub mod Chains
+pub mod Fronts
+pub mod Standing
+pub mod Closing
+pub mod Opening
+pub mod Telling
+pub mod Asked
+pub mod Entries

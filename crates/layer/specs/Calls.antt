@@ -1,0 +1,231 @@
+-- Document 01, "Tags and rollback": the calls on a layer, each as what it makes of what it sees, with its checks in the table's order.
+use Prim.Native.Nat.{ℕ, _+_, _-_, _%_, _/_}
+use mathlib.Core.Bool.{Bool, true, false, cond}
+use mathlib.Core.List.{List, [], _∷_, _++_}
+use lib.ListN.{length, getD, set, take}
+use lib.IntN.{ℤ, pos, negsuc}
+use lib.Dec.{leb, eqb}
+use Rattle.promise.specs.Answers.{Written, kept}
+use Rattle.promise.specs.Laid.{lay}
+use Rattle.refusal.specs.Said.{Said, accepted, refused}
+use Rattle.refusal.specs.declared.Refusal.the-variants.{Kind, State, Room, Text as TextRefusal, Turn}
+use Rattle.table.specs.declared.Found.{Found}
+use Rattle.table.specs.declared.Found.the-variants.{At, Nothing}
+use Rattle.table.specs.declared.Value.{Value}
+use Rattle.table.specs.Texts.{shortText}
+use Rattle.table.specs.Keys.{findKey}
+use Rattle.table.specs.Values.{findValue}
+use Rattle.words.specs.Geometries.{isKind, maxWords}
+use Rattle.table.specs.declared.Text.{Text}
+use Rattle.records.specs.Records.{recordsIn}
+use Rattle.layer.specs.declared.Figures.{Figures}
+use Rattle.layer.specs.declared.Open.{Open}
+use Rattle.layer.specs.declared.Open.the-variants.{Shut, Since}
+use Rattle.layer.specs.declared.Layer.{Layer}
+use Rattle.layer.specs.Held.{Memory, Seen, Change, holds, check, whenOpen, fits, heldBy, smaller, maxTexts}
+use Rattle.layer.specs.Answers.{Told, tells, tellsNot}
+use Rattle.layer.specs.State.{valid}
+
+-- ---- opening a feature: KIND, STATE, TURN, ROOM
+abbrev pub isShut : Open → Bool
+isShut Shut = true
+isShut (Since o) = false
+
+-- the figures with so many feature words more
+abbrev pub moreWords : Figures → ℕ → Figures
+moreWords u n = record { keys = u .keys; values = u .values; texts = u .texts; features = u .features + n }
+
+-- the layer with these figures, and a feature open or not
+abbrev pub withUsed : Layer → Figures → Open → Layer
+withUsed s u f = record { extent = s .extent; name = s .name; used = u; feature = f }
+
+abbrev pub withFeatures : Memory → List ℕ → Memory
+withFeatures h fs = record { keys = h .keys; values = h .values; texts = h .texts; features = fs }
+
+-- a new record: kind, no id, no tags, and its geometry as given
+abbrev pub newRecord : ℕ → List ℕ → List ℕ
+newRecord kind words = kind ∷ 0 ∷ 0 ∷ 0 ∷ 0 ∷ length words ∷ words
+
+abbrev pub opened : ℕ → List ℕ → Seen → Change
+opened kind words v =
+    check (leb (length words) maxWords) Room
+    (check (fits (moreWords (v .layer .used) (6 + length words)) (v .room)) Room
+    (holds
+    (withUsed (v .layer) (moreWords (v .layer .used) (6 + length words)) (Since (v .layer .used)))
+    (withFeatures (v .held) (v .held .features ++ newRecord kind words))))
+
+-- the same, asking of STATE only what costs nothing: what a caller does who has asked the rest
+abbrev pub openedIn : ℕ → List ℕ → Seen → Change
+openedIn kind words v = check (fits (v .layer .used) (v .room)) State (opened kind words v)
+
+abbrev pub intoFeature : ℕ → List ℕ → Seen → Change
+intoFeature kind words v =
+    check (isKind kind) Kind (check (valid v) State (check (isShut (v .layer .feature)) Turn (opened kind words v)))
+
+-- ---- setting the id: STATE, TURN. The id mark and the two halves are words 1 to 3 of the open record
+abbrev pub marked : ℕ → ℕ → Seen → Figures → Change
+marked low high v o = holds (v .layer) (withFeatures (v .held) (lay (o .features + 1) (1 ∷ low ∷ high ∷ []) (v .held .features)))
+
+-- asking only that the lists hold the used parts, and these the four words of a record at o
+abbrev pub markedIn : ℕ → ℕ → Seen → Figures → Change
+markedIn low high v o =
+    check (fits (v .layer .used) (v .room)) State
+    (check (leb (o .features + 4) (v .layer .used .features)) State (marked low high v o))
+
+abbrev pub setId : ℕ → ℕ → Seen → Change
+setId low high v = check (valid v) State (whenOpen (v .layer .feature) (λ o. marked low high v o))
+
+-- ---- closing and abandoning: STATE, TURN. Abandoning cuts all used figures back to those at opening
+abbrev pub intoLayer : Seen → Change
+intoLayer v =
+    check (valid v) State
+    (whenOpen (v .layer .feature) (λ o. holds (withUsed (v .layer) (v .layer .used) Shut) (v .held)))
+
+abbrev pub abandoned : Seen → Change
+abandoned v =
+    check (valid v) State
+    (whenOpen (v .layer .feature) (λ o. holds (withUsed (v .layer) o Shut) (heldBy o (v .held))))
+
+-- ---- a tag: STATE, TEXT, TURN, ROOM
+-- a key, and a value with its text, which is empty but for kind 1
+pub record Tag : Type 0 where
+  pub key : List ℕ
+  pub value : Value
+  pub text : List ℕ
+
+-- the index of what was found, or of what goes last
+abbrev pub indexOf : Found → ℕ → ℕ
+indexOf (At j) next = j
+indexOf Nothing next = next
+
+-- how much is put, of n
+abbrev pub moreOf : Found → ℕ → ℕ
+moreOf (At j) n = 0
+moreOf Nothing n = n
+
+-- the run that is put
+abbrev pub putOf : Found → List ℕ → List ℕ
+putOf (At j) run = []
+putOf Nothing run = run
+
+-- the words of a key whose text starts at start, and of a value
+abbrev pub keyWords : ℕ → List ℕ → List ℕ
+keyWords start key = start ∷ length key ∷ []
+
+abbrev pub storedAs : ℕ → Value → ℕ → Value
+storedAs start v len = cond (eqb (v .kind) 1) (record { kind = 1; low = start; high = len }) v
+
+abbrev pub wordsOf : Value → List ℕ
+wordsOf v = v .kind ∷ v .low ∷ v .high ∷ []
+
+abbrev pub valueWords : ℕ → Value → List ℕ → List ℕ
+valueWords start v text = wordsOf (storedAs start v (length text))
+
+-- the figures after a tag, reckoned without a limit on room
+abbrev pub grownBy : Figures → Found → Found → ℕ → ℕ → Figures
+grownBy u kf vf key text =
+    record {
+      keys = u .keys + moreOf kf 1;
+      values = u .values + moreOf vf 1;
+      texts = u .texts + moreOf kf key + moreOf vf text;
+      features = u .features + 2;
+    }
+
+-- the record at index at with a tag more: its two words behind it, and its tag word count two more
+abbrev pub withTag : ℕ → ℕ → ℕ → List ℕ → List ℕ
+withTag at k v ws = set (ws ++ (k ∷ v ∷ [])) (at + 4) (getD ws (at + 4) 0 + 2)
+
+-- what is held after a tag: new entries go last, key before value, and so do their texts
+abbrev pub heldWith : Figures → Figures → Memory → Tag → Found → Found → Memory
+heldWith u o h t kf vf =
+    record {
+      keys = h .keys ++ putOf kf (keyWords (u .texts) (t .key));
+      values = h .values ++ putOf vf (valueWords (u .texts + moreOf kf (length (t .key))) (t .value) (t .text));
+      texts = h .texts ++ (putOf kf (t .key) ++ putOf vf (t .text));
+      features = withTag (o .features) (indexOf kf (u .keys)) (indexOf vf (u .values)) (h .features);
+    }
+
+abbrev pub taggedBy : Tag → Seen → Figures → Found → Found → Change
+taggedBy t v o kf vf =
+    check (fits (grownBy (v .layer .used) kf vf (length (t .key)) (length (t .text))) (v .room)) Room
+    (holds
+    (withUsed (v .layer) (grownBy (v .layer .used) kf vf (length (t .key)) (length (t .text))) (v .layer .feature))
+    (heldWith (v .layer .used) o (v .held) t kf vf))
+
+abbrev pub tagged : Tag → Seen → Figures → Change
+tagged t v o =
+    taggedBy t v o (findKey 0 (v .held .keys) (v .held .texts) (t .key)) (findValue 0 (v .held .values) (v .held .texts) (t .value) (t .text))
+
+-- asking of STATE only that the lists hold the used parts, and these a record at o with its tag words
+abbrev pub recordAt : List ℕ → ℕ → ℕ → Bool
+recordAt ws at end = leb (at + 6 + getD ws (at + 4) 0) end
+
+abbrev pub hasRecord : Seen → Figures → Bool
+hasRecord v o = recordAt (v .held .features) (o .features) (v .layer .used .features)
+
+abbrev pub taggedIn : Tag → Seen → Figures → Change
+taggedIn t v o =
+    check (fits (v .layer .used) (v .room)) State
+    (check (hasRecord v o) State
+    (check (shortText (length (t .key))) TextRefusal
+    (check (shortText (length (t .text))) TextRefusal (tagged t v o))))
+
+abbrev pub addTag : Tag → Seen → Change
+addTag t v =
+    check (valid v) State
+    (check (shortText (length (t .key))) TextRefusal
+    (check (shortText (length (t .text))) TextRefusal
+    (whenOpen (v .layer .feature) (λ o. tagged t v o))))
+
+-- the seven kinds of value. A whole number is 64 bits, of which a negative one takes the two's complement
+abbrev pub valueOf : ℕ → ℕ → Value
+valueOf kind bits = record { kind = kind; low = bits % 4294967296; high = bits / 4294967296 }
+
+abbrev pub bitsOf : ℤ → ℕ
+bitsOf (pos n) = n
+bitsOf (negsuc n) = 18446744073709551615 - n
+
+abbrev pub bitOf : Bool → ℕ
+bitOf b = cond b 1 0
+
+abbrev pub tagString : List ℕ → List ℕ → Tag
+tagString key text = record { key = key; value = record { kind = 1; low = 0; high = 0 }; text = text }
+
+abbrev pub tagBits : ℕ → List ℕ → ℕ → Tag
+tagBits kind key bits = record { key = key; value = valueOf kind bits; text = [] }
+
+-- ---- creating a layer: TEXT, ROOM. The name is the first text
+abbrev pub newLayer : List ℕ → ℕ → Layer
+newLayer name extent = record { extent = extent; name = length name; used = record { keys = 0; values = 0; texts = length name; features = 0 }; feature = Shut }
+
+abbrev pub created : List ℕ → ℕ → List ℕ → Written (Said (List Layer)) (List ℕ)
+created name extent ts =
+    cond (shortText (length name))
+    (cond (leb (length name) (smaller (length ts) maxTexts))
+    (record { answer = accepted (newLayer name extent ∷ []); memory = lay 0 name ts })
+    (kept (refused Room []) ts))
+    (kept (refused TextRefusal []) ts)
+
+-- ---- asking: STATE, and of an open feature TURN
+-- how many features are complete: the records before the open one
+abbrev pub complete : Open → Figures → ℕ
+complete Shut used = used .features
+complete (Since o) used = o .features
+
+abbrev pub numFeatures : Seen → Said (Told ℕ)
+numFeatures v =
+    cond (valid v)
+    (tells (indexOf (recordsIn 0 0 (take (complete (v .layer .feature) (v .layer .used)) (v .held .features))) 0))
+    (tellsNot State 0 (v .layer))
+
+-- how many tag words the open feature has, two a tag
+abbrev pub tagsIn : Open → Seen → Said (Told ℕ)
+tagsIn Shut v = tellsNot Turn 0 (v .layer)
+tagsIn (Since o) v = tells (getD (v .held .features) (o .features + 4) 0)
+
+abbrev pub numTags : Seen → Said (Told ℕ)
+numTags v = cond (valid v) (tagsIn (v .layer .feature) v) (tellsNot State 0 (v .layer))
+
+-- where the name stands
+abbrev pub nameOf : Seen → Said (Told (List Text))
+nameOf v = cond (valid v) (tells (record { start = 0; len = v .layer .name } ∷ [])) (tellsNot State [] (v .layer))

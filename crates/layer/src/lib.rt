@@ -1,0 +1,141 @@
+// A layer and its open feature (in the Rust: Layer and Feature of tile.rs). The layer's own record goes in and comes back by value; keys, values, texts
+// and feature records stand in four lent lists, of which the record says how much is used.
+// What a call costs: its STATE check reads the used part of every list once, so each call costs what the layer holds, and n features made by single calls
+// cost about n times that. `open_feature` and `mark_id` (and `tag` of crate tagging) are the same steps without that check.
+pub mod state; // the STATE check
+pub mod halves; // the two words of a 64-bit number
+pub mod feature; // opening, marking, completing and abandoning a feature
+pub mod asking; // the number of features and of tags, the name's place
+
+ghost use mathlib.Core.Path.{_≡_};
+ghost use Rattle.promise.specs.Answers.{Gives};
+ghost use Rattle.layer.specs.Held.{smaller, roomOf, fits};
+ghost use Rattle.layer.specs.Answers.{saidCreated};
+ghost use Rattle.layer.specs.Calls.{created};
+use refusal::Refusal;
+use table::Text;
+
+// How much of each list is used: keys and values in entries, texts in bytes, features in words.
+pub struct Figures {
+    pub keys: usize,
+    pub values: usize,
+    pub texts: usize,
+    pub features: usize,
+}
+
+// Whether a feature is open, and since which figures.
+pub enum Open {
+    Shut,
+    Since(Figures),
+}
+
+// The name is the first text, and so long.
+pub struct Layer {
+    pub extent: u32,
+    pub name: usize,
+    pub used: Figures,
+    pub feature: Open,
+}
+
+// What a call answers that changes a layer: the layer after it, or the refusal and the layer as it was given.
+pub enum Changed {
+    Done(Layer),
+    Refused(Refusal, Layer),
+}
+
+// What creating a layer answers.
+pub enum Created {
+    Done(Layer),
+    Refused(Refusal),
+}
+
+// What a call answers that asks for a number.
+pub enum Counted {
+    Is(usize),
+    Refused(Refusal, Layer),
+}
+
+// Where the name stands among the texts.
+pub enum Named {
+    At(Text),
+    Refused(Refusal, Layer),
+}
+
+impl Layer {
+    pub const MAX_KEYS: usize = 65536;
+
+    pub const MAX_VALUES: usize = 65536;
+
+    pub const MAX_TEXTS: usize = 4294967295;
+
+    pub const MAX_FEATURE_WORDS: usize = 4294967295;
+
+    // The room in lists of these lengths: the smaller of the length and the cap, in what the figures count.
+    pub fn room(keys: usize, values: usize, texts: usize, features: usize) -> Figures
+        ensures { λ r. ⌜ r ≡ roomOf keys values texts features ⌝ }
+    {
+        Figures {
+            keys: smaller(keys / 2, Layer::MAX_KEYS),
+            values: smaller(values / 3, Layer::MAX_VALUES),
+            texts: smaller(texts, Layer::MAX_TEXTS),
+            features: smaller(features, Layer::MAX_FEATURE_WORDS),
+        }
+    }
+
+    // Whether figures fit into lists of these lengths, caps and all.
+    pub fn has_room_for(
+        u: Figures,
+        keys: usize,
+        values: usize,
+        texts: usize,
+        features: usize,
+    ) -> bool
+        ensures { λ r. ⌜ r ≡ fits u (roomOf keys values texts features) ⌝ }
+    {
+        let room = Layer::room(keys, values, texts, features);
+        fits_in(u, room)
+    }
+
+    // A layer without features. Its name becomes the first text.
+    pub fn new(name: &[u8], extent: u32, texts: &mut [u8]) -> Created
+        ensures { λ r. ⌜ Gives (created (now (name .entry)) extent (now (texts .entry))) (saidCreated r) (now (texts .exit)) ⌝ }
+    {
+        let len = name.len();
+        if !Text::may_have(len) {
+            return Created::Refused(Refusal::Text);
+        }
+        if smaller(texts.len(), Layer::MAX_TEXTS) < len {
+            return Created::Refused(Refusal::Room);
+        }
+        runs::lay_bytes(name, texts, 0);
+        let used = Figures {
+            keys: 0,
+            values: 0,
+            texts: len,
+            features: 0,
+        };
+        Created::Done(Layer {
+            extent: extent,
+            name: len,
+            used: used,
+            feature: Open::Shut,
+        })
+    }
+}
+
+fn smaller(a: usize, b: usize) -> usize
+    ensures { λ r. ⌜ r ≡ smaller a b ⌝ }
+{
+    if a <= b {
+        return a;
+    }
+    b
+}
+
+// Whether no figure exceeds the other's.
+pub fn fits_in(a: Figures, b: Figures) -> bool
+    ensures { λ r. ⌜ r ≡ fits a b ⌝ }
+{
+    (a.keys <= b.keys)
+        & ((a.values <= b.values) & ((a.texts <= b.texts) & (a.features <= b.features)))
+}

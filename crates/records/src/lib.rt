@@ -1,0 +1,62 @@
+// The feature records of a layer, in a lent list of words: six words (kind, id mark, id low, id high, tag word count, geometry word count), then the
+// geometry, then the tag words.
+ghost use mathlib.Core.Path.{_≡_};
+ghost use Rattle.records.specs.Records.{headOk, recordEnd, recordsIn, oneRecord};
+use table::Found;
+use words::geometry::Geometry;
+
+// Whether a record may start with this kind and this id mark.
+fn head_ok(kind: u32, mark: u32) -> bool
+    ensures { λ r. ⌜ r ≡ headOk kind mark ⌝ }
+{
+    let geometry = Geometry { kind: kind };
+    geometry.is_good() & (mark <= 1)
+}
+
+// Where the record at index i ends, if a whole one stands there.
+pub fn record_end(ws: &[u32], i: usize) -> Found
+    ensures { λ r. ⌜ r ≡ recordEnd (now (ws .entry)) i ⌝ }
+{
+    if ws.len() < 6 {
+        return Found::Nothing;
+    }
+    if ws.len() - 6 < i {
+        return Found::Nothing;
+    }
+    if !head_ok(ws[i], ws[i + 1]) {
+        return Found::Nothing;
+    }
+    let tags = table::wide(ws[i + 4]);
+    let geometry = table::wide(ws[i + 5]);
+    let long = 6 + tags + geometry;
+    if ws.len() - i < long {
+        return Found::Nothing;
+    }
+    Found::At(i + long)
+}
+
+// How many records there are, if they follow each other exactly to the end.
+pub fn count(ws: &[u32]) -> Found
+    ensures { λ r. ⌜ r ≡ recordsIn 0 0 (now (ws .entry)) ⌝ }
+{
+    let mut i = 0;
+    let mut n = 0;
+    while i < ws.len() {
+        match record_end(ws, i) {
+            Found::At(e) => i = e,
+            Found::Nothing => return Found::Nothing,
+        }
+        n += 1;
+    }
+    Found::At(n)
+}
+
+// Whether one record stands at index i and ends where the list ends.
+pub fn is_last(ws: &[u32], i: usize) -> bool
+    ensures { λ r. ⌜ r ≡ oneRecord (now (ws .entry)) i ⌝ }
+{
+    match record_end(ws, i) {
+        Found::At(e) => e == ws.len(),
+        Found::Nothing => false,
+    }
+}

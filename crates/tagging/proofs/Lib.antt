@@ -1,0 +1,3 @@
+pub mod Putting
+pub mod Tagging
+pub mod Present

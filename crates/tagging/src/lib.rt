@@ -1,0 +1,217 @@
+// The step behind each tag call on a layer: what is found, ROOM, and then the key, the value and the two words of the tag. It asks of STATE only what costs
+// nothing; looking a key or a value up scans its table once.
+ghost use mathlib.Core.Path.{_≡_};
+ghost use mathlib.Core.List.{[], _∷_};
+ghost use Prim.Native.Nat.{_+_, _≤_};
+ghost use lib.ListN.{length, getD, set};
+ghost use Rattle.promise.specs.Answers.{Gives};
+ghost use Rattle.promise.specs.Laid.{lay};
+ghost use Rattle.table.specs.Texts.{maxBytes};
+ghost use Rattle.layer.specs.Held.{maxTexts, mem, seen, written};
+ghost use Rattle.layer.specs.Answers.{saidChanged};
+ghost use Rattle.layer.specs.Calls.{grownBy, keyWords, storedAs, valueWords, tagged, recordAt, taggedIn};
+ghost use Rattle.tagging.specs.Steps.{Grows, Small, EntryRoom, Puts, PairRoom, TagRoom, laidTag, Ready};
+use layer::Changed;
+use layer::Figures;
+use layer::Layer;
+use layer::asking::index_of;
+use refusal::Refusal;
+use runs::has_room;
+use runs::lay_bytes;
+use runs::lay_words;
+use table::Found;
+use table::Text;
+use table::Value;
+
+fn more_of(f: Found, n: usize) -> usize
+    ensures { λ r. ⌜ Grows f n r ⌝ }
+{
+    match f {
+        Found::At(_) => 0,
+        Found::Nothing => n,
+    }
+}
+
+// The figures after a tag, reckoned without a limit on room.
+fn grown(u: Figures, kf: Found, vf: Found, key: usize, text: usize) -> Figures
+    requires { ⌜ Small u key text ⌝ }
+    ensures { λ r. ⌜ r ≡ grownBy u kf vf key text ⌝ }
+{
+    Figures {
+        keys: u.keys + more_of(kf, 1),
+        values: u.values + more_of(vf, 1),
+        texts: u.texts + more_of(kf, key) + more_of(vf, text),
+        features: u.features + 2,
+    }
+}
+
+// A key that was not found goes last, and so does its text.
+fn put_key(f: Found, key: &[u8], at: usize, start: usize, keys: &mut [u32], texts: &mut [u8])
+    requires { ⌜ EntryRoom f 2 (length (now key)) at start (length (now keys)) (length (now texts)) ⌝ }
+    ensures { λ _. ⌜ Puts f (keyWords start (now (key .entry))) (now (key .entry)) at start (now (keys .entry)) (now (texts .entry)) (now (keys .exit)) (now (texts .exit)) ⌝ }
+{
+    match f {
+        Found::At(_) => {}
+        Found::Nothing => {
+            let words = [start as u32, key.len() as u32];
+            lay_words(&words, keys, at);
+            lay_bytes(key, texts, start);
+        }
+    }
+}
+
+// The words that a value is stored as, where its text, if it is one, starts at start.
+fn stored_as(start: usize, v: Value, len: usize) -> Value
+    requires { ⌜ (start ≤ maxTexts) × (len ≤ maxBytes) ⌝ }
+    ensures { λ r. ⌜ r ≡ storedAs start v len ⌝ }
+{
+    if v.kind == Value::TEXT {
+        return Value {
+            kind: Value::TEXT,
+            low: start as u32,
+            high: len as u32,
+        };
+    }
+    v
+}
+
+// A value that was not found goes last, and so does its text.
+fn put_value(
+    f: Found,
+    v: Value,
+    text: &[u8],
+    at: usize,
+    start: usize,
+    values: &mut [u32],
+    texts: &mut [u8],
+)
+    requires { ⌜ EntryRoom f 3 (length (now text)) at start (length (now values)) (length (now texts)) ⌝ }
+    ensures { λ _. ⌜ Puts f (valueWords start v (now (text .entry))) (now (text .entry)) at start (now (values .entry)) (now (texts .entry)) (now (values .exit)) (now (texts .exit)) ⌝ }
+{
+    match f {
+        Found::At(_) => {}
+        Found::Nothing => {
+            let w = stored_as(start, v, text.len());
+            let words = [w.kind, w.low, w.high];
+            lay_words(&words, values, at);
+            lay_bytes(text, texts, start);
+        }
+    }
+}
+
+// The two words of a tag go last, and the record at index at counts them.
+fn put_pair(at: usize, end: usize, k: usize, v: usize, features: &mut [u32])
+    requires { ⌜ PairRoom at end k v (now features) ⌝ }
+    ensures { λ _. ⌜ now (features .exit) ≡ set (lay end (k ∷ v ∷ []) (now (features .entry))) (at + 4) (getD (now (features .entry)) (at + 4) 0 + 2) ⌝ }
+{
+    let count = features[at + 4];
+    let words = [k as u32, v as u32];
+    lay_words(&words, features, end);
+    features[at + 4] = count + 2;
+}
+
+// A tag that has room: the key, then the value, then the two words.
+fn put_tag(
+    u: Figures,
+    o: Figures,
+    kf: Found,
+    vf: Found,
+    key: &[u8],
+    v: Value,
+    text: &[u8],
+    keys: &mut [u32],
+    values: &mut [u32],
+    texts: &mut [u8],
+    features: &mut [u32],
+)
+    requires { ⌜ TagRoom u o kf vf (length (now key)) (length (now text)) (mem (now keys) (now values) (now texts) (now features)) ⌝ }
+    ensures { λ _. ⌜ mem (now (keys .exit)) (now (values .exit)) (now (texts .exit)) (now (features .exit)) ≡ laidTag u o kf vf (record { key = now (key .entry); value = v; text = now (text .entry) }) (mem (now (keys .entry)) (now (values .entry)) (now (texts .entry)) (now (features .entry))) ⌝ }
+{
+    let k = u.keys * 2;
+    let e = u.values * 3;
+    let t = u.texts;
+    put_key(kf, key, k, t, keys, texts);
+    let start = t + more_of(kf, key.len());
+    put_value(vf, v, text, e, start, values, texts);
+    let ki = index_of(kf, u.keys);
+    let vi = index_of(vf, u.values);
+    put_pair(o.features, u.features, ki, vi, features);
+}
+
+// A tag of the feature opened at o, if it has room.
+fn tag_ready(
+    s: Layer,
+    o: Figures,
+    key: &[u8],
+    v: Value,
+    text: &[u8],
+    keys: &mut [u32],
+    values: &mut [u32],
+    texts: &mut [u8],
+    features: &mut [u32],
+) -> Changed
+    requires { ⌜ Ready s o (length (now key)) (length (now text)) (mem (now keys) (now values) (now texts) (now features)) ⌝ }
+    ensures { λ r. ⌜ Gives (written (tagged (record { key = now (key .entry); value = v; text = now (text .entry) }) (seen s (mem (now (keys .entry)) (now (values .entry)) (now (texts .entry)) (now (features .entry)))) o) s (mem (now (keys .entry)) (now (values .entry)) (now (texts .entry)) (now (features .entry)))) (saidChanged r) (mem (now (keys .exit)) (now (values .exit)) (now (texts .exit)) (now (features .exit))) ⌝ }
+{
+    let u = s.used;
+    let k = u.keys * 2;
+    let e = u.values * 3;
+    let t = u.texts;
+    let kf = table::key_pos(&keys[..k], &texts[..t], key);
+    let vf = table::val_pos(&values[..e], &texts[..t], v, text);
+    let after = grown(u, kf, vf, key.len(), text.len());
+    if !Layer::has_room_for(after, keys.len(), values.len(), texts.len(), features.len()) {
+        return Changed::Refused(Refusal::Room, s);
+    }
+    put_tag(u, o, kf, vf, key, v, text, keys, values, texts, features);
+    let f = s.feature;
+    Changed::Done(Layer {
+        extent: s.extent,
+        name: s.name,
+        used: after,
+        feature: f,
+    })
+}
+
+// Whether six words and the tag words that they count stand at index at of the used words, which end at end.
+fn has_record(ws: &[u32], at: usize, end: usize) -> bool
+    requires { ⌜ length (now ws) ≡ end ⌝ }
+    ensures { λ r. ⌜ r ≡ recordAt (now (ws .entry)) at end ⌝ }
+{
+    if !has_room(at, 6, end) {
+        return false;
+    }
+    let tags = table::wide(ws[at + 4]);
+    has_room(at + 6, tags, end)
+}
+
+// What each tag call does once it may, of the feature opened at o; of STATE it asks only what costs nothing.
+pub fn tag(
+    s: Layer,
+    o: Figures,
+    key: &[u8],
+    v: Value,
+    text: &[u8],
+    keys: &mut [u32],
+    values: &mut [u32],
+    texts: &mut [u8],
+    features: &mut [u32],
+) -> Changed
+    ensures { λ r. ⌜ Gives (written (taggedIn (record { key = now (key .entry); value = v; text = now (text .entry) }) (seen s (mem (now (keys .entry)) (now (values .entry)) (now (texts .entry)) (now (features .entry)))) o) s (mem (now (keys .entry)) (now (values .entry)) (now (texts .entry)) (now (features .entry)))) (saidChanged r) (mem (now (keys .exit)) (now (values .exit)) (now (texts .exit)) (now (features .exit))) ⌝ }
+{
+    let used = s.used;
+    if !Layer::has_room_for(used, keys.len(), values.len(), texts.len(), features.len()) {
+        return Changed::Refused(Refusal::State, s);
+    }
+    let w = used.features;
+    if !has_record(&features[..w], o.features, w) {
+        return Changed::Refused(Refusal::State, s);
+    }
+    if !Text::may_have(key.len()) {
+        return Changed::Refused(Refusal::Text, s);
+    }
+    if !Text::may_have(text.len()) {
+        return Changed::Refused(Refusal::Text, s);
+    }
+    tag_ready(s, o, key, v, text, keys, values, texts, features)
+}

@@ -1,0 +1,38 @@
+// The value of a tag, from the content of its kind.
+ghost use mathlib.Core.Path.{_≡_};
+ghost use Rattle.layer.specs.Calls.{valueOf, bitsOf, bitOf};
+use layer::halves::high;
+use layer::halves::low;
+use table::Value;
+
+// The low and the high half of a content of this kind.
+pub fn value_of(kind: u32, bits: u64) -> Value
+    ensures { λ r. ⌜ r ≡ valueOf kind bits ⌝ }
+{
+    Value {
+        kind: kind,
+        low: low(bits),
+        high: high(bits),
+    }
+}
+
+// A whole number's 64 bits.
+pub fn bits_of(x: i64) -> u64
+    ensures { λ r. ⌜ r ≡ bitsOf x ⌝ }
+{
+    if x < 0 {
+        let m = -1 - x;
+        return 18446744073709551615 - (m as u64);
+    }
+    x as u64
+}
+
+// A bool's one bit.
+pub fn bit_of(b: bool) -> u64
+    ensures { λ r. ⌜ r ≡ bitOf b ⌝ }
+{
+    if b {
+        return 1;
+    }
+    0
+}

@@ -1,0 +1,4 @@
+pub mod Running
+pub mod Nested
+pub mod Texts
+pub mod Values
