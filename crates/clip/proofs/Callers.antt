@@ -5,6 +5,7 @@
 --     answer-is never-refused                       a good box and ends within the limit: r is `Done (clip b s)`, and no refusal
 --     answered was-good were-coords demand-clip     where r is `Done c`: c is the clip's, box and ends were good, and demand 3 holds of c
 --     clip-coord0 clip-coord1 clip-within           the clipped segment's ends lie within the limit
+--     clip-inside                                   a segment with no end outside an edge stays as it is
 use mathlib.Core.Path.{_≡_, refl, sym, _∙_, ap, subst}
 use mathlib.Core.Bool.{Bool, true, false, cond, _&&_}
 use mathlib.Core.List.{List, [], _∷_}
@@ -22,12 +23,14 @@ use Rattle.refusal.proofs.Laws.{one-refusal, never-both}
 use Rattle.clip.specs.declared.Pt.{Pt}
 use Rattle.clip.specs.declared.Seg.{Seg}
 use Rattle.clip.specs.declared.BBox.{BBox}
+use Rattle.clip.specs.declared.Crossing.{Crossing}
+use Rattle.clip.specs.declared.Crossing.the-variants.{Missing, At}
 use Rattle.clip.specs.declared.ClippedSeg.{ClippedSeg}
 use Rattle.clip.specs.declared.Clipped.{Clipped}
 use Rattle.clip.specs.declared.Clipped.the-variants.{Done, Refused}
 use Rattle.clip.specs.Domain.{limit, within, isCoord, isGood}
 use Rattle.clip.specs.Facts.{Within, Coord, Good}
-use Rattle.clip.specs.Cutting.{clip}
+use Rattle.clip.specs.Cutting.{crossAtX, crossAtY, replace, cutXMin, cutXMax, cutYMin, cutYMax, cuts, overlap, clip}
 use Rattle.clip.specs.Answer.{saidClipped, areCoords, clipped}
 use Rattle.clip.specs.Demand3.{Demand3, Inside, Placed, Moved}
 use Rattle.clip.proofs.Tests.{le-is, lt-is, both, both-is}
@@ -140,3 +143,32 @@ pub clip-within : (b : BBox) (s : Seg) → isGood b ≡ true → areCoords s ≡
 clip-within b s g e =
     let k = both (isCoord (s .p0)) (isCoord (s .p1)) e in
     both-is (coord-is (clip-coord0 s (good-facts g) (coord-facts (k .0)))) (coord-is (clip-coord1 s (good-facts g) (coord-facts (k .1))))
+
+-- ---- a segment with no end strictly outside an edge stays as it is
+pub record Kept (b : BBox) (p : Pt) : Type 0 where
+  pub left : ltZ (p .x) (b .«x_min») ≡ false
+  pub right : ltZ (b .«x_max») (p .x) ≡ false
+  pub down : ltZ (p .y) (b .«y_min») ≡ false
+  pub up : ltZ (b .«y_max») (p .y) ≡ false
+
+uncut : (s : Seg) (u v : Bool) (w : Crossing) → u ≡ false → v ≡ false → replace u v s w ≡ s
+uncut s u v Missing e f = refl
+uncut s u v (At p) e f = rw (e, f)
+
+either : (t : Bool) (s : Seg) → cond t s s ≡ s
+either true s = refl
+either false s = refl
+
+module _ (b : BBox) (s : Seg) (h : Kept b (s .p0)) (k : Kept b (s .p1)) where
+  cuts-inside : cuts b s ≡ s
+  unfolding cuts
+  cuts-inside =
+      let e1 : cutXMin b s ≡ s = uncut s (ltZ (s .p0 .x) (b .«x_min»)) (ltZ (s .p1 .x) (b .«x_min»)) (crossAtX (s .p0) (s .p1) (b .«x_min») (b .«y_min») (b .«y_max»)) (h .left) (k .left) in
+      let e2 : cutXMax b s ≡ s = uncut s (ltZ (b .«x_max») (s .p0 .x)) (ltZ (b .«x_max») (s .p1 .x)) (crossAtX (s .p0) (s .p1) (b .«x_max») (b .«y_min») (b .«y_max»)) (h .right) (k .right) in
+      let e3 : cutYMin b s ≡ s = uncut s (ltZ (s .p0 .y) (b .«y_min»)) (ltZ (s .p1 .y) (b .«y_min»)) (crossAtY (s .p0) (s .p1) (b .«y_min») (b .«x_min») (b .«x_max»)) (h .down) (k .down) in
+      let e4 : cutYMax b s ≡ s = uncut s (ltZ (b .«y_max») (s .p0 .y)) (ltZ (b .«y_max») (s .p1 .y)) (crossAtY (s .p0) (s .p1) (b .«y_max») (b .«x_min») (b .«x_max»)) (h .up) (k .up) in
+      ap (λ (t : Seg). cutYMax b (cutYMin b (cutXMax b t))) e1 ∙ ap (λ (t : Seg). cutYMax b (cutYMin b t)) e2 ∙ ap (λ (t : Seg). cutYMax b t) e3 ∙ e4
+
+  pub clip-inside : clip b s .seg ≡ s
+  unfolding clip
+  clip-inside = rw cuts-inside (either (overlap b s) s)

@@ -1,8 +1,11 @@
 -- Laws of the boundary points: what the clip gives for a good state, and what each `return` is.
-use mathlib.Core.Path.{_≡_, sym, _∙_, ap}
-use mathlib.Core.Bool.{Bool, true, false}
+use Prim.Native.Nat.{ℕ}
+use mathlib.Core.Path.{_≡_, refl, sym, _∙_, ap}
+use mathlib.Core.Bool.{Bool, true, false, not, _||_}
 use mathlib.Core.List.{[], _∷_}
+use native.Mathlib.Omega.{arith}
 use borrow.Author.Tests.{eq-eqb, ne-eqb}
+use lib.Signed.{ltZ}
 use Rattle.refusal.specs.declared.Refusal.{Refusal}
 use Rattle.clip.specs.declared.Pt.{Pt}
 use Rattle.clip.specs.declared.Seg.{Seg}
@@ -13,7 +16,7 @@ use Rattle.clip.specs.declared.Clipped.the-variants.{Done, Refused}
 use Rattle.clip.specs.Domain.{isCoord, isGood}
 use Rattle.clip.specs.Cutting.{clip}
 use Rattle.clip.specs.Answer.{areCoords, saidClipped, clipped}
-use Rattle.clip.proofs.Callers.{answer-is, never-refused}
+use Rattle.clip.proofs.Callers.{answer-is, never-refused, Kept, clip-inside}
 use Rattle.encoder.specs.declared.MaybePt.{MaybePt}
 use Rattle.encoder.specs.declared.MaybePt.the-variants.{Nowhere, At}
 use Rattle.encoder.specs.declared.GeomEncoder.{GeomEncoder}
@@ -21,7 +24,8 @@ use Rattle.encoder.specs.declared.Ends.{Ends}
 use Rattle.encoder.specs.States.{inLimit}
 use Rattle.encoder.specs.Emitting.{samePt}
 use Rattle.encoder.specs.Adding.{moved, movedEnds, boundary}
-use Rattle.encoder.specs.Planning.{listOf, endsOf}
+use Rattle.encoder.specs.Planning.{listOf, endsOf, outside}
+use Rattle.encoder.proofs.Points.{eqZ-refl}
 
 -- ---- the clip is answered
 module _ (s : Seg) (b : BBox) (g : isGood b ≡ true) (e : areCoords s ≡ true) (r : Clipped) (h : saidClipped r ≡ clipped s b) where
@@ -42,6 +46,32 @@ module _ (raw end : Pt) (t : Bool) (e : t ≡ samePt raw end) where
 pub both-ends : (raw cut cut′ : Seg) (first second : MaybePt) → cut ≡ cut′ → listOf first ≡ moved (raw .p0) (cut .p0) → listOf second ≡ moved (raw .p1) (cut .p1) →
     endsOf (record { first = first; second = second }) ≡ movedEnds raw cut′
 both-ends raw cut cut′ first second e f g = rw (f, g, e)
+
+-- ---- a segment inside the box brings none
+kept-in : (b : BBox) (p : Pt) → outside b p ≡ false → Kept b p
+kept-in b p e = by (ltZ (p .x) (b .«x_min»)) (ltZ (b .«x_max») (p .x)) (ltZ (p .y) (b .«y_min»)) (ltZ (b .«y_max») (p .y)) e refl refl refl refl
+  where
+    by : (m n o q : Bool) → (m || n || o || q) ≡ false → ltZ (p .x) (b .«x_min») ≡ m → ltZ (b .«x_max») (p .x) ≡ n → ltZ (p .y) (b .«y_min») ≡ o → ltZ (b .«y_max») (p .y) ≡ q → Kept b p
+    by false false false false f g h i j = record { left = g; right = h; down = i; up = j }
+    by true n o q f g h i j = absurd (let z : _≡_ {A = ℕ} 0 1 = cc in omega arith)
+    by false true o q f g h i j = absurd (let z : _≡_ {A = ℕ} 0 1 = cc in omega arith)
+    by false false true q f g h i j = absurd (let z : _≡_ {A = ℕ} 0 1 = cc in omega arith)
+    by false false false true f g h i j = absurd (let z : _≡_ {A = ℕ} 0 1 = cc in omega arith)
+
+same-self : (p : Pt) → samePt p p ≡ true
+same-self p = rw (eqZ-refl (p .x), eqZ-refl (p .y))
+
+stays : (raw cut : Seg) → cut ≡ raw → [] ≡ movedEnds raw cut
+stays raw cut e = rw (e, same-self (raw .p0), same-self (raw .p1))
+
+module _ (raw : Seg) (b : BBox) (t u : Bool) (e : t ≡ outside b (raw .p0)) (f : u ≡ outside b (raw .p1)) where
+  pub inside-none : not (t || u) ≡ true → [] ≡ movedEnds raw (clip b raw .seg)
+  inside-none h = by t u e f h
+    where
+      by : (m n : Bool) → m ≡ outside b (raw .p0) → n ≡ outside b (raw .p1) → not (m || n) ≡ true → [] ≡ movedEnds raw (clip b raw .seg)
+      by false false g i j = stays raw (clip b raw .seg) (clip-inside b raw (kept-in b (raw .p0) (sym g)) (kept-in b (raw .p1) (sym i)))
+      by true n g i j = absurd (let z : _≡_ {A = ℕ} 0 1 = cc in omega arith)
+      by false true g i j = absurd (let z : _≡_ {A = ℕ} 0 1 = cc in omega arith)
 
 -- ---- the three returns of `add_boundary_points`
 module _ (s : GeomEncoder) (p : Pt) where

@@ -9,12 +9,16 @@ use lib.Dec.{leb, ltb, eqb}
 use lib.ListN.{length}
 use Rattle.promise.specs.Answers.{Gives}
 use Rattle.promise.specs.Laid.{lay}
+use Rattle.promise.proofs.Laying.{lay-nothing}
 use Rattle.promise.proofs.Cases.{gives-kept}
 use Rattle.refusal.specs.declared.Refusal.the-variants.{State, Coord, Empty, Room}
+use Rattle.refusal.specs.Said.{Said}
 use Rattle.clip.specs.declared.Pt.{Pt}
-use Rattle.clip.specs.Domain.{isCoord}
+use Rattle.clip.specs.Domain.{isCoord, isGood}
 use Rattle.words.specs.Geometries.{maxWords, room}
-use Rattle.encoder.specs.declared.MaybePt.the-variants.{At}
+use Rattle.encoder.specs.declared.MaybePt.{MaybePt}
+use Rattle.encoder.specs.declared.MaybePt.the-variants.{Nowhere, At}
+use Rattle.encoder.specs.declared.Run.the-variants.{Nothing}
 use Rattle.encoder.specs.declared.MaybeWord.{MaybeWord}
 use Rattle.encoder.specs.declared.MaybeWord.the-variants.{NoWord, Word}
 use Rattle.encoder.specs.declared.GeomEncoder.{GeomEncoder}
@@ -23,11 +27,11 @@ use Rattle.encoder.specs.declared.Plans.{Plans}
 use Rattle.encoder.specs.declared.Ends.{Ends}
 use Rattle.words.specs.Commands.{commandWord}
 use Rattle.encoder.specs.States.{inLimit, valid}
-use Rattle.encoder.specs.Answers.{done, turned}
-use Rattle.encoder.specs.Emitting.{emission, placeOf, moveTo, lineTo}
-use Rattle.encoder.specs.Adding.{boundary, emitted, ended, added}
+use Rattle.encoder.specs.Answers.{Counted, done, turned, fitting}
+use Rattle.encoder.specs.Emitting.{emission, placeOf, moveTo, lineTo, lastBetween, takenOut}
+use Rattle.encoder.specs.Adding.{boundary, emitted, drawn, ended, added}
 use Rattle.encoder.specs.Completing.{counting, closing, cleared, finished, isEmpty, completed}
-use Rattle.encoder.specs.Planning.{wordOf, planned, endsOf, emissionIf, Ready, Fitting, layPlan, laid, Under, Planned}
+use Rattle.encoder.specs.Planning.{wordOf, planned, listOf, endsOf, missing, alone, emissionIf, Ready, Fitting, endOf, layPlan, laid, Under, Planned}
 use Rattle.encoder.proofs.States.{yes-of, no-of, Valid, valid-facts, valid-ready, room-length, room-cap}
 use Rattle.encoder.proofs.Steps.{Step, emission-step, if-step, emitted-three}
 
@@ -131,28 +135,84 @@ module _ (s : GeomEncoder) (p : Pt) (out : List ℕ) (v : Bool) (e : v ≡ valid
     add-coord k = rw (yes-of v (valid s (length out)) e h, no-of t (isCoord p) f k) (gives-kept (turned Coord s) out)
 
     module _ (k : not t ≡ false) where
-      pub add-ready : Ready maxWords s × ((inLimit (s .«xy_end») ≡ true) × (isCoord p ≡ true))
-      add-ready = let w = valid-facts s (length out) (yes-of v (valid s (length out)) e h) in (valid-ready w, (w .end, yes-of t (isCoord p) f k))
+      facts-in : Valid s (length out)
+      facts-in = valid-facts s (length out) (yes-of v (valid s (length out)) e h)
 
-      module _ (plans : Plans) (P : Planned plans s p) (m : ℕ) (q : m ≡ room (length out)) where
-        pub add-room : m < plans .last .next .used → Gives (added s p out) (turned Room s) out
-        unfolding added
-        add-room l =
-            let b : leb (plans .last .next .used) (room (length out)) ≡ false = lt-leb (plans .last .next .used) (room (length out)) (omega arith) in
-            rw (yes-of v (valid s (length out)) e h, yes-of t (isCoord p) f k, P .emits out, b) (gives-kept (turned Room s) out)
+      pub add-ready : Ready maxWords s
+      add-ready = valid-ready facts-in
 
-        module _ (l : plans .last .next .used ≤ m) where
-          pub add-under : Under plans (length out)
-          add-under =
-              let u = P .under in
-              let g = room-length (length out) in
-              record { first = omega (arith, u .first); second = omega (arith, u .second); last = omega (arith, u .last) }
+      pub add-bounds : (isGood (s .bbox) ≡ true) × ((inLimit (s .«xy_end») ≡ true) × (isCoord p ≡ true))
+      add-bounds = (add-ready .good, (facts-in .end, yes-of t (isCoord p) f k))
 
-          pub add-done : (o : List ℕ) → o ≡ laid plans out → (r : GeomEncoder) → r ≡ ended (plans .last .next) p → Gives (added s p out) (done r) o
-          unfolding added
-          add-done o g r d =
-              let b : leb (plans .last .next .used) (room (length out)) ≡ true = le-leb (plans .last .next .used) (room (length out)) (omega arith) in
-              rw (yes-of v (valid s (length out)) e h, yes-of t (isCoord p) f k, P .emits out, b) (record { answer = ap done d; memory = g })
+      pub add-within : {a : Said Counted} {o : List ℕ} → Gives (fitting s out (drawn s p out)) a o → Gives (added s p out) a o
+      unfolding added
+      add-within g = rw (yes-of v (valid s (length out)) e h, yes-of t (isCoord p) f k) g
+
+-- ---- a point with its boundary points: ROOM, or all of it
+module _ (s : GeomEncoder) (p : Pt) (out : List ℕ) (plans : Plans) (P : Planned plans s p) (m : ℕ) (q : m ≡ room (length out)) where
+  pub cut-room : m < plans .last .next .used → Gives (fitting s out (drawn s p out)) (turned Room s) out
+  cut-room l =
+      let b : leb (plans .last .next .used) (room (length out)) ≡ false = lt-leb (plans .last .next .used) (room (length out)) (omega arith) in
+      rw (P .emits out, b) (gives-kept (turned Room s) out)
+
+  module _ (l : plans .last .next .used ≤ m) where
+    pub cut-under : Under plans (length out)
+    cut-under =
+        let u = P .under in
+        let g = room-length (length out) in
+        record { first = omega (arith, u .first); second = omega (arith, u .second); last = omega (arith, u .last) }
+
+    pub cut-done : (o : List ℕ) → o ≡ laid plans out → (r : GeomEncoder) → r ≡ ended (plans .last .next) p → Gives (fitting s out (drawn s p out)) (done r) o
+    cut-done o g r d =
+        let b : leb (plans .last .next .used) (room (length out)) ≡ true = le-leb (plans .last .next .used) (room (length out)) (omega arith) in
+        rw (P .emits out, b) (record { answer = ap done d; memory = g })
+
+-- ---- a point by itself: as one with two plans before it that lay nothing
+nothing-first : GeomEncoder → Plan
+nothing-first s = record { next = s; at = s .used; run = Nothing }
+
+module _ (s : GeomEncoder) (p : Pt) (R : Ready maxWords s) (b : [] ≡ boundary s p) (plan : Plan) (i : planned plan ≡ emission s p) where
+  only : Plans
+  only = record { first = nothing-first s; second = nothing-first s; last = plan }
+
+  only-planned : Planned only s p
+  unfolding only nothing-first
+  only-planned = point-planned s p R (record { first = Nowhere; second = Nowhere }) (nothing-first s) refl (nothing-first s) refl b plan i
+
+  only-laid : (out : List ℕ) → laid only out ≡ layPlan plan out
+  unfolding only nothing-first
+  only-laid out = rw (lay-nothing (s .used) out, lay-nothing (s .used) out)
+
+  module _ (out : List ℕ) (m : ℕ) (q : m ≡ room (length out)) where
+    pub alone-room : m < plan .next .used → Gives (fitting s out (drawn s p out)) (turned Room s) out
+    unfolding only
+    alone-room l = cut-room s p out only only-planned m q l
+
+    module _ (l : plan .next .used ≤ m) where
+      pub alone-under : endOf plan ≤ length out
+      unfolding only
+      alone-under = cut-under s p out only only-planned m q l .last
+
+      pub alone-done : (o : List ℕ) → o ≡ layPlan plan out → (r : GeomEncoder) → r ≡ ended (plan .next) p → Gives (fitting s out (drawn s p out)) (done r) o
+      unfolding only
+      alone-done o g r d = cut-done s p out only only-planned m q l o (g ∙ sym (only-laid out)) r d
+
+-- neither end there: no boundary point
+pub alone-none : (ends : Ends) (t : Bool) (l : List Pt) → endsOf ends ≡ l → t ≡ alone ends → t ≡ true → [] ≡ l
+alone-none ends t l e a h = by (ends .first) (ends .second) e (sym a ∙ h)
+  where
+    by : (m n : MaybePt) → listOf m ++ listOf n ≡ l → (missing m && missing n) ≡ true → [] ≡ l
+    by Nowhere Nowhere f g = f
+    by Nowhere (At y) f g = absurd (let z : _≡_ {A = ℕ} 0 1 = cc in omega arith)
+    by (At x) n f g = absurd (let z : _≡_ {A = ℕ} 0 1 = cc in omega arith)
+
+-- not a polygon; a polygon
+module _ (s : GeomEncoder) (p : Pt) where
+  pub no-ring : (s .kind ≡ 3 → ⊥) → false ≡ takenOut s p
+  no-ring h = rw (ne-eqb (s .kind) 3 h)
+
+  pub a-ring : (s .kind ≡ 3) → (b : Bool) → b ≡ lastBetween (s .pt0) (s .pt1) p → (leb 2 (s .count) && b) ≡ takenOut s p
+  a-ring h b e = rw (eq-eqb (s .kind) 3 h, e)
 
 -- ---- the returns of `complete`
 module _ (s : GeomEncoder) (out : List ℕ) (v : Bool) (e : v ≡ valid s (length out)) where

@@ -1,12 +1,14 @@
 -- What the code's own values stand for: a run of at most three words as a list, a plan as an emission; and what planning asks of a state.
 use Prim.Native.Nat.{ℕ, _+_, _/_, _≤_, _<_}
 use mathlib.Core.Path.{_≡_}
-use mathlib.Core.Bool.{true}
+use mathlib.Core.Bool.{Bool, true, false, _&&_, _||_}
 use mathlib.Core.List.{List, [], _∷_, _++_}
 use lib.ListN.{length}
+use lib.Signed.{ltZ}
 use Rattle.promise.specs.Answers.{kept}
 use Rattle.promise.specs.Laid.{lay}
 use Rattle.clip.specs.declared.Pt.{Pt}
+use Rattle.clip.specs.declared.BBox.{BBox}
 use Rattle.clip.specs.Domain.{isGood}
 use Rattle.words.specs.Geometries.{maxWords}
 use Rattle.encoder.specs.declared.MaybePt.{MaybePt}
@@ -41,6 +43,18 @@ listOf (At p) = p ∷ []
 
 abbrev pub endsOf : Ends → List Pt
 endsOf e = listOf (e .first) ++ listOf (e .second)
+
+-- strictly outside an edge
+abbrev pub outside : BBox → Pt → Bool
+outside b p = ltZ (p .x) (b .«x_min») || ltZ (b .«x_max») (p .x) || ltZ (p .y) (b .«y_min») || ltZ (b .«y_max») (p .y)
+
+-- no point, and neither end
+abbrev pub missing : MaybePt → Bool
+missing Nowhere = true
+missing (At p) = false
+
+abbrev pub alone : Ends → Bool
+alone e = missing (e .first) && missing (e .second)
 
 -- a point that may be there, emitted
 abbrev pub emissionIf : GeomEncoder → MaybePt → Emission

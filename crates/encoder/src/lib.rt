@@ -17,11 +17,11 @@ ghost use Rattle.words.specs.Commands.{commandWord, idOf};
 ghost use Rattle.words.specs.Geometries.{maxWords};
 ghost use Rattle.words.specs.Params.{param};
 ghost use Rattle.encoder.specs.States.{inLimit, valid};
-ghost use Rattle.encoder.specs.Answers.{saidStarted, started, saidDrawn};
+ghost use Rattle.encoder.specs.Answers.{saidStarted, started, saidDrawn, fitting};
 ghost use Rattle.encoder.specs.Emitting.{clampTo, clamped, samePt, isLast, command, strictly, between, lastBetween, takenOut, popped, lastOf, advanced, pushed, skipped, emission};
-ghost use Rattle.encoder.specs.Adding.{moved, movedEnds, boundary, ended, pointAt, added};
+ghost use Rattle.encoder.specs.Adding.{moved, movedEnds, boundary, drawn, ended, pointAt, added};
 ghost use Rattle.encoder.specs.Completing.{counting, closing, cleared, finished, isEmpty, completed};
-ghost use Rattle.encoder.specs.Planning.{wordOf, wordsOf, planLimit, planned, endOf, layPlan, laid, Under, Planned, listOf, endsOf, emissionIf, Ready, Fitting};
+ghost use Rattle.encoder.specs.Planning.{wordOf, wordsOf, planLimit, planned, endOf, layPlan, laid, Under, Planned, listOf, endsOf, outside, missing, alone, emissionIf, Ready, Fitting};
 use clip::BBox;
 use clip::Clipped;
 use clip::Pt;
@@ -205,8 +205,11 @@ fn should_simplify_point(s: GeomEncoder, p: Pt) -> bool
     let count = s.count;
     let pt0 = s.pt0;
     let pt1 = s.pt1;
+    if kind != Geometry::POLYGON {
+        return false;
+    }
     let between = is_last_between(pt0, pt1, p);
-    (kind == Geometry::POLYGON) & (2 <= count) & between
+    (2 <= count) & between
 }
 
 fn last_of(m: MaybePt) -> Pt
@@ -415,14 +418,36 @@ fn if_moved(raw: Pt, end: Pt) -> MaybePt
     MaybePt::At(end)
 }
 
+// Whether a point lies strictly outside an edge.
+fn is_outside(p: Pt, b: BBox) -> bool
+    ensures { λ r. ⌜ r ≡ outside b p ⌝ }
+{
+    let x = p.x;
+    let y = p.y;
+    let left = b.x_min;
+    let right = b.x_max;
+    let bottom = b.y_min;
+    let top = b.y_max;
+    (x < left) | (right < x) | (y < bottom) | (top < y)
+}
+
+// A segment inside the box is not cut, and need not be clipped to see it.
 fn moved_ends(raw: Seg, bbox: BBox) -> Ends
     requires { ⌜ isGood bbox ≡ true ⌝ }
     requires { ⌜ areCoords raw ≡ true ⌝ }
     ensures { λ r. ⌜ endsOf r ≡ movedEnds raw (clip bbox raw .seg) ⌝ }
 {
-    let cut = clip_raw(raw, bbox);
     let p0 = raw.p0;
     let p1 = raw.p1;
+    let out0 = is_outside(p0, bbox);
+    let out1 = is_outside(p1, bbox);
+    if !(out0 | out1) {
+        return Ends {
+            first: MaybePt::Nowhere,
+            second: MaybePt::Nowhere,
+        };
+    }
+    let cut = clip_raw(raw, bbox);
     let c0 = cut.p0;
     let c1 = cut.p1;
     let first = if_moved(p0, c0);
@@ -457,14 +482,32 @@ fn add_boundary_points(s: GeomEncoder, p: Pt) -> Ends
     }
 }
 
+// Whether there is none.
+fn is_alone(ends: Ends) -> bool
+    ensures { λ r. ⌜ r ≡ alone ends ⌝ }
+{
+    let first = ends.first;
+    let second = ends.second;
+    let a = is_missing(first);
+    let b = is_missing(second);
+    a & b
+}
+
+fn is_missing(m: MaybePt) -> bool
+    ensures { λ r. ⌜ r ≡ missing m ⌝ }
+{
+    match m {
+        MaybePt::Nowhere => true,
+        MaybePt::At(_) => false,
+    }
+}
+
 // ---- a call's plan
-fn plan_point(s: GeomEncoder, p: Pt) -> Plans
+fn plan_point(s: GeomEncoder, p: Pt, ends: Ends) -> Plans
     requires { ⌜ Ready maxWords s ⌝ }
-    requires { ⌜ inLimit (s .«xy_end») ≡ true ⌝ }
-    requires { ⌜ isCoord p ≡ true ⌝ }
+    requires { ⌜ endsOf ends ≡ boundary s p ⌝ }
     ensures { λ r. ⌜ Planned r s p ⌝ }
 {
-    let ends = add_boundary_points(s, p);
     let end0 = ends.first;
     let end1 = ends.second;
     let first = add_if(s, end0);
@@ -634,6 +677,39 @@ fn is_empty(s: GeomEncoder) -> bool
 }
 
 // ---- the calls
+// A point that brings no boundary point: one emission, planned and written by itself. Most points are such.
+fn add_alone(s: GeomEncoder, p: Pt, words: &mut [u32]) -> Drawn
+    requires { ⌜ Ready maxWords s ⌝ }
+    requires { ⌜ [] ≡ boundary s p ⌝ }
+    ensures { λ r. ⌜ Gives (fitting s (now (words .entry)) (drawn s p (now (words .entry)))) (saidDrawn r) (now (words .exit)) ⌝ }
+{
+    let plan = add_tile_point(s, p);
+    let next = plan.next;
+    let room = Geometry::room(words.len());
+    if room < next.used {
+        return Drawn::Refused(Refusal::Room, s);
+    }
+    write_plan(plan, words);
+    Drawn::Done(set_end(next, p))
+}
+
+// A point with its boundary points.
+fn add_cut(s: GeomEncoder, p: Pt, ends: Ends, words: &mut [u32]) -> Drawn
+    requires { ⌜ Ready maxWords s ⌝ }
+    requires { ⌜ endsOf ends ≡ boundary s p ⌝ }
+    ensures { λ r. ⌜ Gives (fitting s (now (words .entry)) (drawn s p (now (words .entry)))) (saidDrawn r) (now (words .exit)) ⌝ }
+{
+    let plans = plan_point(s, p, ends);
+    let last = plans.last;
+    let next = last.next;
+    let room = Geometry::room(words.len());
+    if room < next.used {
+        return Drawn::Refused(Refusal::Room, s);
+    }
+    write_plans(plans, words);
+    Drawn::Done(set_end(next, p))
+}
+
 // STATE, COORD, ROOM; then everything that is written.
 fn add(s: GeomEncoder, p: Pt, words: &mut [u32]) -> Drawn
     ensures { λ r. ⌜ Gives (added s p (now (words .entry))) (saidDrawn r) (now (words .exit)) ⌝ }
@@ -644,15 +720,11 @@ fn add(s: GeomEncoder, p: Pt, words: &mut [u32]) -> Drawn
     if !BBox::is_coord(p) {
         return Drawn::Refused(Refusal::Coord, s);
     }
-    let plans = plan_point(s, p);
-    let last = plans.last;
-    let next = last.next;
-    let room = Geometry::room(words.len());
-    if room < next.used {
-        return Drawn::Refused(Refusal::Room, s);
+    let ends = add_boundary_points(s, p);
+    if is_alone(ends) {
+        return add_alone(s, p, words);
     }
-    write_plans(plans, words);
-    Drawn::Done(set_end(next, p))
+    add_cut(s, p, ends, words)
 }
 
 // STATE, EMPTY, ROOM; then everything that is written.

@@ -1,5 +1,5 @@
--- The definition is the same chain of checks; the plans give the state and the list after the emissions, and their runs end within the room.
-use Rattle.encoder.proofs.Calls.{add-state, add-coord, add-ready, add-room, add-under, add-done}
+-- The definition is the same chain of checks; then the point by itself, or with its boundary points.
+use Rattle.encoder.proofs.Calls.{add-state, add-coord, add-bounds, add-ready, alone-none, add-within}
 use borrow.Author.Needs.{needs}
 use Rattle.encoder.proofs.add.Statement.{statement}
 use Rattle.encoder.proofs.add.Tie as tie
@@ -16,37 +16,55 @@ is-coord-requires c κs = search needs
 returns-2 : tie.Need-returns-2
 returns-2 c = search (needs, add-coord)
 
-plan-point-requires : tie.Need-plan-point-requires
-plan-point-requires c κs =
+add-boundary-points-requires : tie.Need-add-boundary-points-requires
+add-boundary-points-requires c κs =
     let coord = c .before in
     let valid = coord .before .before in
-    add-ready _ _ (valid .before .before .args .words .now) _ (valid .is-valid .ensures) (coord .before .if1 .left) _ (coord .is-coord .ensures) (c .if2 .left)
+    add-bounds _ _ (valid .before .before .args .words .now) _ (valid .is-valid .ensures) (coord .before .if1 .left) _ (coord .is-coord .ensures) (c .if2 .left)
 
-room-requires : tie.Need-room-requires
-room-requires c κs = search needs
+is-alone-requires : tie.Need-is-alone-requires
+is-alone-requires c κs = search needs
 
-returns-3 : tie.Need-returns-3
-returns-3 c = search (needs, add-room)
-
-write-plans-requires : tie.Need-write-plans-requires
-write-plans-requires c κs = search (needs, add-under)
-
-set-end-requires : tie.Need-set-end-requires
-set-end-requires c κs = search needs
+add-alone-requires : tie.Need-add-alone-requires
+add-alone-requires c κs =
+    let alone = c .before .before in
+    let ends = alone .before in
+    let e = ends .before in
+    let coord = e .before in
+    let valid = coord .before .before in (
+      add-ready _ _ (valid .before .before .args .words .now) _ (valid .is-valid .ensures) (coord .before .if1 .left) _ (coord .is-coord .ensures) (e .if2 .left),
+      alone-none (ends .add-boundary-points .result) _ _ (ends .add-boundary-points .ensures) (alone .is-alone .ensures) (c .before .if3 .taken),
+    )
 
 same-length : tie.Need-same-length
 same-length c = search needs
 
+returns-3 : tie.Need-returns-3
+returns-3 c =
+    let told = c .before .before in
+    let e = told .before .before .before .before .before in
+    let coord = e .before in
+    let valid = coord .before .before in
+    add-within _ _ (valid .before .before .args .words .now) _ (valid .is-valid .ensures) (coord .before .if1 .left) _ (coord .is-coord .ensures) (e .if2 .left) (told .add-alone .ensures)
+
+add-cut-requires : tie.Need-add-cut-requires
+add-cut-requires c κs =
+    let ends = c .before .before .before in
+    let e = ends .before in
+    let coord = e .before in
+    let valid = coord .before .before in
+    (add-ready _ _ (valid .before .before .args .words .now) _ (valid .is-valid .ensures) (coord .before .if1 .left) _ (coord .is-coord .ensures) (e .if2 .left), ends .add-boundary-points .ensures)
+
+same-length-2 : tie.Need-same-length-2
+same-length-2 c = search needs
+
 returns-4 : tie.Need-returns-4
 returns-4 c =
-    let write = c .before .before .before in
-    let fits = write .before .before in
-    let room = fits .before .before in
-    let plan = room .before .before .before in
-    let coord = plan .before .before in
+    let told = c .before .before in
+    let e = told .before .before .before .before .before in
+    let coord = e .before in
     let valid = coord .before .before in
-    add-done _ _ (valid .before .before .args .words .now) _ (valid .is-valid .ensures) (coord .before .if1 .left) _ (coord .is-coord .ensures) (plan .before .if2 .left)
-    _ (plan .plan-point .ensures) _ (room .room .ensures) (fits .if3 .left) _ (write .write-plans .ensures) _ (c .set-end .ensures)
+    add-within _ _ (valid .before .before .args .words .now) _ (valid .is-valid .ensures) (coord .before .if1 .left) _ (coord .is-coord .ensures) (e .if2 .left) (told .add-cut .ensures)
 
 pub add-spec : {M : Type 1} → statement M
 add-spec =
@@ -56,10 +74,11 @@ add-spec =
     returns
     is-coord-requires
     returns-2
-    plan-point-requires
-    room-requires
-    returns-3
-    write-plans-requires
-    set-end-requires
+    add-boundary-points-requires
+    is-alone-requires
+    add-alone-requires
     same-length
+    returns-3
+    add-cut-requires
+    same-length-2
     returns-4)

@@ -4,9 +4,6 @@ use borrow.Author.Needs.{needs}
 use Rattle.encoder.proofs.plan_point.Statement.{statement}
 use Rattle.encoder.proofs.plan_point.Tie as tie
 
-add-boundary-points-requires : tie.Need-add-boundary-points-requires
-add-boundary-points-requires c κs = search needs
-
 add-if-requires : tie.Need-add-if-requires
 add-if-requires c κs = search needs
 
@@ -21,10 +18,4 @@ returns c = search (needs, point-planned)
 
 pub plan-point-spec : {M : Type 1} → statement M
 plan-point-spec =
-    tie.close
-    (tie.spec
-    add-boundary-points-requires
-    add-if-requires
-    add-if-requires-2
-    add-tile-point-requires
-    returns)
+    tie.close (tie.spec add-if-requires add-if-requires-2 add-tile-point-requires returns)

@@ -1,0 +1,105 @@
+//! One piece of work, so many times over, by our library or by the Rust: bench WORK ours|rust TIMES
+//! Counting the instructions of two runs and subtracting gives those of the work alone (bench/run does it).
+
+mod works;
+
+use std::hint::black_box;
+use std::process::exit;
+use works::Work;
+
+fn ours(work: &Work, memory: &mut Memory) {
+    match work {
+        Work::Encode {
+            kind,
+            edges,
+            points,
+        } => {
+            let ends = [(points.len() / 2) as u32];
+            black_box(ours::encode_job(
+                *kind,
+                *edges,
+                points,
+                &ends,
+                &mut memory.words,
+            ));
+        }
+        Work::Clip { edges, segments } => {
+            for segment in segments {
+                black_box(ours::clip(*segment, *edges));
+            }
+        }
+        Work::Decode { words } => {
+            black_box(ours::decode(words, &mut memory.numbers));
+        }
+    }
+}
+
+fn rust(work: &Work) {
+    use mvt::{CoordNum, GeomEncoder, GeomType};
+    use pointy::{BBox, Pt, Seg};
+    match work {
+        Work::Encode {
+            kind,
+            edges,
+            points,
+        } => {
+            let geometry =
+                [GeomType::Point, GeomType::Linestring, GeomType::Polygon][*kind as usize - 1];
+            let mut encoder =
+                GeomEncoder::new(geometry).bbox(BBox::new(edges[0], edges[1], edges[2], edges[3]));
+            for point in points.chunks_exact(2) {
+                encoder
+                    .add_point(point[0], point[1])
+                    .expect("whole coordinates are accepted");
+            }
+            black_box(encoder.encode().expect("encoding has no refusal"));
+        }
+        Work::Clip { edges, segments } => {
+            let bbox = BBox::new(edges[0], edges[1], edges[2], edges[3]);
+            for [x0, y0, x1, y1] in segments {
+                let given = Seg::new(Pt::from((*x0, *y0)), Pt::from((*x1, *y1)));
+                black_box(i32::clip(given, bbox));
+            }
+        }
+        Work::Decode { .. } => {
+            eprintln!("the Rust reads no words");
+            exit(2)
+        }
+    }
+}
+
+/// Our lists, lent to every call.
+struct Memory {
+    words: Vec<u32>,
+    numbers: Vec<i32>,
+}
+
+fn main() {
+    let words: Vec<String> = std::env::args().skip(1).collect();
+    let known = match &words[..] {
+        [name, side, times] => works::named(name)
+            .zip(times.parse().ok())
+            .map(|(work, times)| (work, side, times)),
+        _ => None,
+    };
+    let Some((work, side, times)) = known else {
+        eprintln!(
+            "usage: bench WORK ours|rust TIMES\nworks: {}",
+            works::NAMES.join(" ")
+        );
+        exit(2)
+    };
+    let mut memory = Memory {
+        words: vec![0; 1_048_576],
+        numbers: vec![0; 1_048_576],
+    };
+    // Where a symbol of known place in the program was loaded, for bench/where.
+    eprintln!("main at {:x}", main as fn() as usize);
+    let times: usize = times;
+    for _ in 0..times {
+        match side.as_str() {
+            "ours" => ours(black_box(&work), &mut memory),
+            _ => rust(black_box(&work)),
+        }
+    }
+}

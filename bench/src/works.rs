@@ -1,0 +1,136 @@
+//! The pieces of work, by name.
+
+pub enum Work {
+    /// One part.
+    Encode {
+        kind: u32,
+        edges: [i32; 4],
+        points: Vec<i32>,
+    },
+    Clip {
+        edges: [i32; 4],
+        segments: Vec<[i32; 4]>,
+    },
+    Decode {
+        words: Vec<u32>,
+    },
+}
+
+pub const NAMES: &[&str] = &[
+    "line-inside-10",
+    "line-inside-400",
+    "line-inside-100000",
+    "line-crossing-10",
+    "line-crossing-400",
+    "line-crossing-100000",
+    "ring-collinear-10",
+    "ring-collinear-400",
+    "ring-collinear-100000",
+    "clip-inside-1000",
+    "clip-crossing-1000",
+    "clip-missing-1000",
+    "decode-10",
+    "decode-400",
+    "decode-100000",
+];
+
+const EDGES: [i32; 4] = [0, 4096, 0, 4096];
+
+/// Numbers that look like none: the same at every run.
+struct Shaken(u32);
+
+impl Shaken {
+    fn below(&mut self, n: i32) -> i32 {
+        self.0 = self.0.wrapping_mul(1_664_525).wrapping_add(1_013_904_223);
+        ((u64::from(self.0) * n as u64) >> 32) as i32
+    }
+}
+
+/// Points that never leave the box.
+fn inside(count: usize) -> Vec<i32> {
+    let mut shaken = Shaken(1);
+    (0..2 * count).map(|_| 1 + shaken.below(4094)).collect()
+}
+
+/// Every segment crosses the box from one side to the other: two cuts each.
+fn crossing(count: usize) -> Vec<i32> {
+    let mut shaken = Shaken(2);
+    let side = |at: usize| if at % 2 == 0 { -500 } else { 4600 };
+    (0..count)
+        .flat_map(|at| [side(at), 1000 + shaken.below(2000)])
+        .collect()
+}
+
+/// A ring of runs along one axis: of each run of five points three are taken out.
+fn collinear(count: usize) -> Vec<i32> {
+    let step = |at: usize| [(20, 0), (0, 20), (-20, 0), (0, -20)][at / 5 % 4];
+    let (mut x, mut y) = (2000, 2000);
+    let mut points = Vec::new();
+    for at in 0..count {
+        let (dx, dy) = step(at);
+        (x, y) = (x + dx, y + dy);
+        points.extend([x, y]);
+    }
+    points
+}
+
+/// Segments of a thousand, from the points of a line.
+fn segments(points: Vec<i32>) -> Vec<[i32; 4]> {
+    points
+        .windows(4)
+        .step_by(2)
+        .map(|s| [s[0], s[1], s[2], s[3]])
+        .collect()
+}
+
+/// Beside the box on every side, without overlap.
+fn missing() -> Vec<[i32; 4]> {
+    let mut shaken = Shaken(3);
+    let mut beside = |at: usize| match at % 4 {
+        0 => [-9, -2, 0, 4096],
+        1 => [4100, 4200, 0, 4096],
+        2 => [0, 4096, -9, -2],
+        _ => [0, 4096, 4100, 4200 + shaken.below(9)],
+    };
+    (0..1000)
+        .map(|at| beside(at))
+        .map(|[left, right, bottom, top]| [left, bottom, right, top])
+        .collect()
+}
+
+fn encoded(points: &[i32]) -> Vec<u32> {
+    let mut words = vec![0; 1_048_576];
+    let ends = [(points.len() / 2) as u32];
+    let count = ours::encode_job(2, EDGES, points, &ends, &mut words).words;
+    words.truncate(count);
+    words
+}
+
+pub fn named(name: &str) -> Option<Work> {
+    let (kind, count) = name.rsplit_once('-')?;
+    let count: usize = count.parse().ok().filter(|_| NAMES.contains(&name))?;
+    let line = |points| Work::Encode {
+        kind: 2,
+        edges: EDGES,
+        points,
+    };
+    let clip = |segments| Work::Clip {
+        edges: EDGES,
+        segments,
+    };
+    Some(match kind {
+        "line-inside" => line(inside(count)),
+        "line-crossing" => line(crossing(count)),
+        "ring-collinear" => Work::Encode {
+            kind: 3,
+            edges: EDGES,
+            points: collinear(count),
+        },
+        "clip-inside" => clip(segments(inside(count + 1))),
+        "clip-crossing" => clip(segments(crossing(count + 1))),
+        "clip-missing" => clip(missing()),
+        _ => Work::Decode {
+            words: encoded(&inside(count)),
+        },
+    })
+}

@@ -1,0 +1,3 @@
+pub mod Tellings
+pub mod Structs
+pub mod Carrying

@@ -1,0 +1,87 @@
+-- The struct of each answer, by the cases of its enum.
+use Prim.Native.Nat.{ℕ}
+use mathlib.Core.Path.{_≡_}
+use mathlib.Core.Bool.{false}
+use native.Mathlib.Omega.{arith}
+use borrow.Author.Tests.{ne-eqb}
+use lib.Dec.{eqb}
+use lib.IntN.{pos}
+use Rattle.refusal.specs.declared.Refusal.{Refusal}
+use Rattle.refusal.specs.Refusals.{numberOf}
+use Rattle.refusal.proofs.Laws.{numbered}
+use Rattle.clip.specs.declared.ClippedSeg.{ClippedSeg}
+use Rattle.clip.specs.declared.Clipped.{Clipped}
+use Rattle.clip.specs.declared.Clipped.the-variants.{Done as Cut, Refused as NotCut}
+use Rattle.clip.specs.Answer.{saidClipped}
+use Rattle.decoder.specs.declared.Reading.{Reading}
+use Rattle.decoder.specs.declared.Reading.the-variants.{Read, Refused as NotRead}
+use Rattle.decoder.specs.ReadingWords.{saidReading}
+use Rattle.whole_job.specs.declared.Encoded.{Encoded}
+use Rattle.whole_job.specs.declared.Encoded.the-variants.{Words, Refused as NotEncoded}
+use Rattle.whole_job.specs.Jobs.{saidEncoded}
+use Rattle.encoder.specs.declared.GeomEncoder.{GeomEncoder}
+use Rattle.encoder.specs.declared.Started.{Started}
+use Rattle.encoder.specs.declared.Started.the-variants.{Fresh, Refused as NotStarted}
+use Rattle.encoder.specs.declared.Drawn.{Drawn}
+use Rattle.encoder.specs.declared.Drawn.the-variants.{Done, Refused as NotDrawn}
+use Rattle.encoder.specs.Answers.{saidStarted, saidDrawn}
+use Rattle.brinepost.specs.declared.segment.BpClipped.{BpClipped}
+use Rattle.brinepost.specs.declared.vertices.BpReading.{BpReading}
+use Rattle.brinepost.specs.declared.work.BpJob.{BpJob}
+use Rattle.brinepost.specs.declared.state.BpEncoder.{BpEncoder}
+use Rattle.brinepost.specs.declared.calls.BpStarted.{BpStarted}
+use Rattle.brinepost.specs.declared.calls.BpDrawn.{BpDrawn}
+use Rattle.brinepost.specs.Segments.{flatClip}
+use Rattle.brinepost.specs.Works.{flatJob}
+use Rattle.brinepost.specs.Readings.{flatReading}
+use Rattle.brinepost.specs.Carried.{stateTo, nothing}
+use Rattle.brinepost.specs.Drawing.{flatStarted, flatDrawn, flagged}
+
+-- no refusal's number is the 0 of an accepted call
+never-zero : (k : Refusal) → eqb (numberOf k) 0 ≡ false
+never-zero k = ne-eqb (numberOf k) 0 (λ e. omega (arith, numbered k))
+
+module _ (r : Clipped) where
+  pub clip-done : (c : ClippedSeg) → r ≡ Cut c → _≡_ {A = BpClipped} (record { refusal = 0; x0 = c .seg .p0 .x; y0 = c .seg .p0 .y; x1 = c .seg .p1 .x; y1 = c .seg .p1 .y }) (flatClip (saidClipped r))
+  unfolding flatClip
+  clip-done c e = rw e
+
+  pub clip-not : (k : Refusal) (n : ℕ) → r ≡ NotCut k → n ≡ numberOf k → _≡_ {A = BpClipped} (record { refusal = n; x0 = pos 0; y0 = pos 0; x1 = pos 0; y1 = pos 0 }) (flatClip (saidClipped r))
+  unfolding flatClip
+  clip-not k n e h = rw (e, h)
+
+module _ (r : Reading) where
+  pub read-done : (n : ℕ) → r ≡ Read n → _≡_ {A = BpReading} (record { refusal = 0; vertices = n }) (flatReading (saidReading r))
+  unfolding flatReading
+  read-done n e = rw e
+
+  pub read-not : (k : Refusal) (n : ℕ) → r ≡ NotRead k → n ≡ numberOf k → _≡_ {A = BpReading} (record { refusal = n; vertices = 0 }) (flatReading (saidReading r))
+  unfolding flatReading
+  read-not k n e h = rw (e, h)
+
+module _ (r : Encoded) (points : ℕ) where
+  pub job-done : (n : ℕ) → r ≡ Words n → _≡_ {A = BpJob} (record { refusal = 0; points = points; words = n }) (flatJob points (saidEncoded r))
+  unfolding flatJob
+  job-done n e = rw e
+
+  pub job-not : (k : Refusal) (taken n : ℕ) → r ≡ NotEncoded k taken → n ≡ numberOf k → _≡_ {A = BpJob} (record { refusal = n; points = taken; words = 0 }) (flatJob points (saidEncoded r))
+  unfolding flatJob
+  job-not k taken n e h = rw (e, h, never-zero k)
+
+module _ (r : Started) where
+  pub start-done : (s : GeomEncoder) (c : BpEncoder) → r ≡ Fresh s → c ≡ stateTo s → _≡_ {A = BpStarted} (record { refusal = 0; state = c }) (flatStarted (saidStarted r))
+  unfolding flatStarted
+  start-done s c e h = rw (e, h)
+
+  pub start-not : (k : Refusal) (n : ℕ) (c : BpEncoder) → r ≡ NotStarted k → n ≡ numberOf k → c ≡ nothing → _≡_ {A = BpStarted} (record { refusal = n; state = c }) (flatStarted (saidStarted r))
+  unfolding flatStarted
+  start-not k n c e h i = rw (e, h, i)
+
+module _ (given : BpEncoder) (r : Drawn) where
+  pub drawn-done : (s : GeomEncoder) (c : BpEncoder) → r ≡ Done s → c ≡ stateTo s → _≡_ {A = BpDrawn} (record { refusal = 0; words = s .used; state = c }) (flatDrawn given (saidDrawn r))
+  unfolding flatDrawn
+  drawn-done s c e h = rw (e, h)
+
+  pub drawn-not : (k : Refusal) (s : GeomEncoder) (a : BpDrawn) → r ≡ NotDrawn k s → a ≡ flagged given k → a ≡ flatDrawn given (saidDrawn r)
+  unfolding flatDrawn
+  drawn-not k s a e h = rw (e, never-zero k) h

@@ -1,0 +1,61 @@
+-- What C is told follows from what the proved function said: for a call with lent memory, and for one that carries a state by its flags.
+use Prim.Native.Nat.{ℕ}
+use mathlib.Core.Path.{_≡_, refl, sym, _∙_, ap}
+use mathlib.Core.Bool.{Bool, true, false, not}
+use mathlib.Core.List.{List}
+use borrow.Author.Tests.{not-true, not-false}
+use lib.IntN.{ℤ}
+use Rattle.promise.specs.Answers.{Written, Gives}
+use Rattle.refusal.specs.declared.Refusal.the-variants.{State}
+use Rattle.refusal.specs.Said.{Said}
+use Rattle.clip.specs.declared.Seg.{Seg}
+use Rattle.clip.specs.declared.BBox.{BBox}
+use Rattle.clip.specs.declared.Clipped.{Clipped}
+use Rattle.clip.specs.Answer.{saidClipped, clipped}
+use Rattle.encoder.specs.declared.GeomEncoder.{GeomEncoder}
+use Rattle.encoder.specs.declared.Started.{Started}
+use Rattle.encoder.specs.declared.Drawn.{Drawn}
+use Rattle.encoder.specs.Answers.{Counted, saidStarted, started, saidDrawn}
+use Rattle.encoder.specs.Adding.{added, pointAt}
+use Rattle.encoder.specs.Completing.{completed}
+use Rattle.brinepost.specs.declared.segment.BpClipped.{BpClipped}
+use Rattle.brinepost.specs.declared.state.BpEncoder.{BpEncoder}
+use Rattle.brinepost.specs.declared.calls.BpStarted.{BpStarted}
+use Rattle.brinepost.specs.declared.calls.BpDrawn.{BpDrawn}
+use Rattle.brinepost.specs.Telling.{told}
+use Rattle.brinepost.specs.Segments.{flatClip}
+use Rattle.brinepost.specs.Carried.{areFlags, stateOf}
+use Rattle.brinepost.specs.Drawing.{flatStarted, flatDrawn, flagged, unlessFlagged}
+
+pub told-gives : {A B M : Type 0} (f : A → B) (w : Written A M) (a : A) (b : B) (m : M) → Gives w a m → b ≡ f a → Gives (told f w) b m
+unfolding told
+told-gives f w a b m g e = record { answer = e ∙ ap f (g .answer); memory = g .memory }
+
+pub clip-told : (a : Clipped) (s : Seg) (b : BBox) (r : BpClipped) → saidClipped a ≡ clipped s b → r ≡ flatClip (saidClipped a) → r ≡ flatClip (clipped s b)
+clip-told a s b r e h = h ∙ ap flatClip e
+
+pub start-told : (a : Started) (kind : ℕ) (b : BBox) (r : BpStarted) → saidStarted a ≡ started kind b → r ≡ flatStarted (saidStarted a) → r ≡ flatStarted (started kind b)
+start-told a kind b r e h = h ∙ ap flatStarted e
+
+-- ---- a call with a carried state: t is what its flags were answered to be
+module _ (given : BpEncoder) (out : List ℕ) (t : Bool) (e : t ≡ areFlags given) where
+  flags-no : (w : Written (Said Counted) (List ℕ)) (r : BpDrawn) → not t ≡ true → r ≡ flagged given State → Gives (unlessFlagged given out w) r out
+  unfolding unlessFlagged
+  flags-no w r h k = rw (sym e ∙ not-true t h) (record { answer = k; memory = refl })
+
+  flags-yes : (w : Written (Said Counted) (List ℕ)) (a : Drawn) (r : BpDrawn) (m : List ℕ) → not t ≡ false → Gives w (saidDrawn a) m → r ≡ flatDrawn given (saidDrawn a) → Gives (unlessFlagged given out w) r m
+  unfolding unlessFlagged
+  flags-yes w a r m h g k = rw (sym e ∙ not-false t h) (told-gives (flatDrawn given) w (saidDrawn a) r m g k)
+
+  pub add-flagged : (x y : ℤ) (r : BpDrawn) → not t ≡ true → r ≡ flagged given State → Gives (unlessFlagged given out (added (stateOf given) (pointAt x y) out)) r out
+  add-flagged x y r h k = flags-no (added (stateOf given) (pointAt x y) out) r h k
+
+  pub complete-flagged : (r : BpDrawn) → not t ≡ true → r ≡ flagged given State → Gives (unlessFlagged given out (completed (stateOf given) out)) r out
+  complete-flagged r h k = flags-no (completed (stateOf given) out) r h k
+
+  module _ (h : not t ≡ false) (s : GeomEncoder) (k : s ≡ stateOf given) (a : Drawn) (r : BpDrawn) (m : List ℕ) (q : r ≡ flatDrawn given (saidDrawn a)) where
+    pub add-told : (x y : ℤ) → Gives (added s (pointAt x y) out) (saidDrawn a) m → Gives (unlessFlagged given out (added (stateOf given) (pointAt x y) out)) r m
+    add-told x y g = rw (← k) (flags-yes (added s (pointAt x y) out) a r m h g q)
+
+    pub complete-told : Gives (completed s out) (saidDrawn a) m → Gives (unlessFlagged given out (completed (stateOf given) out)) r m
+    complete-told g = rw (← k) (flags-yes (completed s out) a r m h g q)

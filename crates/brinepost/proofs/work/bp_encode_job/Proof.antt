@@ -1,0 +1,24 @@
+-- What the whole job said, with the edges as they were given, and the words as it left them.
+use mir.Facts.{toZ-ofZ}
+use Rattle.brinepost.proofs.Tellings.{told-gives}
+use borrow.Author.Needs.{needs}
+use Rattle.brinepost.proofs.work.bp_encode_job.Statement.{statement}
+use Rattle.brinepost.proofs.work.bp_encode_job.Tie as tie
+
+encode-requires : tie.Need-encode-requires
+encode-requires c κs = search needs
+
+answered-requires : tie.Need-answered-requires
+answered-requires c κs = search needs
+
+same-length : tie.Need-same-length
+same-length c = search needs
+
+returns : tie.Need-returns
+returns c =
+    let e = c .before .before .before in
+    let s = e .before .before .before .before in
+    told-gives _ _ _ _ _ (rw (toZ-ofZ (s .fits .left), toZ-ofZ (s .fits .right), toZ-ofZ (s .fits .bottom), toZ-ofZ (s .fits .top)) at (e .encode .ensures)) (c .answered .ensures)
+
+pub bp-encode-job-spec : {M : Type 1} → statement M
+bp-encode-job-spec = tie.close (tie.spec encode-requires answered-requires same-length returns)

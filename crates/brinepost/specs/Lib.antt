@@ -1,0 +1,6 @@
+pub mod Telling
+pub mod Segments
+pub mod Works
+pub mod Readings
+pub mod Carried
+pub mod Drawing

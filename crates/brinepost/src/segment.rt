@@ -1,0 +1,72 @@
+// A segment cut at a box, from C: eight numbers go in, the refusal and four numbers come back.
+ghost use mathlib.Core.Path.{_≡_};
+ghost use Rattle.clip.specs.Answer.{saidClipped, clipped};
+ghost use Rattle.brinepost.specs.Segments.{segAt, boxAt, flatClip};
+use clip::BBox;
+use clip::Clipped;
+use clip::Pt;
+use clip::Seg;
+
+#[repr(C)]
+pub struct BpClipped {
+    pub refusal: u32,
+    pub x0: i32,
+    pub y0: i32,
+    pub x1: i32,
+    pub y1: i32,
+}
+
+fn answered(r: Clipped) -> BpClipped
+    ensures { λ a. ⌜ a ≡ flatClip (saidClipped r) ⌝ }
+{
+    match r {
+        Clipped::Done(c) => {
+            let seg = c.seg;
+            let p0 = seg.p0;
+            let p1 = seg.p1;
+            let x0 = p0.x;
+            let y0 = p0.y;
+            let x1 = p1.x;
+            let y1 = p1.y;
+            BpClipped {
+                refusal: 0,
+                x0: x0,
+                y0: y0,
+                x1: x1,
+                y1: y1,
+            }
+        }
+        Clipped::Refused(k) => BpClipped {
+            refusal: refusal::number(k),
+            x0: 0,
+            y0: 0,
+            x1: 0,
+            y1: 0,
+        },
+    }
+}
+
+// The segment from (x0, y0) to (x1, y1), cut at the box: BOX, then COORD, else the clipped segment.
+#[no_mangle]
+pub extern "C" fn bp_clip(
+    x0: i32,
+    y0: i32,
+    x1: i32,
+    y1: i32,
+    left: i32,
+    right: i32,
+    bottom: i32,
+    top: i32,
+) -> BpClipped
+    ensures { λ r. ⌜ r ≡ flatClip (clipped (segAt x0 y0 x1 y1) (boxAt left right bottom top)) ⌝ }
+{
+    let p0 = Pt { x: x0, y: y0 };
+    let p1 = Pt { x: x1, y: y1 };
+    let bbox = BBox {
+        x_min: left,
+        x_max: right,
+        y_min: bottom,
+        y_max: top,
+    };
+    answered(clip::clip(Seg { p0: p0, p1: p1 }, bbox))
+}

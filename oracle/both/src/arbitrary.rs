@@ -1,0 +1,284 @@
+//! Arbitrary states, lists and job files through our library: no crash, only answers of the table, every guard unharmed.
+
+use crate::cases;
+use crate::judge::{Job, LIMIT};
+use crate::lent::Lent;
+use crate::random::Random;
+use crate::report::{Difference, Tally};
+use ours::{Encoder, Point};
+
+/// What each call may refuse, by document 01's table.
+const CLIP: &[u32] = &[0, 3, 5];
+const NEW: &[u32] = &[0, 2, 3];
+const ADD: &[u32] = &[0, 4, 5, 7];
+const COMPLETE: &[u32] = &[0, 4, 6, 7];
+const WHOLE: &[u32] = &[0, 1, 2, 3, 5, 6, 7];
+const READ: &[u32] = &[0, 7, 8, 9, 10];
+
+/// A number: any bits, a small one, or one at a boundary.
+fn number(random: &mut Random) -> u32 {
+    match random.below(4) {
+        0 => random.next() as u32,
+        1 => random.below(12) as u32,
+        2 => (random.between(-12, 12)) as u32,
+        _ => {
+            let edge = random.pick(&[
+                0,
+                i64::from(LIMIT),
+                -i64::from(LIMIT),
+                i64::from(i32::MAX),
+                i64::from(i32::MIN),
+            ]);
+            (edge + random.between(-2, 2)) as u32
+        }
+    }
+}
+
+fn signed(random: &mut Random) -> i32 {
+    number(random) as i32
+}
+
+/// A figure of a state: around a list's length, or anything.
+fn figure(random: &mut Random, near: usize) -> usize {
+    match random.below(6) {
+        0 => random.next() as usize,
+        1 => 1 << random.below(64),
+        2 => random.below(4),
+        _ => (near + 3).saturating_sub(random.below(7)),
+    }
+}
+
+fn edges(random: &mut Random) -> [i32; 4] {
+    if random.chance(3) {
+        return [0; 4].map(|_| signed(random));
+    }
+    let (x, y) = (
+        random.between(-20, 20) as i32,
+        random.between(-20, 20) as i32,
+    );
+    [
+        x,
+        x + random.between(0, 20) as i32,
+        y,
+        y + random.between(0, 20) as i32,
+    ]
+}
+
+fn point(random: &mut Random) -> Point {
+    let is_set = if random.chance(8) {
+        number(random)
+    } else {
+        random.below(2) as u32
+    };
+    let tame = !random.chance(6);
+    let mut coordinate = || {
+        if tame {
+            random.between(-25, 25) as i32
+        } else {
+            signed(random)
+        }
+    };
+    Point {
+        is_set,
+        x: coordinate(),
+        y: coordinate(),
+    }
+}
+
+fn state(random: &mut Random, room: usize) -> Encoder {
+    let near = random.below(room + 1);
+    let used = figure(random, near);
+    let last = used.min(1 << 20).saturating_sub(random.below(5));
+    let [x_min, x_max, y_min, y_max] = edges(random);
+    Encoder {
+        kind: if random.chance(8) {
+            number(random)
+        } else {
+            random.between(1, 3) as u32
+        },
+        count: figure(random, (used / 2).min(1 << 20)) as u32,
+        used,
+        cmd_offset: figure(random, last),
+        x_min,
+        x_max,
+        y_min,
+        y_max,
+        xy_end: point(random),
+        pt0: point(random),
+        pt1: point(random),
+    }
+}
+
+fn list(random: &mut Random, most: usize) -> Vec<u32> {
+    let length = random.below(most + 1);
+    (0..length).map(|_| number(random)).collect()
+}
+
+/// Words that read well for a while: commands with counts about as large as what follows.
+fn geometry(random: &mut Random) -> Vec<u32> {
+    let mut words = Vec::new();
+    for _ in 0..random.below(5) {
+        let count = random.below(4) as u32;
+        words.push(random.pick(&[1, 1, 2, 2, 7, 7, 0, 3]) + 8 * count);
+        for _ in 0..2 * count {
+            words.push(number(random));
+        }
+    }
+    words.truncate(words.len().saturating_sub(usize::from(random.chance(4))));
+    words
+}
+
+struct Said {
+    call: &'static str,
+    refusal: u32,
+    allowed: &'static [u32],
+    /// The counts are within their lists, and zero where refused; the state is given back.
+    sound: bool,
+    guarded: bool,
+}
+
+fn clip(random: &mut Random) -> Said {
+    let segment = [0; 4].map(|_| signed(random));
+    let given = ours::clip(segment, edges(random));
+    let sound = given.refusal == 0 || [given.x0, given.y0, given.x1, given.y1] == [0; 4];
+    Said {
+        call: "clips",
+        refusal: given.refusal,
+        allowed: CLIP,
+        sound,
+        guarded: true,
+    }
+}
+
+fn start(random: &mut Random) -> Said {
+    let given = ours::encoder(number(random), edges(random));
+    let sound = given.refusal == 0 || given.state == Encoder::default();
+    Said {
+        call: "fresh states",
+        refusal: given.refusal,
+        allowed: NEW,
+        sound,
+        guarded: true,
+    }
+}
+
+fn draw(random: &mut Random) -> Said {
+    let room = random.below(24);
+    let mut words = Lent::new(room);
+    let state = state(random, room);
+    let add = random.chance(2);
+    let given = if add {
+        state.add_point(signed(random), signed(random), words.words())
+    } else {
+        state.complete_geom(words.words())
+    };
+    let untouched = words.differs(std::iter::empty::<u32>()).is_none();
+    let sound = if given.refusal == 0 {
+        given.words == given.state.used && given.words <= room
+    } else {
+        given.words == 0 && given.state == state && untouched
+    };
+    let (call, allowed) = if add {
+        ("points added to states", ADD)
+    } else {
+        ("states completed", COMPLETE)
+    };
+    Said {
+        call,
+        refusal: given.refusal,
+        allowed,
+        sound,
+        guarded: words.guarded(),
+    }
+}
+
+/// Arbitrary lists, or those of a job file: a good one, one with bytes changed, or arbitrary numbers.
+fn whole(random: &mut Random) -> Said {
+    let job = match random.below(3) {
+        0 => None,
+        _ => {
+            let mut file = cases::random_job(random, &[1, 2, 3]);
+            for _ in 0..random.below(4) {
+                let at = random.below(file.len());
+                file[at] = random.next() as u8;
+            }
+            file.truncate(file.len() - random.pick(&[0, 0, 0, 1, 4, 8]));
+            Job::of_file(&file, usize::MAX)
+        }
+    };
+    let job = job.unwrap_or_else(|| Job {
+        kind: number(random),
+        edges: edges(random),
+        ends: list(random, 4),
+        points: list(random, 12).into_iter().map(|n| n as i32).collect(),
+        room: 0,
+    });
+    let room = random.below(40);
+    let mut words = Lent::new(room);
+    let given = ours::encode_job(job.kind, job.edges, &job.points, &job.ends, words.words());
+    let sound = given.words <= room
+        && given.points <= job.points.len() / 2
+        && (given.refusal == 0 || given.words == 0);
+    Said {
+        call: "whole jobs",
+        refusal: given.refusal,
+        allowed: WHOLE,
+        sound,
+        guarded: words.guarded(),
+    }
+}
+
+fn read(random: &mut Random) -> Said {
+    let words = if random.chance(2) {
+        geometry(random)
+    } else {
+        list(random, 12)
+    };
+    let room = random.below(40);
+    let mut out = Lent::new(room);
+    let given = ours::decode(&words, out.signed());
+    let untouched = out.differs(std::iter::empty::<u32>()).is_none();
+    let sound = if given.refusal == 0 {
+        3 * given.vertices <= room
+    } else {
+        given.vertices == 0 && untouched
+    };
+    Said {
+        call: "words read",
+        refusal: given.refusal,
+        allowed: READ,
+        sound,
+        guarded: out.guarded(),
+    }
+}
+
+pub fn run(seed: u64, count: usize, tally: &mut Tally) -> Option<Difference> {
+    for at in 0..count {
+        let mut random = Random::new(
+            seed.wrapping_add(at as u64)
+                .wrapping_mul(0xD134_2543_DE82_EF95),
+        );
+        let said = match at % 8 {
+            0 => clip(&mut random),
+            1 => start(&mut random),
+            2..=4 => draw(&mut random),
+            5 | 6 => whole(&mut random),
+            _ => read(&mut random),
+        };
+        if !said.allowed.contains(&said.refusal) || !said.sound || !said.guarded {
+            let what = format!(
+                "{}: refusal {}, counts and state sound: {}, guards whole: {}",
+                said.call, said.refusal, said.sound, said.guarded
+            );
+            return Some(Difference {
+                what,
+                input: format!("case {at} of seed {seed}"),
+            });
+        }
+        tally.add(said.call, 1);
+        if said.refusal == 0 {
+            tally.add("accepted", 1);
+        }
+    }
+    None
+}

@@ -1,0 +1,65 @@
+//! The same seeded cases through the Rust and through our compiled library, in one process.
+//! A kind of case is a module with a function `compare`, which ends at the first difference; layers and tiles join as one more arm of `run`.
+
+mod arbitrary;
+mod cases;
+mod clips;
+mod jobs;
+mod judge;
+mod lent;
+mod random;
+mod report;
+mod shrink;
+
+use report::{Difference, Tally};
+use std::process::exit;
+
+const USAGE: &str = "usage: both jobs|clips|arbitrary|spoiled-jobs SEED COUNT, or both cases jobs|large_jobs|clips SEED COUNT";
+
+fn run(kind: &str, seed: u64, count: usize, tally: &mut Tally) -> Option<Difference> {
+    match kind {
+        "jobs" => jobs::compare(seed, count, false, tally),
+        // Shows that a difference is found: a word of ours is changed before it is compared.
+        "spoiled-jobs" => jobs::compare(seed, count, true, tally),
+        "clips" => clips::compare(seed, count, tally),
+        "arbitrary" => arbitrary::run(seed, count, tally),
+        _ => {
+            eprintln!("{USAGE}");
+            exit(2)
+        }
+    }
+}
+
+fn main() {
+    let words: Vec<String> = std::env::args().skip(1).collect();
+    let number = |at: usize| -> usize {
+        words
+            .get(at)
+            .and_then(|n| n.parse().ok())
+            .unwrap_or_else(|| {
+                eprintln!("{USAGE}");
+                exit(2)
+            })
+    };
+    if words.first().is_some_and(|word| word == "cases") {
+        return cases::print(&words[1], number(2) as u64, number(3));
+    }
+    // A panic of the Rust is an answer; nothing is printed about it.
+    std::panic::set_hook(Box::new(|_| {}));
+    let (seed, count) = (number(1) as u64, number(2));
+    let mut tally = Tally::default();
+    let found = run(&words[0], seed, count, &mut tally);
+    println!(
+        "{} (seed {seed}, {count} random cases): {}",
+        words[0],
+        tally.text()
+    );
+    if let Some(Difference { what, input }) = found {
+        println!(
+            "DIFFERENCE in {}: {what}\nsmallest input: {input}",
+            words[0]
+        );
+        exit(1);
+    }
+    println!("{}: no difference", words[0]);
+}

@@ -1,0 +1,28 @@
+//! What a run has done, and the first difference.
+
+/// Counts by name, in the order in which they first came.
+#[derive(Default)]
+pub struct Tally(Vec<(&'static str, usize)>);
+
+impl Tally {
+    pub fn add(&mut self, name: &'static str, count: usize) {
+        match self.0.iter_mut().find(|(known, _)| *known == name) {
+            Some((_, total)) => *total += count,
+            None => self.0.push((name, count)),
+        }
+    }
+
+    pub fn text(&self) -> String {
+        let counts: Vec<String> = self
+            .0
+            .iter()
+            .map(|(name, count)| format!("{name} {count}"))
+            .collect();
+        counts.join(", ")
+    }
+}
+
+pub struct Difference {
+    pub what: String,
+    pub input: String,
+}

@@ -1,0 +1,28 @@
+//! The smallest input that still shows a difference: every simpler case is tried until none shows it any more.
+
+/// Takes simpler cases as long as they differ; the last one and what differs in it.
+pub fn smallest<C: Clone>(
+    first: C,
+    differs: &dyn Fn(&C) -> Option<String>,
+    simpler: &dyn Fn(&C) -> Vec<C>,
+) -> (C, String) {
+    let mut case = first;
+    let mut what = differs(&case).expect("the case differs");
+    'again: loop {
+        for next in simpler(&case) {
+            if let Some(found) = differs(&next) {
+                (case, what) = (next, found);
+                continue 'again;
+            }
+        }
+        return (case, what);
+    }
+}
+
+/// Numbers nearer to zero than this one.
+pub fn nearer(n: i32) -> Vec<i32> {
+    let mut found = vec![0, n / 2, n - n.signum()];
+    found.retain(|m| m.unsigned_abs() < n.unsigned_abs());
+    found.dedup();
+    found
+}

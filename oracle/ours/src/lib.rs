@@ -1,0 +1,172 @@
+//! Our compiled library as a Rust program calls it: include/brinepost.h in Rust.
+
+#[repr(C)]
+#[derive(Clone, Copy, Debug, Default, PartialEq)]
+pub struct Clipped {
+    pub refusal: u32,
+    pub x0: i32,
+    pub y0: i32,
+    pub x1: i32,
+    pub y1: i32,
+}
+
+#[repr(C)]
+#[derive(Clone, Copy, Debug, Default, PartialEq)]
+pub struct Job {
+    pub refusal: u32,
+    pub points: usize,
+    pub words: usize,
+}
+
+#[repr(C)]
+#[derive(Clone, Copy, Debug, Default, PartialEq)]
+pub struct Reading {
+    pub refusal: u32,
+    pub vertices: usize,
+}
+
+#[repr(C)]
+#[derive(Clone, Copy, Debug, Default, PartialEq)]
+pub struct Point {
+    pub is_set: u32,
+    pub x: i32,
+    pub y: i32,
+}
+
+#[repr(C)]
+#[derive(Clone, Copy, Debug, Default, PartialEq)]
+pub struct Encoder {
+    pub kind: u32,
+    pub count: u32,
+    pub used: usize,
+    pub cmd_offset: usize,
+    pub x_min: i32,
+    pub x_max: i32,
+    pub y_min: i32,
+    pub y_max: i32,
+    pub xy_end: Point,
+    pub pt0: Point,
+    pub pt1: Point,
+}
+
+#[repr(C)]
+#[derive(Clone, Copy, Debug, Default, PartialEq)]
+pub struct Started {
+    pub refusal: u32,
+    pub state: Encoder,
+}
+
+#[repr(C)]
+#[derive(Clone, Copy, Debug, Default, PartialEq)]
+pub struct Drawn {
+    pub refusal: u32,
+    pub words: usize,
+    pub state: Encoder,
+}
+
+mod c {
+    use super::*;
+
+    extern "C" {
+        pub fn bp_clip(
+            x0: i32,
+            y0: i32,
+            x1: i32,
+            y1: i32,
+            x_min: i32,
+            x_max: i32,
+            y_min: i32,
+            y_max: i32,
+        ) -> Clipped;
+        pub fn bp_encode_job(
+            kind: u32,
+            x_min: i32,
+            x_max: i32,
+            y_min: i32,
+            y_max: i32,
+            points: *const i32,
+            points_len: usize,
+            ends: *const u32,
+            ends_len: usize,
+            words: *mut u32,
+            words_len: usize,
+        ) -> Job;
+        pub fn bp_decode(
+            words: *const u32,
+            words_len: usize,
+            out: *mut i32,
+            out_len: usize,
+        ) -> Reading;
+        pub fn bp_encoder_new(kind: u32, x_min: i32, x_max: i32, y_min: i32, y_max: i32)
+            -> Started;
+        pub fn bp_encoder_add_point(
+            state: Encoder,
+            x: i32,
+            y: i32,
+            words: *mut u32,
+            words_len: usize,
+        ) -> Drawn;
+        pub fn bp_encoder_complete_geom(state: Encoder, words: *mut u32, words_len: usize)
+            -> Drawn;
+        pub fn bp_encoder_count(state: Encoder) -> u32;
+        pub fn bp_encoder_len(state: Encoder) -> usize;
+    }
+}
+
+/// A segment as x0, y0, x1, y1; box edges as x_min, x_max, y_min, y_max, here and below.
+pub fn clip(segment: [i32; 4], edges: [i32; 4]) -> Clipped {
+    let ([x0, y0, x1, y1], [x_min, x_max, y_min, y_max]) = (segment, edges);
+    unsafe { c::bp_clip(x0, y0, x1, y1, x_min, x_max, y_min, y_max) }
+}
+
+pub fn encode_job(
+    kind: u32,
+    edges: [i32; 4],
+    points: &[i32],
+    ends: &[u32],
+    words: &mut [u32],
+) -> Job {
+    let [x_min, x_max, y_min, y_max] = edges;
+    unsafe {
+        c::bp_encode_job(
+            kind,
+            x_min,
+            x_max,
+            y_min,
+            y_max,
+            points.as_ptr(),
+            points.len(),
+            ends.as_ptr(),
+            ends.len(),
+            words.as_mut_ptr(),
+            words.len(),
+        )
+    }
+}
+
+pub fn decode(words: &[u32], out: &mut [i32]) -> Reading {
+    unsafe { c::bp_decode(words.as_ptr(), words.len(), out.as_mut_ptr(), out.len()) }
+}
+
+pub fn encoder(kind: u32, edges: [i32; 4]) -> Started {
+    let [x_min, x_max, y_min, y_max] = edges;
+    unsafe { c::bp_encoder_new(kind, x_min, x_max, y_min, y_max) }
+}
+
+impl Encoder {
+    pub fn add_point(self, x: i32, y: i32, words: &mut [u32]) -> Drawn {
+        unsafe { c::bp_encoder_add_point(self, x, y, words.as_mut_ptr(), words.len()) }
+    }
+
+    pub fn complete_geom(self, words: &mut [u32]) -> Drawn {
+        unsafe { c::bp_encoder_complete_geom(self, words.as_mut_ptr(), words.len()) }
+    }
+
+    pub fn count(self) -> u32 {
+        unsafe { c::bp_encoder_count(self) }
+    }
+
+    pub fn len(self) -> usize {
+        unsafe { c::bp_encoder_len(self) }
+    }
+}

@@ -1,0 +1,255 @@
+/* Holds include/brinepost.h against the library: the layout of each struct, and each function called with numbers that would betray a wrong order, width or sign.
+ * Expected words and segments are the Rust's own answers (oracle/ask). */
+#include "brinepost.h"
+#include <stdio.h>
+#include <string.h>
+
+static int checks, failures;
+
+static void same(const char *what, int line, long long expected, long long given)
+{
+    checks++;
+    if (expected == given)
+        return;
+    failures++;
+    printf("tests/c/calls.c:%d: %s: expected %lld, given %lld\n", line, what, expected, given);
+}
+#define SAME(expected, given) same(#given, __LINE__, (long long)(expected), (long long)(given))
+#define COUNT(list) (sizeof(list) / sizeof((list)[0]))
+
+/* ---- the header's layout, as the library has it */
+#define AT(type, field, place) _Static_assert(offsetof(type, field) == (place), #type "." #field)
+#define SIZE(type, bytes) _Static_assert(sizeof(type) == (bytes), #type)
+SIZE(bp_clipped, 20);
+AT(bp_clipped, x0, 4);
+AT(bp_clipped, y0, 8);
+AT(bp_clipped, x1, 12);
+AT(bp_clipped, y1, 16);
+SIZE(bp_job, 24);
+AT(bp_job, points, 8);
+AT(bp_job, words, 16);
+SIZE(bp_reading, 16);
+AT(bp_reading, vertices, 8);
+SIZE(bp_point, 12);
+AT(bp_point, x, 4);
+AT(bp_point, y, 8);
+SIZE(bp_encoder, 80);
+AT(bp_encoder, count, 4);
+AT(bp_encoder, used, 8);
+AT(bp_encoder, cmd_offset, 16);
+AT(bp_encoder, x_min, 24);
+AT(bp_encoder, x_max, 28);
+AT(bp_encoder, y_min, 32);
+AT(bp_encoder, y_max, 36);
+AT(bp_encoder, xy_end, 40);
+AT(bp_encoder, pt0, 52);
+AT(bp_encoder, pt1, 64);
+SIZE(bp_started, 88);
+AT(bp_started, state, 8);
+SIZE(bp_drawn, 96);
+AT(bp_drawn, words, 8);
+AT(bp_drawn, state, 16);
+
+/* ---- lists with a guard on both sides; what is not written stays */
+enum { GUARD = 8, ROOM = 64 };
+#define PATTERN 0xA5C3F00Du
+
+static uint32_t memory[GUARD + ROOM + GUARD];
+static uint32_t *const words = memory + GUARD;
+
+static void fill(void)
+{
+    for (size_t i = 0; i < COUNT(memory); i++)
+        memory[i] = PATTERN + (uint32_t)i;
+}
+
+/* So many words were written, and these; everything else is as it was. */
+static void written(int line, const uint32_t *expected, size_t count)
+{
+    for (size_t i = 0; i < COUNT(memory); i++) {
+        size_t at = i - GUARD;
+        same("a word", line, i >= GUARD && at < count ? expected[at] : PATTERN + (uint32_t)i, memory[i]);
+    }
+}
+#define WRITTEN(list) written(__LINE__, list, COUNT(list))
+#define UNTOUCHED() written(__LINE__, NULL, 0)
+
+static void clips(void)
+{
+    bp_clipped c = bp_clip(-20, 1, 60, 30, -3, 40, 5, 17);
+    SAME(0, c.refusal), SAME(-3, c.x0), SAME(7, c.y0), SAME(24, c.x1), SAME(17, c.y1);
+    c = bp_clip(60, 30, -20, 1, -3, 40, 5, 17);
+    SAME(0, c.refusal), SAME(24, c.x0), SAME(17, c.y0), SAME(-3, c.x1), SAME(7, c.y1);
+    c = bp_clip(-BP_LIMIT, -500000000, BP_LIMIT, 600000000, -1000, 2000, -90000000, 80000000);
+    SAME(0, c.refusal), SAME(-1000, c.x0), SAME(49999488, c.y0), SAME(2000, c.x1), SAME(50001025, c.y1);
+    c = bp_clip(1, 2, 3, 4, 0, 10, 0, BP_LIMIT + 1);
+    SAME(BP_BOX, c.refusal), SAME(0, c.x0), SAME(0, c.y0), SAME(0, c.x1), SAME(0, c.y1);
+    /* each edge and each coordinate at the limit and beyond it */
+    const int32_t far = BP_LIMIT;
+    SAME(0, bp_clip(far, far, -far, -far, -far, far, -far, far).refusal);
+    SAME(BP_BOX, bp_clip(0, 0, 1, 1, -far - 1, far, -far, far).refusal);
+    SAME(BP_BOX, bp_clip(0, 0, 1, 1, -far, far + 1, -far, far).refusal);
+    SAME(BP_BOX, bp_clip(0, 0, 1, 1, -far, far, -far - 1, far).refusal);
+    SAME(BP_BOX, bp_clip(0, 0, 1, 1, 7, 7, 0, 10).refusal);
+    SAME(BP_BOX, bp_clip(0, 0, 1, 1, 0, 10, 8, 7).refusal);
+    SAME(BP_BOX, bp_clip(INT32_MIN, 0, 1, 1, 0, 10, 8, 7).refusal);
+    SAME(BP_COORD, bp_clip(far + 1, 0, 1, 1, 0, 10, 0, 10).refusal);
+    SAME(BP_COORD, bp_clip(0, -far - 1, 1, 1, 0, 10, 0, 10).refusal);
+    SAME(BP_COORD, bp_clip(0, 0, INT32_MAX, 1, 0, 10, 0, 10).refusal);
+    SAME(BP_COORD, bp_clip(0, 0, 1, INT32_MIN, 0, 10, 0, 10).refusal);
+}
+
+/* Two parts that cross a box with four different edges. */
+static const int32_t points[] = {-20, 1, 60, 30, 10, 9, 7, 11, 8, 12};
+static const uint32_t ends[] = {3, 5};
+static const uint32_t line[] = {9, 5, 10, 42, 0, 4, 54, 20, 32, 0, 21, 0, 37, 15, 9, 5, 4, 10, 2, 2};
+
+static bp_job job(uint32_t kind, size_t room)
+{
+    fill();
+    return bp_encode_job(kind, -3, 40, 5, 17, points, COUNT(points), ends, COUNT(ends), words, room);
+}
+
+static void jobs(void)
+{
+    bp_job j = job(BP_LINE, ROOM);
+    SAME(0, j.refusal), SAME(5, j.points), SAME(20, j.words), WRITTEN(line);
+    /* ten words for two points, two more for the third, for which 11 is no room */
+    const uint32_t two[] = {9, 5, 10, 10, 0, 4, 54, 20, 32, 0};
+    j = job(BP_LINE, 11);
+    SAME(BP_ROOM, j.refusal), SAME(2, j.points), SAME(0, j.words), WRITTEN(two);
+    j = job(BP_LINE, 0);
+    SAME(BP_ROOM, j.refusal), SAME(0, j.points), SAME(0, j.words), UNTOUCHED();
+    j = job(4, ROOM);
+    SAME(BP_KIND, j.refusal), SAME(0, j.points), SAME(0, j.words), UNTOUCHED();
+    j = job(UINT32_MAX, ROOM);
+    SAME(BP_KIND, j.refusal), UNTOUCHED();
+    SAME(BP_BOX, bp_encode_job(2, 5, 5, 0, 1, points, 10, ends, 2, words, ROOM).refusal);
+    SAME(BP_JOB, bp_encode_job(4, 5, 5, 0, 1, points, 9, ends, 2, words, ROOM).refusal);
+    SAME(BP_JOB, bp_encode_job(2, 0, 1, 0, 1, points, 10, ends, 0, words, ROOM).refusal);
+    SAME(BP_JOB, bp_encode_job(2, 0, 1, 0, 1, points, 10, ends, 1, words, ROOM).refusal);
+    const uint32_t wide[] = {UINT32_MAX};
+    SAME(BP_JOB, bp_encode_job(2, 0, 1, 0, 1, points, 10, wide, 1, words, ROOM).refusal);
+    const int32_t beyond[] = {1, 2, 3, -BP_LIMIT - 1};
+    const uint32_t end[] = {2};
+    const uint32_t before[] = {9, 2, 4};
+    fill();
+    j = bp_encode_job(2, 0, 10, 0, 10, beyond, 4, end, 1, words, ROOM);
+    SAME(BP_COORD, j.refusal), SAME(1, j.points), SAME(0, j.words), WRITTEN(before);
+    const uint32_t none[] = {0};
+    j = bp_encode_job(1, 0, 10, 0, 10, points, 0, none, 1, words, ROOM);
+    SAME(BP_EMPTY, j.refusal), SAME(0, j.points), SAME(0, j.words);
+}
+
+static void readings(void)
+{
+    const int32_t vertices[] = {1, -3, 5, 2, -3, 7, 2, 24, 17, 2, 40, 17, 2, 29, 17, 2, 10, 9, 1, 7, 11, 2, 8, 12};
+    int32_t out[26];
+    for (size_t i = 0; i < COUNT(out); i++)
+        out[i] = -1000 - (int32_t)i;
+    bp_reading r = bp_decode(line, COUNT(line), out, COUNT(vertices));
+    SAME(0, r.refusal), SAME(8, r.vertices);
+    for (size_t i = 0; i < COUNT(out); i++)
+        SAME(i < COUNT(vertices) ? vertices[i] : -1000 - (int32_t)i, out[i]);
+    const uint32_t far[] = {9, UINT32_MAX, UINT32_MAX - 1};
+    r = bp_decode(far, 3, out, 3);
+    SAME(0, r.refusal), SAME(1, r.vertices), SAME(1, out[0]), SAME(INT32_MIN, out[1]), SAME(INT32_MAX, out[2]);
+    SAME(BP_ROOM, bp_decode(far, 3, out, 2).refusal);
+    SAME(BP_CUT, bp_decode(far, 2, out, 3).refusal);
+    const uint32_t step[] = {17, UINT32_MAX, 0, 1, 0};
+    SAME(BP_STEP, bp_decode(step, 5, out, 6).refusal);
+    const uint32_t command[] = {7 + 8, 3};
+    r = bp_decode(command, 2, out, 6);
+    SAME(BP_COMMAND, r.refusal), SAME(0, r.vertices);
+}
+
+static void point_is(int at, uint32_t is_set, int32_t x, int32_t y, bp_point p)
+{
+    same("is_set", at, is_set, p.is_set);
+    same("x", at, x, p.x);
+    same("y", at, y, p.y);
+}
+#define POINT(is_set, x, y, p) point_is(__LINE__, is_set, x, y, p)
+
+static void given_back(int at, bp_encoder s, bp_drawn d, uint32_t refusal)
+{
+    same("refusal", at, refusal, d.refusal);
+    same("words", at, 0, d.words);
+    same("the state given back", at, 0, memcmp(&s, &d.state, offsetof(bp_encoder, pt1) + sizeof(bp_point)));
+}
+#define GIVEN_BACK(s, d, refusal) given_back(__LINE__, s, d, refusal)
+
+static void calls(void)
+{
+    bp_started n = bp_encoder_new(BP_POLYGON, -3, 40, 5, 17);
+    SAME(0, n.refusal), SAME(3, n.state.kind), SAME(0, n.state.count), SAME(0, n.state.used), SAME(0, n.state.cmd_offset);
+    SAME(-3, n.state.x_min), SAME(40, n.state.x_max), SAME(5, n.state.y_min), SAME(17, n.state.y_max);
+    POINT(0, 0, 0, n.state.xy_end), POINT(0, 0, 0, n.state.pt0), POINT(0, 0, 0, n.state.pt1);
+    SAME(BP_KIND, bp_encoder_new(0, 1, 1, 1, 1).refusal);
+    n = bp_encoder_new(3, 1, 2, 3, 3);
+    SAME(BP_BOX, n.refusal), SAME(0, n.state.kind), SAME(0, n.state.x_max);
+
+    fill();
+    bp_drawn d = bp_encoder_add_point(bp_encoder_new(BP_POLYGON, -3, 40, 5, 17).state, 0, 6, words, ROOM);
+    SAME(0, d.refusal), SAME(3, d.words), SAME(1, d.state.count), SAME(0, d.state.cmd_offset);
+    POINT(1, 0, 6, d.state.xy_end), POINT(0, 0, 0, d.state.pt0), POINT(1, 0, 6, d.state.pt1);
+    d = bp_encoder_add_point(d.state, 9, 6, words, ROOM);
+    const uint32_t two[] = {9, 0, 12, 10, 18, 0};
+    SAME(6, d.words), SAME(3, d.state.cmd_offset), SAME(2, d.state.count), WRITTEN(two);
+    d = bp_encoder_add_point(d.state, 20, 6, words, ROOM); /* (9, 6) is taken out */
+    const uint32_t taken_out[] = {9, 0, 12, 10, 40, 0};
+    SAME(6, d.words), SAME(2, d.state.count), WRITTEN(taken_out);
+    POINT(1, 0, 6, d.state.pt0), POINT(1, 20, 6, d.state.pt1), POINT(1, 20, 6, d.state.xy_end);
+    d = bp_encoder_add_point(d.state, 20, 16, words, ROOM);
+    SAME(8, d.words), SAME(3, bp_encoder_count(d.state)), SAME(8, bp_encoder_len(d.state));
+    const bp_encoder full = d.state;
+    d = bp_encoder_complete_geom(full, words, ROOM);
+    const uint32_t ring[] = {9, 0, 12, 18, 40, 0, 0, 20, 15};
+    SAME(0, d.refusal), SAME(9, d.words), SAME(0, d.state.count), SAME(8, d.state.cmd_offset), WRITTEN(ring);
+    POINT(0, 0, 0, d.state.xy_end), POINT(0, 0, 0, d.state.pt0), POINT(1, 20, 16, d.state.pt1);
+
+    fill();
+    GIVEN_BACK(full, bp_encoder_complete_geom(full, words, 8), BP_ROOM);
+    GIVEN_BACK(full, bp_encoder_add_point(full, 1, BP_LIMIT + 1, words, ROOM), BP_COORD);
+    GIVEN_BACK(full, bp_encoder_add_point(full, 1, 7, words, 7), BP_STATE);
+    /* every number of the state is looked at, at its full width */
+    bp_encoder s = full;
+    s.used += (size_t)1 << 32;
+    SAME(s.used, bp_encoder_len(s));
+    GIVEN_BACK(s, bp_encoder_add_point(s, 1, 7, words, ROOM), BP_STATE);
+    s = full, s.cmd_offset += (size_t)1 << 32;
+    GIVEN_BACK(s, bp_encoder_complete_geom(s, words, ROOM), BP_STATE);
+    s = full, s.count += (uint32_t)1 << 31;
+    SAME(s.count, bp_encoder_count(s));
+    GIVEN_BACK(s, bp_encoder_add_point(s, 1, 7, words, ROOM), BP_STATE);
+    s = full, s.kind = 4;
+    GIVEN_BACK(s, bp_encoder_add_point(s, 1, 7, words, ROOM), BP_STATE);
+    s = full, s.x_min = s.x_max;
+    GIVEN_BACK(s, bp_encoder_add_point(s, 1, 7, words, ROOM), BP_STATE);
+    s = full, s.y_max = s.y_min;
+    GIVEN_BACK(s, bp_encoder_add_point(s, 1, 7, words, ROOM), BP_STATE);
+    bp_point *const stored[] = {&s.xy_end, &s.pt0, &s.pt1};
+    for (size_t i = 0; i < COUNT(stored); i++) {
+        s = full, stored[i]->is_set = 2;
+        GIVEN_BACK(s, bp_encoder_add_point(s, 1, 7, words, ROOM), BP_STATE);
+        GIVEN_BACK(s, bp_encoder_complete_geom(s, words, ROOM), BP_STATE);
+        s = full, stored[i]->y = BP_LIMIT + 1;
+        GIVEN_BACK(s, bp_encoder_add_point(s, 1, 7, words, ROOM), BP_STATE);
+        s = full, stored[i]->x = -BP_LIMIT - 1;
+        GIVEN_BACK(s, bp_encoder_complete_geom(s, words, ROOM), BP_STATE);
+        stored[i]->is_set = 0; /* what lies behind a 0 is not looked at */
+        SAME(0, bp_encoder_complete_geom(s, words, ROOM).refusal);
+        fill();
+    }
+    UNTOUCHED();
+}
+
+int main(void)
+{
+    clips();
+    jobs();
+    readings();
+    calls();
+    printf("%d checks of the C interface, %d failed\n", checks, failures);
+    return failures != 0;
+}
