@@ -10,7 +10,6 @@ use borrow.Author.Tests.{not-true, not-false}
 use Rattle.promise.specs.Answers.{Gives}
 use Rattle.promise.specs.Laid.{lay}
 use Rattle.refusal.specs.declared.Refusal.the-variants.{Room}
-use Rattle.refusal.specs.Said.{Said}
 use Rattle.table.specs.declared.Found.{Found}
 use Rattle.table.specs.declared.Found.the-variants.{At, Nothing}
 use Rattle.table.specs.declared.Value.{Value}
@@ -20,7 +19,7 @@ use Rattle.table.proofs.Bounds.{key-below, value-below}
 use Rattle.layer.specs.declared.Figures.{Figures}
 use Rattle.layer.specs.declared.Layer.{Layer}
 use Rattle.layer.specs.declared.Changed.the-variants.{Done, Refused}
-use Rattle.layer.specs.Held.{Memory, mem, roomOf, fits, seen, heldBy, onto, written, front}
+use Rattle.layer.specs.Held.{mem, roomOf, fits, seen, heldBy, onto, written, front}
 use Rattle.layer.specs.Answers.{saidChanged}
 use Rattle.layer.specs.Calls.{Tag, indexOf, moreOf, putOf, keyWords, valueWords, grownBy, withTag, heldWith, taggedBy, tagged, withUsed}
 use Rattle.tagging.specs.Steps.{Small, TagRoom, laidTag, Ready}
