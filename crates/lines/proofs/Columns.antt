@@ -1,57 +1,29 @@
--- The loop over the words: how far the column is laid, and the laws of its start, its turn and its end.
+-- The loop over the words: what is still to come of the column; and pieces laid at the front of a text.
 use mathlib.Core.Path.{_≡_, refl, sym, _∙_, ap}
-use mathlib.Core.List.{List, [], _∷_, _++_, append-assoc, append-nil}
-use Prim.Native.Nat.{ℕ, suc, _+_, _*_, _<_, _≤_}
+use mathlib.Core.List.{List, [], _∷_, _++_}
+use Prim.Native.Nat.{ℕ, _+_, _*_, _<_, _≤_}
 use native.Mathlib.Numerals.{add-one}
 use native.Mathlib.Omega.{arith}
-use lib.ListN.{length, drop, getD, length-append, drop-of-length-le}
+use lib.ListN.{length, take, drop, getD, length-append, drop-of-length-le}
 use lib.Seq.{drop-cons}
 use Rattle.promise.specs.Answers.{Gives}
 use Rattle.promise.specs.Laid.{lay}
-use Rattle.promise.proofs.Laying.{lay-nothing, lay-next}
+use Rattle.promise.proofs.Laying.{lay-next, take-lay, length-lay}
 use Rattle.lines.specs.Decimal.{ended}
 use borrow.Author.Tests.{le-leb, lt-leb}
-use Rattle.lines.specs.Printed.{newline, column, shown, wordsHead, wordsText, wordsRoom, refusedHead, atHead, refusedText, refusedRoom, space}
+use Rattle.lines.specs.Printed.{Told, newline, column, shown, wordsHead, wordsText, wordsRoom, refusedHead, atHead, refusedText, refusedRoom, space}
 use Rattle.lines.proofs.Decimals.{ended-short}
+use Rattle.lines.proofs.Pieces.{Pieces}
 
 -- what is laid after i words; what is to come is the column of the rest
-pub record Column (ws : List ℕ) (at : ℕ) (text₀ text : List ℕ) (next i : ℕ) : Type 0 where
-  pub done : List ℕ
-  pub few : i ≤ length ws
-  pub room : at + 21 * length ws ≤ length text₀
-  pub short : length done ≤ 21 * i
-  pub place : next ≡ at + length done
-  pub long : length text ≡ length text₀
-  pub laid : text ≡ lay at done text₀
-  pub rest : column ws ≡ done ++ column (drop i ws)
+abbrev pub Column : List ℕ → ℕ → List ℕ → List ℕ → ℕ → ℕ → Type 0
+Column ws at text₀ text next i = Pieces 21 (length ws) at (column ws) text₀ text next i (column (drop i ws))
 
-module _ {ws : List ℕ} {at : ℕ} {text₀ : List ℕ} where
-  pub column-start : at + 21 * length ws ≤ length text₀ → Column ws at text₀ text₀ at 0
-  column-start h = record { done = []; few = omega arith; room = h; short = omega arith; place = omega arith; long = refl; laid = sym (lay-nothing at text₀); rest = refl }
+pub column-turn : (ws : List ℕ) (i w : ℕ) → i < length ws → w ≡ getD ws i 0 → column (drop i ws) ≡ ended w newline ++ column (drop (i + 1) ws)
+column-turn ws i w h e = rw (drop-cons ws i 0 h, ← e, add-one i)
 
-  module _ {text : List ℕ} {next i : ℕ} (c : Column ws at text₀ text next i) where
-    pub column-room : i < length ws → next + 21 ≤ length text
-    column-room h = omega (arith, c .place, c .short, c .room, c .long)
-
-    pub column-turn : (r : ℕ) (l : List ℕ) (w : ℕ) → i < length ws → w ≡ getD ws i 0 → length l ≡ length text
-        → Gives (record { answer = next + length (ended w newline); memory = lay next (ended w newline) text }) r l → Column ws at text₀ l r (i + 1)
-    column-turn r l w h e n g =
-        let fits : at + length (c .done) ≤ length text₀ = omega (arith, c .short, c .room) in
-        record {
-          done = c .done ++ ended w newline;
-          few = omega arith;
-          room = c .room;
-          short = simp length-append (omega (arith, c .short, simp length-append at (ended-short w newline)));
-          place = g .answer ∙ rw (c .place) (simp length-append (omega arith));
-          long = n ∙ c .long;
-          laid = g .memory ∙ rw (c .place, c .laid) (lay-next at (c .done) (ended w newline) text₀ fits);
-          rest = c .rest ∙ rw (drop-cons ws i 0 h, ← e, add-one i) (sym (append-assoc (c .done) (ended w newline) (column (drop (suc i) ws))));
-        }
-
-    pub column-done : length ws ≤ i → Gives (record { answer = at + length (column ws); memory = lay at (column ws) text₀ }) next text
-    column-done h =
-        let e : column ws ≡ c .done = c .rest ∙ rw (drop-of-length-le ws h) (append-nil (c .done)) in
-        record { answer = rw e (c .place); memory = rw e (c .laid) }
+pub column-done : (ws : List ℕ) (i : ℕ) → length ws ≤ i → column (drop i ws) ≡ []
+column-done ws i h = rw (drop-of-length-le ws h)
 
 -- ---- piece after piece at the front of a text: the pieces so far are laid, and the next place is behind them
 pub record Front (done text : List ℕ) (at : ℕ) (l : List ℕ) : Type 0 where
@@ -115,3 +87,15 @@ words-short ws = simp length-append (omega (arith, simp length-append at (ended-
 
 pub refused-short : (number points : ℕ) → length (refusedText number points) ≤ refusedRoom
 refused-short number points = simp length-append (omega (arith, simp length-append at (ended-short number space), simp length-append at (ended-short points newline)))
+
+-- what is shown in a text that has the room, and whose bytes fit, is told
+pub told : (room : ℕ) (bytes text : List ℕ) (r : ℕ) (l : List ℕ) → room ≤ length text → length bytes ≤ room → Gives (shown room bytes text) r l → Told bytes r l
+told room bytes text r l h k g =
+    let e = rw (le-leb room (length text) h) at g in
+    let z : length bytes ≡ 0 + length bytes = omega arith in
+    let f : 0 + length bytes ≤ length text = omega arith in
+    record {
+      count = e .answer;
+      inside = rw (e .answer, e .memory, length-lay 0 bytes text f) (omega arith);
+      front = rw (e .answer, e .memory) (ap (λ (n : ℕ). take n (lay 0 bytes text)) z ∙ take-lay 0 bytes text f);
+    }

@@ -1,2 +1,4 @@
 pub mod Decimals
+pub mod Pieces
 pub mod Columns
+pub mod Rows

@@ -1,9 +1,10 @@
 -- Document 01, "Sample jobs": "The program prints `words N`, then each word in decimal on its own line; a refusal is one line, `refused R at P`, with P the accepted points."
-use Prim.Native.Nat.{ℕ, _+_, _*_}
+use Prim.Native.Nat.{ℕ, _+_, _*_, _≤_}
+use mathlib.Core.Path.{_≡_}
 use mathlib.Core.Bool.{cond}
 use mathlib.Core.List.{List, [], _∷_, _++_}
 use lib.Dec.{leb}
-use lib.ListN.{length}
+use lib.ListN.{length, take}
 use Rattle.promise.specs.Answers.{Written, kept}
 use Rattle.promise.specs.Laid.{lay}
 use Rattle.lines.specs.Decimal.{ended}
@@ -48,3 +49,9 @@ refusedRoom = 53
 -- the bytes at the front of a text of that room, and how many they are; nothing in a shorter one
 abbrev pub shown : ℕ → List ℕ → List ℕ → Written ℕ (List ℕ)
 shown room bytes text = cond (leb room (length text)) (record { answer = length bytes; memory = lay 0 bytes text }) (kept 0 text)
+
+-- the text begins with these bytes, and r counts them: what a program writes
+pub record Told (bytes : List ℕ) (r : ℕ) (text : List ℕ) : Type 0 where
+  pub count : r ≡ length bytes
+  pub inside : r ≤ length text
+  pub front : take r text ≡ bytes

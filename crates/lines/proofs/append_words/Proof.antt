@@ -2,7 +2,10 @@
 use Prim.Native.Nat.{_-_}
 use borrow.Author.Needs.{needs}
 use lib.ListN.{length}
-use Rattle.lines.proofs.Columns.{Column, column-start, column-room, column-turn, column-done}
+use Rattle.lines.proofs.Decimals.{ended-short}
+use Rattle.lines.proofs.Pieces.{pieces-start, pieces-room, pieces-turn, pieces-done}
+use Rattle.lines.proofs.Columns.{Column, column-turn, column-done}
+use Rattle.lines.specs.Printed.{newline}
 use Rattle.lines.proofs.append_words.Statement.{statement}
 use Rattle.lines.proofs.append_words.Tie as tie
 
@@ -13,7 +16,7 @@ abbrev μ-loop : tie.MeasureT-loop
 μ-loop words at text₀ next₀ i₀ text next i = length words - i
 
 loop-holds : tie.Need-loop-holds Inv-loop μ-loop
-loop-holds c = column-start (c .before .before .pre)
+loop-holds c = pieces-start (c .before .before .pre)
 
 mul-wide : tie.Need-mul-wide Inv-loop μ-loop
 mul-wide c = search needs
@@ -25,7 +28,7 @@ wide-requires : tie.Need-wide-requires Inv-loop μ-loop
 wide-requires c κs = search needs
 
 append-number-requires : tie.Need-append-number-requires Inv-loop μ-loop
-append-number-requires c κs = column-room (c .before .before .before .before .loop .inv) (search needs)
+append-number-requires c κs = pieces-room (c .before .before .before .before .loop .inv) (search needs)
 
 add-i : tie.Need-add-i Inv-loop μ-loop
 add-i c = search needs
@@ -37,13 +40,14 @@ loop-again : tie.Need-loop-again Inv-loop μ-loop
 loop-again c =
     let n = c .before .before in
     let w = n .before .before in
-    column-turn (w .before .before .before .loop .inv) _ _ (w .wide .result) (search needs) (w .wide .ensures) (search needs) (n .append-number .ensures)
+    let k = w .before .before .before in
+    pieces-turn (k .loop .inv) _ _ _ _ (search needs) (ended-short (w .wide .result) newline) (column-turn (k .before .before .before .args .words .now) (k .loop .i) (w .wide .result) (search needs) (w .wide .ensures)) (search needs) (n .append-number .ensures)
 
 same-length : tie.Need-same-length Inv-loop μ-loop
 same-length c = search needs
 
 returns : tie.Need-returns Inv-loop μ-loop
-returns c = column-done (c .before .loop .inv) (search needs)
+returns c = pieces-done (c .before .loop .inv) (column-done (c .before .before .before .before .args .words .now) (c .before .loop .i) (search needs))
 
 pub append-words-spec : {M : Type 1} → statement M
 append-words-spec =

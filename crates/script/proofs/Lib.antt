@@ -1,0 +1,3 @@
+pub mod Reading
+pub mod Ends
+pub mod Examples
