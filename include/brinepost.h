@@ -1,10 +1,12 @@
-/* Brinepost for C. The library is target/staticlib/libbrinepost.a, x86-64, made by `rt staticlib brinepost`; what each function answers is proved (docs/PROMISES.md).
+/* Brinepost for C, as two libraries for x86-64: target/staticlib/libbrinepost.a (clips, jobs, vertices and the encoder), made by `rt staticlib brinepost`, and
+ * target/staticlib/libbrinepost_tiles.a (layers and tiles), made by `rt staticlib brinepost_tiles`. What each function answers is proved (docs/PROMISES.md).
  *
  * Every function takes any numbers and any lists, ends, and answers. Nothing is kept between calls: a state goes in and comes back by value, lists are lent for the call alone.
  * A list is a pointer and a length in elements, in this order. The pointer is aligned for its type and not null (a list of length 0 too), and its elements are the caller's
  * to read; what the function is to write must not overlap another list of the same call.
  * `refusal` is 0 where a call is accepted, else one of the numbers below. A refused call writes nowhere and says 0 for its counts, and gives the state back as it was given;
- * only a whole job differs: at its first refused call it leaves the words as the accepted calls left them and says how many points were accepted. */
+ * only a whole job and a whole feature differ: at its first refused call a job leaves the words as the accepted calls left them and says how many points were accepted, and a
+ * feature leaves the lists as the accepted calls left them, beyond what the layer that it gives back says is used. */
 #ifndef BRINEPOST_H
 #define BRINEPOST_H
 
@@ -117,6 +119,140 @@ uint32_t bp_encoder_count(bp_encoder state);
 
 /* How many words are used. */
 size_t bp_encoder_len(bp_encoder state);
+
+/* ---- a layer and its open feature */
+
+#define BP_MAX_TEXT 1024     /* the most bytes of a text: a layer's name, a key, a text value */
+#define BP_MAX_ENTRIES 65536 /* the most keys of a layer, and the most values */
+
+/* How much of a layer's four lists is used: keys (2 words each), values (3 words each), bytes of text, words of feature records. */
+typedef struct bp_figures {
+    size_t keys, values, texts, features;
+} bp_figures;
+
+/* A layer between two calls. A caller may store it and hand it in again, with the same four lists; it is checked at each call. */
+typedef struct bp_layer {
+    uint32_t extent;
+    uint32_t is_open; /* 1 where a feature is open, else 0. Another number is STATE. */
+    size_t name;      /* the length of the name, which is the first text */
+    bp_figures used;
+    bp_figures since; /* the figures when the open feature was opened; without one they mean nothing */
+} bp_layer;
+
+typedef struct bp_changed {
+    uint32_t refusal;
+    bp_layer layer; /* after the call; as it was given where refused; all 0 where a new one is refused */
+} bp_changed;
+
+typedef struct bp_counted {
+    uint32_t refusal;
+    size_t count; /* 0 where refused */
+} bp_counted;
+
+typedef struct bp_named {
+    uint32_t refusal;
+    size_t start, len; /* both 0 where refused */
+} bp_named;
+
+/* A layer without features; its name becomes the first text: TEXT, ROOM. */
+bp_changed bp_layer_new(const uint8_t *name, size_t name_len, uint32_t extent, uint8_t *texts, size_t texts_len);
+
+/* Opens a feature with these geometry words, which are taken as given: KIND, STATE, TURN, ROOM. */
+bp_changed bp_into_feature(bp_layer layer, uint32_t kind, const uint32_t *words, size_t words_len, const uint32_t *keys, size_t keys_len,
+                           const uint32_t *values, size_t values_len, const uint8_t *texts, size_t texts_len, uint32_t *features, size_t features_len);
+
+/* Sets the id of the open feature: STATE, TURN. */
+bp_changed bp_set_id(bp_layer layer, uint64_t id, const uint32_t *keys, size_t keys_len, const uint32_t *values, size_t values_len,
+                     const uint8_t *texts, size_t texts_len, uint32_t *features, size_t features_len);
+
+/* Adds a tag to the open feature, its value a text: STATE, TEXT, TURN, ROOM. */
+bp_changed bp_add_tag_string(bp_layer layer, const uint8_t *key, size_t key_len, const uint8_t *val, size_t val_len, uint32_t *keys, size_t keys_len,
+                             uint32_t *values, size_t values_len, uint8_t *texts, size_t texts_len, uint32_t *features, size_t features_len);
+
+/* The same with a float, given by its bits. */
+bp_changed bp_add_tag_float(bp_layer layer, const uint8_t *key, size_t key_len, uint32_t bits, uint32_t *keys, size_t keys_len,
+                            uint32_t *values, size_t values_len, uint8_t *texts, size_t texts_len, uint32_t *features, size_t features_len);
+
+/* The same with a double, given by its bits. */
+bp_changed bp_add_tag_double(bp_layer layer, const uint8_t *key, size_t key_len, uint64_t bits, uint32_t *keys, size_t keys_len,
+                             uint32_t *values, size_t values_len, uint8_t *texts, size_t texts_len, uint32_t *features, size_t features_len);
+
+/* The same with an int. */
+bp_changed bp_add_tag_int(bp_layer layer, const uint8_t *key, size_t key_len, int64_t val, uint32_t *keys, size_t keys_len,
+                          uint32_t *values, size_t values_len, uint8_t *texts, size_t texts_len, uint32_t *features, size_t features_len);
+
+/* The same with a uint. */
+bp_changed bp_add_tag_uint(bp_layer layer, const uint8_t *key, size_t key_len, uint64_t val, uint32_t *keys, size_t keys_len,
+                           uint32_t *values, size_t values_len, uint8_t *texts, size_t texts_len, uint32_t *features, size_t features_len);
+
+/* The same with a sint. */
+bp_changed bp_add_tag_sint(bp_layer layer, const uint8_t *key, size_t key_len, int64_t val, uint32_t *keys, size_t keys_len,
+                           uint32_t *values, size_t values_len, uint8_t *texts, size_t texts_len, uint32_t *features, size_t features_len);
+
+/* The same with a bool: 0 is false, and every other number is true. */
+bp_changed bp_add_tag_bool(bp_layer layer, const uint8_t *key, size_t key_len, uint32_t val, uint32_t *keys, size_t keys_len,
+                           uint32_t *values, size_t values_len, uint8_t *texts, size_t texts_len, uint32_t *features, size_t features_len);
+
+/* Completes the open feature: STATE, TURN. */
+bp_changed bp_into_layer(bp_layer layer, const uint32_t *keys, size_t keys_len, const uint32_t *values, size_t values_len,
+                         const uint8_t *texts, size_t texts_len, const uint32_t *features, size_t features_len);
+
+/* Abandons the open feature, as if it had never been opened: STATE, TURN. */
+bp_changed bp_abandon(bp_layer layer, const uint32_t *keys, size_t keys_len, const uint32_t *values, size_t values_len,
+                      const uint8_t *texts, size_t texts_len, const uint32_t *features, size_t features_len);
+
+/* Adds a whole feature at once, with this id where has_id is not 0: JOB, then what its calls refuse (KIND, STATE, TURN, ROOM, TEXT). A tag is five words of `tags`: where its key starts in `bytes` and
+ * how long it is, the value's kind (1 text, 2 float, 3 double, 4 int, 5 uint, 6 sint, 7 bool), then where its text starts in `bytes` and how long it is, or the low and the
+ * high half of its content. */
+bp_changed bp_add_feature(bp_layer layer, uint32_t kind, uint32_t has_id, uint64_t id, const uint32_t *words, size_t words_len,
+                          const uint32_t *tags, size_t tags_len, const uint8_t *bytes, size_t bytes_len, uint32_t *keys, size_t keys_len,
+                          uint32_t *values, size_t values_len, uint8_t *texts, size_t texts_len, uint32_t *features, size_t features_len);
+
+/* How many features are complete: STATE. */
+bp_counted bp_num_features(bp_layer layer, const uint32_t *keys, size_t keys_len, const uint32_t *values, size_t values_len,
+                           const uint8_t *texts, size_t texts_len, const uint32_t *features, size_t features_len);
+
+/* How many tag words the open feature has, two a tag: STATE, TURN. */
+bp_counted bp_num_tags(bp_layer layer, const uint32_t *keys, size_t keys_len, const uint32_t *values, size_t values_len,
+                       const uint8_t *texts, size_t texts_len, const uint32_t *features, size_t features_len);
+
+/* Where the name stands in `texts`: STATE. */
+bp_named bp_name(bp_layer layer, const uint32_t *keys, size_t keys_len, const uint32_t *values, size_t values_len,
+                 const uint8_t *texts, size_t texts_len, const uint32_t *features, size_t features_len);
+
+/* ---- a tile */
+
+/* A tile between two calls, with the same two lists: its bytes, and two words for each layer's name. It is checked at each call. */
+typedef struct bp_tile {
+    uint32_t extent;
+    size_t used;   /* bytes */
+    size_t layers;
+} bp_tile;
+
+typedef struct bp_added {
+    uint32_t refusal;
+    bp_tile tile; /* after the call, or as it was given where refused */
+} bp_added;
+
+/* A tile without layers. */
+bp_tile bp_tile_new(uint32_t extent);
+
+/* A layer of the tile's extent, without features: TEXT, ROOM. */
+bp_changed bp_create_layer(bp_tile tile, const uint8_t *name, size_t name_len, uint8_t *texts, size_t texts_len);
+
+/* Writes a layer behind the tile's bytes: STATE, TURN, EXTENT, NAME, ROOM. */
+bp_added bp_add_layer(bp_tile tile, bp_layer layer, const uint32_t *keys, size_t keys_len, const uint32_t *values, size_t values_len,
+                      const uint8_t *texts, size_t texts_len, const uint32_t *features, size_t features_len,
+                      uint32_t *names, size_t names_len, uint8_t *bytes, size_t bytes_len);
+
+/* How many layers the tile has: STATE. */
+bp_counted bp_num_layers(bp_tile tile, const uint32_t *names, size_t names_len, const uint8_t *bytes, size_t bytes_len);
+
+/* How many bytes the tile has: STATE. */
+bp_counted bp_compute_size(bp_tile tile, const uint32_t *names, size_t names_len, const uint8_t *bytes, size_t bytes_len);
+
+/* Where the tile ends in `bytes`, at whose front it stands: STATE. */
+bp_counted bp_to_bytes(bp_tile tile, const uint32_t *names, size_t names_len, const uint8_t *bytes, size_t bytes_len);
 
 #ifdef __cplusplus
 }

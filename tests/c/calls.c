@@ -1,25 +1,9 @@
 /* Holds include/brinepost.h against the library: the layout of each struct, and each function called with numbers that would betray a wrong order, width or sign.
  * Expected words and segments are the Rust's own answers (oracle/ask). */
 #include "brinepost.h"
-#include <stdio.h>
-#include <string.h>
-
-static int checks, failures;
-
-static void same(const char *what, int line, long long expected, long long given)
-{
-    checks++;
-    if (expected == given)
-        return;
-    failures++;
-    printf("tests/c/calls.c:%d: %s: expected %lld, given %lld\n", line, what, expected, given);
-}
-#define SAME(expected, given) same(#given, __LINE__, (long long)(expected), (long long)(given))
-#define COUNT(list) (sizeof(list) / sizeof((list)[0]))
+#include "check.h"
 
 /* ---- the header's layout, as the library has it */
-#define AT(type, field, place) _Static_assert(offsetof(type, field) == (place), #type "." #field)
-#define SIZE(type, bytes) _Static_assert(sizeof(type) == (bytes), #type)
 SIZE(bp_clipped, 20);
 AT(bp_clipped, x0, 4);
 AT(bp_clipped, y0, 8);
@@ -250,6 +234,5 @@ int main(void)
     jobs();
     readings();
     calls();
-    printf("%d checks of the C interface, %d failed\n", checks, failures);
-    return failures != 0;
+    return ended("clips, jobs, vertices and the encoder");
 }

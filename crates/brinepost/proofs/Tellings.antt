@@ -1,4 +1,4 @@
--- What C is told follows from what the proved function said: for a call with lent memory, and for one that carries a state by its flags.
+-- What C is told follows from what the proved function said, for a call that carries a state by its flags too.
 use Prim.Native.Nat.{ℕ}
 use mathlib.Core.Path.{_≡_, refl, sym, _∙_, ap}
 use mathlib.Core.Bool.{Bool, true, false, not}
@@ -8,6 +8,7 @@ use lib.IntN.{ℤ}
 use Rattle.promise.specs.Answers.{Written, Gives}
 use Rattle.refusal.specs.declared.Refusal.the-variants.{State}
 use Rattle.refusal.specs.Said.{Said}
+use Rattle.telling.proofs.Tellings.{told-gives}
 use Rattle.clip.specs.declared.Seg.{Seg}
 use Rattle.clip.specs.declared.BBox.{BBox}
 use Rattle.clip.specs.declared.Clipped.{Clipped}
@@ -22,14 +23,9 @@ use Rattle.brinepost.specs.declared.segment.BpClipped.{BpClipped}
 use Rattle.brinepost.specs.declared.state.BpEncoder.{BpEncoder}
 use Rattle.brinepost.specs.declared.calls.BpStarted.{BpStarted}
 use Rattle.brinepost.specs.declared.calls.BpDrawn.{BpDrawn}
-use Rattle.brinepost.specs.Telling.{told}
 use Rattle.brinepost.specs.Segments.{flatClip}
 use Rattle.brinepost.specs.Carried.{areFlags, stateOf}
 use Rattle.brinepost.specs.Drawing.{flatStarted, flatDrawn, flagged, unlessFlagged}
-
-pub told-gives : {A B M : Type 0} (f : A → B) (w : Written A M) (a : A) (b : B) (m : M) → Gives w a m → b ≡ f a → Gives (told f w) b m
-unfolding told
-told-gives f w a b m g e = record { answer = e ∙ ap f (g .answer); memory = g .memory }
 
 pub clip-told : (a : Clipped) (s : Seg) (b : BBox) (r : BpClipped) → saidClipped a ≡ clipped s b → r ≡ flatClip (saidClipped a) → r ≡ flatClip (clipped s b)
 clip-told a s b r e h = h ∙ ap flatClip e

@@ -16,7 +16,7 @@ use Rattle.encoder.specs.Completing.{completed}
 use Rattle.brinepost.specs.declared.state.BpEncoder.{BpEncoder}
 use Rattle.brinepost.specs.declared.calls.BpStarted.{BpStarted}
 use Rattle.brinepost.specs.declared.calls.BpDrawn.{BpDrawn}
-use Rattle.brinepost.specs.Telling.{told}
+use Rattle.telling.specs.Telling.{told}
 use Rattle.brinepost.specs.Carried.{areFlags, stateOf, stateTo, nothing}
 
 -- the fresh state, or every number 0 where there is none

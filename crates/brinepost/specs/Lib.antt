@@ -1,4 +1,3 @@
-pub mod Telling
 pub mod Segments
 pub mod Works
 pub mod Readings

@@ -2,7 +2,7 @@
 ghost use mathlib.Core.Path.{_≡_};
 ghost use Rattle.promise.specs.Answers.{Gives};
 ghost use Rattle.decoder.specs.ReadingWords.{reading, saidReading};
-ghost use Rattle.brinepost.specs.Telling.{told};
+ghost use Rattle.telling.specs.Telling.{told};
 ghost use Rattle.brinepost.specs.Readings.{flatReading};
 use decoder::Reading;
 

@@ -1,15 +1,13 @@
 -- The run of a script: the step that the code takes, the loop's invariant with its start, its turn and its two ends; and one value for each answer.
 use mathlib.Core.Path.{_≡_, refl, sym, _∙_, ap, subst}
-use mathlib.Core.Bool.{Bool, true, false, cond}
 use mathlib.Core.List.{List, [], _∷_, _++_, append-assoc, append-nil}
 use Prim.Native.Nat.{ℕ, zero, suc, _+_, _<_, _≤_}
 use native.Mathlib.Omega.{arith}
 use borrow.Author.Tests.{lt-ltb, le-ltb, eq-eqb, ne-eqb}
-use lib.Dec.{ltb}
 use lib.ListN.{length, getD, set, length-set, length-append}
-use Rattle.promise.specs.Answers.{Written, Gives}
+use Rattle.promise.specs.Answers.{Gives}
 use Rattle.promise.specs.Laid.{lay}
-use Rattle.promise.proofs.Laying.{lay-nothing, lay-next, lay-one, length-lay}
+use Rattle.promise.proofs.Laying.{lay-nothing, lay-next, lay-one}
 use Rattle.refusal.specs.declared.Refusal.{Refusal}
 use Rattle.refusal.specs.declared.Refusal.the-variants.{Room}
 use Rattle.refusal.specs.Refusals.{numberOf}
@@ -27,11 +25,10 @@ use Rattle.tile_script.specs.declared.Work.{Work}
 use Rattle.tile_script.specs.declared.Performed.{Performed}
 use Rattle.tile_script.specs.declared.Performed.the-variants.{Refused as NotDone}
 use Rattle.tile_script.specs.Performing.{Lists, saidPerformed, performed}
-use Rattle.tile_run.specs.declared.Step.{Step}
 use Rattle.tile_run.specs.declared.Step.the-variants.{Is as StepIs, Bad as StepBad}
 use Rattle.tile_run.specs.declared.Ran.{Ran}
 use Rattle.tile_run.specs.declared.Ran.the-variants.{Done, Refused}
-use Rattle.tile_run.specs.Running.{Course, ended, stopped, before, goes, reads, ranFrom, steppedBy, stepped, RunLists, runLists, Counts, counts, saidRan, courseIn, begins, course, ranScript}
+use Rattle.tile_run.specs.Running.{Course, ended, stopped, before, goes, ranFrom, steppedBy, stepped, RunLists, runLists, Counts, counts, saidRan, courseIn, begins, course, ranScript}
 
 -- ---- one step
 module _ (bytes ns : List ℕ) (at : ℕ) (w : Work) (m : Lists) (r : Next) (e : r ≡ operation ns at) where

@@ -32,7 +32,7 @@ use Rattle.hand.specs.Hands.{saidHandled, creating, onHand, tagOf}
 use Rattle.tile_script.specs.declared.Work.{Work}
 use Rattle.tile_script.specs.declared.Performed.{Performed}
 use Rattle.tile_script.specs.declared.Performed.the-variants.{Done, Refused}
-use Rattle.tile_script.specs.Performing.{Lists, lists, saidPerformed, working, added, addingBy, adding, inLayer, withTexts, inTexts, inTile, onLayer, performed}
+use Rattle.tile_script.specs.Performing.{Lists, lists, saidPerformed, working, added, adding, inLayer, withTexts, inTexts, inTile, onLayer, performed}
 
 abbrev at-work : Tile → Hand → Work
 at-work t h = record { tile = t; hand = h }

@@ -1,5 +1,5 @@
 -- What the reading said, and the list as it left it.
-use Rattle.brinepost.proofs.Tellings.{told-gives}
+use Rattle.telling.proofs.Tellings.{told-gives}
 use borrow.Author.Needs.{needs}
 use Rattle.brinepost.proofs.vertices.bp_decode.Statement.{statement}
 use Rattle.brinepost.proofs.vertices.bp_decode.Tie as tie

@@ -1,6 +1,6 @@
 -- What the whole job said, with the edges as they were given, and the words as it left them.
 use mir.Facts.{toZ-ofZ}
-use Rattle.brinepost.proofs.Tellings.{told-gives}
+use Rattle.telling.proofs.Tellings.{told-gives}
 use borrow.Author.Needs.{needs}
 use Rattle.brinepost.proofs.work.bp_encode_job.Statement.{statement}
 use Rattle.brinepost.proofs.work.bp_encode_job.Tie as tie

@@ -1,0 +1,3 @@
+pub mod Carrying
+pub mod Structs
+pub mod Calling

@@ -1,0 +1,23 @@
+-- By the flag, then field by field.
+use Rattle.promise.proofs.Cases.{tests}
+use Rattle.brinepost_tiles.specs.Carried.{layerOf}
+use Rattle.brinepost_tiles.proofs.Carrying.{layer-read}
+use borrow.Author.Needs.{needs}
+use Rattle.brinepost_tiles.proofs.carried.layer_of.Statement.{statement}
+use Rattle.brinepost_tiles.proofs.carried.layer_of.Tie as tie
+
+returns : tie.Need-returns
+unfolding layerOf
+returns c = search (needs, tests)
+
+figures-of-requires : tie.Need-figures-of-requires
+figures-of-requires c κs = search needs
+
+open-of-requires : tie.Need-open-of-requires
+open-of-requires c κs = search needs
+
+returns-2 : tie.Need-returns-2
+returns-2 c = search (needs, layer-read)
+
+pub layer-of-spec : {M : Type 1} → statement M
+layer-of-spec = tie.close (tie.spec returns figures-of-requires open-of-requires returns-2)

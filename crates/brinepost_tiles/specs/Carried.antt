@@ -1,0 +1,63 @@
+-- A layer and a tile as C carries them, and what they stand for. An open feature is a flag of 1 and the figures at its opening; 0 is none, and then the figures mean nothing.
+use Prim.Native.Nat.{ℕ}
+use mathlib.Core.Bool.{cond}
+use lib.Dec.{ltb, eqb}
+use Rattle.layer.specs.declared.Figures.{Figures}
+use Rattle.layer.specs.declared.Open.{Open}
+use Rattle.layer.specs.declared.Open.the-variants.{Shut, Since}
+use Rattle.layer.specs.declared.Layer.{Layer}
+use Rattle.tile.specs.declared.Tile.{Tile}
+use Rattle.brinepost_tiles.specs.declared.carried.BpFigures.{BpFigures}
+use Rattle.brinepost_tiles.specs.declared.carried.BpLayer.{BpLayer}
+use Rattle.brinepost_tiles.specs.declared.carried.BpTile.{BpTile}
+
+abbrev pub figuresOf : BpFigures → Figures
+figuresOf u = record { keys = u .keys; values = u .values; texts = u .texts; features = u .features }
+
+abbrev pub figuresTo : Figures → BpFigures
+figuresTo u = record { keys = u .keys; values = u .values; texts = u .texts; features = u .features }
+
+abbrev pub noFigures : BpFigures
+noFigures = record { keys = 0; values = 0; texts = 0; features = 0 }
+
+abbrev pub openOf : ℕ → BpFigures → Open
+openOf flag o = cond (eqb flag 0) Shut (Since (figuresOf o))
+
+abbrev pub flagTo : Open → ℕ
+flagTo Shut = 0
+flagTo (Since o) = 1
+
+abbrev pub sinceTo : Open → BpFigures
+sinceTo Shut = noFigures
+sinceTo (Since o) = figuresTo o
+
+-- a layer that breaks a rule of STATE, whatever lists are lent: its name runs past its texts
+abbrev pub broken : Layer
+broken = record { extent = 0; name = 1; used = record { keys = 0; values = 0; texts = 0; features = 0 }; feature = Shut }
+
+-- the layer that C's numbers stand for; a flag that is neither 0 nor 1 is STATE
+unfoldable pub layerOf : BpLayer → Layer
+layerOf s =
+    cond (ltb 1 (s .«is_open»))
+    broken
+    (record { extent = s .extent; name = s .name; used = figuresOf (s .used); feature = openOf (s .«is_open») (s .since) })
+
+unfoldable pub layerTo : Layer → BpLayer
+layerTo s =
+    record {
+      extent = s .extent;
+      «is_open» = flagTo (s .feature);
+      name = s .name;
+      used = figuresTo (s .used);
+      since = sinceTo (s .feature);
+    }
+
+-- every number 0: where there is no layer to give
+abbrev pub noLayer : BpLayer
+noLayer = record { extent = 0; «is_open» = 0; name = 0; used = noFigures; since = noFigures }
+
+abbrev pub tileOf : BpTile → Tile
+tileOf t = record { extent = t .extent; used = t .used; layers = t .layers }
+
+abbrev pub tileTo : Tile → BpTile
+tileTo t = record { extent = t .extent; used = t .used; layers = t .layers }

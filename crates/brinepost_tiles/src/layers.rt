@@ -1,0 +1,118 @@
+// The calls that change a layer, from C: the layer goes in and comes back by value, its keys, values, texts and feature records stand in four lent lists.
+ghost use Prim.Native.Nat.{_%_, _/_};
+ghost use Rattle.promise.specs.Answers.{Gives};
+ghost use Rattle.layer.specs.Held.{mem};
+ghost use Rattle.layer.specs.Calls.{created, intoFeature, setId, intoLayer, abandoned};
+ghost use Rattle.telling.specs.Telling.{told};
+ghost use Rattle.brinepost_tiles.specs.Answers.{flatCreated};
+ghost use Rattle.brinepost_tiles.specs.Calls.{calledFrom, headAt, featureFrom};
+use crate::answers::BpChanged;
+use crate::answers::changed;
+use crate::carried::BpLayer;
+use crate::carried::layer_of;
+use layer::Layer;
+use whole_feature::Head;
+
+// TEXT, ROOM, else a layer without features, its name the first text.
+#[no_mangle]
+pub extern "C" fn bp_layer_new(name: &[u8], extent: u32, texts: &mut [u8]) -> BpChanged
+    ensures { λ r. ⌜ Gives (told flatCreated (created (now (name .entry)) extent (now (texts .entry)))) r (now (texts .exit)) ⌝ }
+{
+    let r = Layer::new(name, extent, texts);
+    crate::answers::created(r)
+}
+
+// KIND, STATE, TURN, ROOM, else a feature is open, its geometry words as given.
+#[no_mangle]
+pub extern "C" fn bp_into_feature(
+    given: BpLayer,
+    kind: u32,
+    words: &[u32],
+    keys: &[u32],
+    values: &[u32],
+    texts: &[u8],
+    features: &mut [u32],
+) -> BpChanged
+    ensures { λ r. ⌜ Gives (calledFrom given (intoFeature kind (now (words .entry))) (mem (now (keys .entry)) (now (values .entry)) (now (texts .entry)) (now (features .entry)))) r (mem (now (keys .entry)) (now (values .entry)) (now (texts .entry)) (now (features .exit))) ⌝ }
+{
+    let s = layer_of(given);
+    let r = layer::feature::into_feature(s, kind, words, keys, values, texts, features);
+    changed(given, r)
+}
+
+// STATE, TURN, else the open feature has this id.
+#[no_mangle]
+pub extern "C" fn bp_set_id(
+    given: BpLayer,
+    id: u64,
+    keys: &[u32],
+    values: &[u32],
+    texts: &[u8],
+    features: &mut [u32],
+) -> BpChanged
+    ensures { λ r. ⌜ Gives (calledFrom given (setId (id % 4294967296) (id / 4294967296)) (mem (now (keys .entry)) (now (values .entry)) (now (texts .entry)) (now (features .entry)))) r (mem (now (keys .entry)) (now (values .entry)) (now (texts .entry)) (now (features .exit))) ⌝ }
+{
+    let s = layer_of(given);
+    let r = layer::feature::set_id(s, id, keys, values, texts, features);
+    changed(given, r)
+}
+
+// STATE, TURN, else the open feature is complete.
+#[no_mangle]
+pub extern "C" fn bp_into_layer(
+    given: BpLayer,
+    keys: &[u32],
+    values: &[u32],
+    texts: &[u8],
+    features: &[u32],
+) -> BpChanged
+    ensures { λ r. ⌜ Gives (calledFrom given intoLayer (mem (now (keys .entry)) (now (values .entry)) (now (texts .entry)) (now (features .entry)))) r (mem (now (keys .entry)) (now (values .entry)) (now (texts .entry)) (now (features .entry))) ⌝ }
+{
+    let s = layer_of(given);
+    let r = layer::feature::into_layer(s, keys, values, texts, features);
+    changed(given, r)
+}
+
+// STATE, TURN, else all used figures are those at the opening of the feature.
+#[no_mangle]
+pub extern "C" fn bp_abandon(
+    given: BpLayer,
+    keys: &[u32],
+    values: &[u32],
+    texts: &[u8],
+    features: &[u32],
+) -> BpChanged
+    ensures { λ r. ⌜ Gives (calledFrom given abandoned (mem (now (keys .entry)) (now (values .entry)) (now (texts .entry)) (now (features .entry)))) r (mem (now (keys .entry)) (now (values .entry)) (now (texts .entry)) (now (features .entry))) ⌝ }
+{
+    let s = layer_of(given);
+    let r = layer::feature::abandon(s, keys, values, texts, features);
+    changed(given, r)
+}
+
+// JOB, then what opening, each tag and closing refuse, else a whole feature, with an id where has_id is not 0. A tag is five words: where its key starts in bytes and how long it is,
+// the kind of its value, and where the text starts and how long it is or the low and the high half of the content.
+#[no_mangle]
+pub extern "C" fn bp_add_feature(
+    given: BpLayer,
+    kind: u32,
+    has_id: u32,
+    id: u64,
+    words: &[u32],
+    tags: &[u32],
+    bytes: &[u8],
+    keys: &mut [u32],
+    values: &mut [u32],
+    texts: &mut [u8],
+    features: &mut [u32],
+) -> BpChanged
+    ensures { λ r. ⌜ Gives (featureFrom given (headAt kind «has_id» id) (now (words .entry)) (now (tags .entry)) (now (bytes .entry)) (mem (now (keys .entry)) (now (values .entry)) (now (texts .entry)) (now (features .entry)))) r (mem (now (keys .exit)) (now (values .exit)) (now (texts .exit)) (now (features .exit))) ⌝ }
+{
+    let s = layer_of(given);
+    let head = Head {
+        kind: kind,
+        has_id: has_id != 0,
+        id: id,
+    };
+    let r = whole_feature::add_feature(s, head, words, tags, bytes, keys, values, texts, features);
+    changed(given, r)
+}

@@ -1,0 +1,279 @@
+/* Holds include/brinepost.h against the library of layers and tiles: the layout of each struct, and each function called with numbers that would betray a wrong order, width or sign.
+ * Expected words are those of document 01's lists; the bytes of the last tile were put together by hand from the Protocol Buffers document. */
+#include "brinepost.h"
+#include "check.h"
+
+/* ---- the header's layout, as the library has it */
+SIZE(bp_figures, 32);
+AT(bp_figures, values, 8);
+AT(bp_figures, texts, 16);
+AT(bp_figures, features, 24);
+SIZE(bp_layer, 80);
+AT(bp_layer, is_open, 4);
+AT(bp_layer, name, 8);
+AT(bp_layer, used, 16);
+AT(bp_layer, since, 48);
+SIZE(bp_changed, 88);
+AT(bp_changed, layer, 8);
+SIZE(bp_counted, 16);
+AT(bp_counted, count, 8);
+SIZE(bp_named, 24);
+AT(bp_named, start, 8);
+AT(bp_named, len, 16);
+SIZE(bp_tile, 24);
+AT(bp_tile, used, 8);
+AT(bp_tile, layers, 16);
+SIZE(bp_added, 32);
+AT(bp_added, tile, 8);
+
+/* ---- the lent lists with guards between them, and what they should hold; what is not written stays */
+static struct memory {
+    uint8_t guard0[16];
+    uint32_t keys[5];
+    uint8_t guard1[16];
+    uint32_t values[22];
+    uint8_t guard2[16];
+    uint8_t texts[20];
+    uint8_t guard3[16];
+    uint32_t features[40];
+    uint8_t guard4[16];
+    uint32_t names[4];
+    uint8_t guard5[16];
+    uint8_t bytes[200];
+    uint8_t guard6[16];
+} m, should;
+#define LISTS m.keys, COUNT(m.keys), m.values, COUNT(m.values), m.texts, COUNT(m.texts), m.features, COUNT(m.features)
+#define TILE m.names, COUNT(m.names), m.bytes, COUNT(m.bytes)
+#define TEXT(text) (const uint8_t *)(text), sizeof(text) - 1
+
+static void fill(void)
+{
+    memset(&m, 0xA5, sizeof m);
+    memset(&should, 0xA5, sizeof should);
+}
+#define HELD() SAME(0, memcmp(&m, &should, sizeof m))
+#define LAID(list, at, ...) memcpy(should.list + (at), (const uint32_t[]){__VA_ARGS__}, sizeof((const uint32_t[]){__VA_ARGS__}))
+
+static void figures_are(int line, bp_figures f, size_t keys, size_t values, size_t texts, size_t features)
+{
+    same("keys", line, keys, f.keys);
+    same("values", line, values, f.values);
+    same("texts", line, texts, f.texts);
+    same("features", line, features, f.features);
+}
+#define FIGURES(f, keys, values, texts, features) figures_are(__LINE__, f, keys, values, texts, features)
+
+static void given_back(int line, bp_layer s, bp_changed c, uint32_t refusal)
+{
+    same("refusal", line, refusal, c.refusal);
+    same("the layer given back", line, 0, memcmp(&s, &c.layer, sizeof s));
+    same("the lists", line, 0, memcmp(&m, &should, sizeof m));
+}
+#define GIVEN_BACK(s, c, refusal) given_back(__LINE__, s, c, refusal)
+
+static const bp_layer none;
+static const uint32_t words[] = {9, 2, 4};
+
+static bp_layer made(void)
+{
+    static const uint8_t long_name[1025];
+    fill();
+    GIVEN_BACK(none, bp_layer_new(long_name, 1025, 1, m.texts, 20), BP_TEXT);
+    GIVEN_BACK(none, bp_layer_new(long_name, 1024, 1, m.texts, 20), BP_ROOM);
+    GIVEN_BACK(none, bp_layer_new(TEXT("ab"), 1, m.texts, 1), BP_ROOM);
+    bp_changed c = bp_layer_new(TEXT("ab"), 0x80000001u, m.texts, COUNT(m.texts));
+    memcpy(should.texts, "ab", 2);
+    SAME(0, c.refusal), SAME(0x80000001u, c.layer.extent), SAME(0, c.layer.is_open), SAME(2, c.layer.name), HELD();
+    FIGURES(c.layer.used, 0, 0, 2, 0), FIGURES(c.layer.since, 0, 0, 0, 0);
+    return c.layer;
+}
+
+static bp_layer tagged(bp_layer s)
+{
+    GIVEN_BACK(s, bp_into_feature(s, 4, words, 3, LISTS), BP_KIND);
+    GIVEN_BACK(s, bp_set_id(s, 1, LISTS), BP_TURN);
+    GIVEN_BACK(s, bp_add_tag_uint(s, TEXT("k"), 1, LISTS), BP_TURN);
+    bp_changed c = bp_into_feature(s, BP_LINE, words, 3, LISTS);
+    LAID(features, 0, 2, 0, 0, 0, 0, 3, 9, 2, 4);
+    SAME(0, c.refusal), SAME(1, c.layer.is_open), FIGURES(c.layer.used, 0, 0, 2, 9), FIGURES(c.layer.since, 0, 0, 2, 0), HELD();
+    GIVEN_BACK(c.layer, bp_into_feature(c.layer, BP_LINE, words, 3, LISTS), BP_TURN);
+    c = bp_set_id(c.layer, 0x8102030405060708u, LISTS);
+    LAID(features, 1, 1, 0x05060708, 0x81020304);
+    SAME(0, c.refusal), HELD();
+    c = bp_add_tag_string(c.layer, TEXT("k"), TEXT("v!"), LISTS); /* the text behind the key's */
+    memcpy(should.texts + 2, "kv!", 3);
+    LAID(keys, 0, 2, 1), LAID(values, 0, 1, 3, 2), LAID(features, 4, 2), LAID(features, 9, 0, 0);
+    SAME(0, c.refusal), FIGURES(c.layer.used, 1, 1, 5, 11), HELD();
+    c = bp_add_tag_float(c.layer, TEXT("k"), 0x80000001u, LISTS);
+    LAID(values, 3, 2, 0x80000001u, 0), LAID(features, 4, 4), LAID(features, 11, 0, 1);
+    SAME(0, c.refusal), HELD();
+    c = bp_add_tag_double(c.layer, TEXT("d"), 0x8000000200000003u, LISTS);
+    should.texts[5] = 'd';
+    LAID(keys, 2, 5, 1), LAID(values, 6, 3, 3, 0x80000002u), LAID(features, 4, 6), LAID(features, 13, 1, 2);
+    SAME(0, c.refusal), FIGURES(c.layer.used, 2, 3, 6, 15), HELD();
+    c = bp_add_tag_int(c.layer, TEXT("d"), -2, LISTS);
+    LAID(values, 9, 4, 0xFFFFFFFEu, 0xFFFFFFFFu), LAID(features, 4, 8), LAID(features, 15, 1, 3);
+    SAME(0, c.refusal), HELD();
+    c = bp_add_tag_uint(c.layer, TEXT("d"), 0xFFFFFFFE00000001u, LISTS);
+    LAID(values, 12, 5, 1, 0xFFFFFFFEu), LAID(features, 4, 10), LAID(features, 17, 1, 4);
+    SAME(0, c.refusal), HELD();
+    c = bp_add_tag_sint(c.layer, TEXT("d"), INT64_MIN, LISTS);
+    LAID(values, 15, 6, 0, 0x80000000u), LAID(features, 4, 12), LAID(features, 19, 1, 5);
+    SAME(0, c.refusal), HELD();
+    c = bp_add_tag_bool(c.layer, TEXT("k"), 256, LISTS); /* every number but 0 is true */
+    LAID(values, 18, 7, 1, 0), LAID(features, 4, 14), LAID(features, 21, 0, 6);
+    SAME(0, c.refusal), HELD();
+    c = bp_add_tag_bool(c.layer, TEXT("d"), 0x80000000u, LISTS); /* the same value again */
+    LAID(features, 4, 16), LAID(features, 23, 1, 6);
+    SAME(0, c.refusal), FIGURES(c.layer.used, 2, 7, 6, 25), HELD();
+    GIVEN_BACK(c.layer, bp_add_tag_bool(c.layer, TEXT("d"), 0, LISTS), BP_ROOM); /* an eighth value */
+    GIVEN_BACK(c.layer, bp_add_tag_string(c.layer, TEXT("k"), m.bytes, 1025, LISTS), BP_TEXT);
+    SAME(16, bp_num_tags(c.layer, LISTS).count), SAME(0, bp_num_features(c.layer, LISTS).count);
+    return c.layer;
+}
+
+static bp_layer closed(bp_layer open)
+{
+    bp_changed c = bp_abandon(open, LISTS);
+    SAME(0, c.refusal), SAME(0, c.layer.is_open), FIGURES(c.layer.used, 0, 0, 2, 0), HELD();
+    c = bp_into_layer(open, LISTS);
+    SAME(0, c.refusal), SAME(0, c.layer.is_open), FIGURES(c.layer.used, 2, 7, 6, 25), FIGURES(c.layer.since, 0, 0, 0, 0), HELD();
+    GIVEN_BACK(c.layer, bp_into_layer(c.layer, LISTS), BP_TURN);
+    GIVEN_BACK(c.layer, bp_abandon(c.layer, LISTS), BP_TURN);
+    bp_counted n = bp_num_tags(c.layer, LISTS);
+    SAME(BP_TURN, n.refusal), SAME(0, n.count);
+    n = bp_num_features(c.layer, LISTS);
+    SAME(0, n.refusal), SAME(1, n.count);
+    bp_named name = bp_name(c.layer, LISTS);
+    SAME(0, name.refusal), SAME(0, name.start), SAME(2, name.len);
+    return c.layer;
+}
+
+/* A whole feature whose key and text are there already. */
+static bp_layer whole(bp_layer s)
+{
+    const uint32_t tags[] = {2, 1, 1, 0, 2};
+    GIVEN_BACK(s, bp_add_feature(s, 1, 0, 0, words, 3, tags, 4, TEXT("v!k"), LISTS), BP_JOB);
+    GIVEN_BACK(s, bp_add_feature(s, 1, 0, 0, words, 3, tags, 5, TEXT("v!"), LISTS), BP_JOB);
+    GIVEN_BACK(s, bp_add_feature(s, 0, 0, 0, words, 3, tags, 5, TEXT("v!k"), LISTS), BP_KIND);
+    bp_changed c = bp_add_feature(s, BP_POINT, 0, 5, words, 3, tags, 0, TEXT(""), LISTS);
+    LAID(features, 25, 1, 0, 0, 0, 0, 3, 9, 2, 4);
+    SAME(0, c.refusal), FIGURES(c.layer.used, 2, 7, 6, 34), HELD();
+    c = bp_add_feature(s, BP_POINT, 256, 0x8000000700000006u, words, 3, tags, 5, TEXT("v!k"), LISTS);
+    LAID(features, 25, 1, 1, 6, 0x80000007u, 2, 3, 9, 2, 4, 0, 0);
+    SAME(0, c.refusal), SAME(0, c.layer.is_open), FIGURES(c.layer.used, 2, 7, 6, 36), HELD();
+    SAME(2, bp_num_features(c.layer, LISTS).count);
+    return c.layer;
+}
+
+/* Every number of the layer is looked at, at its full width, by every call. */
+static void refused(bp_layer s)
+{
+    GIVEN_BACK(s, bp_into_feature(s, 2, words, 3, LISTS), BP_STATE);
+    GIVEN_BACK(s, bp_into_feature(s, 4, words, 3, LISTS), BP_KIND); /* comes before STATE */
+    GIVEN_BACK(s, bp_set_id(s, 1, LISTS), BP_STATE);
+    GIVEN_BACK(s, bp_add_tag_string(s, TEXT("k"), TEXT("v"), LISTS), BP_STATE);
+    GIVEN_BACK(s, bp_add_tag_float(s, TEXT("k"), 1, LISTS), BP_STATE);
+    GIVEN_BACK(s, bp_add_tag_double(s, TEXT("k"), 1, LISTS), BP_STATE);
+    GIVEN_BACK(s, bp_add_tag_int(s, TEXT("k"), 1, LISTS), BP_STATE);
+    GIVEN_BACK(s, bp_add_tag_uint(s, TEXT("k"), 1, LISTS), BP_STATE);
+    GIVEN_BACK(s, bp_add_tag_sint(s, TEXT("k"), 1, LISTS), BP_STATE);
+    GIVEN_BACK(s, bp_add_tag_bool(s, TEXT("k"), 1, LISTS), BP_STATE);
+    GIVEN_BACK(s, bp_into_layer(s, LISTS), BP_STATE);
+    GIVEN_BACK(s, bp_abandon(s, LISTS), BP_STATE);
+    GIVEN_BACK(s, bp_add_feature(s, 1, 0, 0, words, 3, words, 0, TEXT(""), LISTS), BP_STATE);
+    SAME(BP_STATE, bp_num_features(s, LISTS).refusal), SAME(BP_STATE, bp_num_tags(s, LISTS).refusal), SAME(BP_STATE, bp_name(s, LISTS).refusal);
+    bp_tile t = {.extent = s.extent};
+    SAME(BP_STATE, bp_add_layer(t, s, LISTS, TILE).refusal), HELD();
+}
+
+static void states(bp_layer open)
+{
+    bp_layer s = open;
+    size_t *const figures[] = {&s.name, &s.used.keys, &s.used.values, &s.used.texts, &s.used.features, &s.since.keys, &s.since.values, &s.since.texts, &s.since.features};
+    for (size_t i = 0; i < COUNT(figures); i++) {
+        s = open, *figures[i] += (size_t)1 << 32;
+        refused(s);
+    }
+    s = open, s.is_open = 2;
+    refused(s);
+    s.is_open = 0x80000000u;
+    refused(s);
+    s.is_open = 0, s.since.keys = SIZE_MAX; /* what lies behind a 0 is not looked at */
+    SAME(0, bp_num_features(s, LISTS).refusal), SAME(1, bp_num_features(s, LISTS).count);
+    GIVEN_BACK(s, bp_into_layer(s, LISTS), BP_TURN);
+}
+
+static void tile_given_back(int line, bp_tile t, bp_added a, uint32_t refusal)
+{
+    same("refusal", line, refusal, a.refusal);
+    same("extent", line, t.extent, a.tile.extent);
+    same("used", line, t.used, a.tile.used);
+    same("layers", line, t.layers, a.tile.layers);
+    same("the lists", line, 0, memcmp(&m, &should, sizeof m));
+}
+#define TILE_BACK(t, a, refusal) tile_given_back(__LINE__, t, a, refusal)
+
+/* The layer "ab" of extent 0x80000001 with its two features. */
+static const uint8_t bytes[] = {
+    0x1A, 0x93, 0x01, 0x0A, 0x02, 0x61, 0x62, 0x12, 0x24, 0x08, 0x88, 0x8E, 0x98, 0xA8, 0xC0, 0xE0,
+    0x80, 0x81, 0x81, 0x01, 0x12, 0x10, 0x00, 0x00, 0x00, 0x01, 0x01, 0x02, 0x01, 0x03, 0x01, 0x04,
+    0x01, 0x05, 0x00, 0x06, 0x01, 0x06, 0x18, 0x02, 0x22, 0x03, 0x09, 0x02, 0x04, 0x12, 0x16, 0x08,
+    0x86, 0x80, 0x80, 0x80, 0xF0, 0x80, 0x80, 0x80, 0x80, 0x01, 0x12, 0x02, 0x00, 0x00, 0x18, 0x01,
+    0x22, 0x03, 0x09, 0x02, 0x04, 0x1A, 0x01, 0x6B, 0x1A, 0x01, 0x64, 0x22, 0x04, 0x0A, 0x02, 0x76,
+    0x21, 0x22, 0x05, 0x15, 0x01, 0x00, 0x00, 0x80, 0x22, 0x09, 0x19, 0x03, 0x00, 0x00, 0x00, 0x02,
+    0x00, 0x00, 0x80, 0x22, 0x0B, 0x20, 0xFE, 0xFF, 0xFF, 0xFF, 0xFF, 0xFF, 0xFF, 0xFF, 0xFF, 0x01,
+    0x22, 0x0B, 0x28, 0x81, 0x80, 0x80, 0x80, 0xE0, 0xFF, 0xFF, 0xFF, 0xFF, 0x01, 0x22, 0x0B, 0x30,
+    0xFF, 0xFF, 0xFF, 0xFF, 0xFF, 0xFF, 0xFF, 0xFF, 0xFF, 0x01, 0x22, 0x02, 0x38, 0x01, 0x28, 0x81,
+    0x80, 0x80, 0x80, 0x08, 0x78, 0x02,
+};
+
+static void tiles(bp_layer open, bp_layer s)
+{
+    bp_tile t = bp_tile_new(0x80000001u);
+    SAME(0x80000001u, t.extent), SAME(0, t.used), SAME(0, t.layers);
+    TILE_BACK(t, bp_add_layer(t, open, LISTS, TILE), BP_TURN);
+    TILE_BACK(t, bp_add_layer(t, s, LISTS, m.names, 1, m.bytes, COUNT(m.bytes)), BP_ROOM);
+    TILE_BACK(t, bp_add_layer(t, s, LISTS, m.names, 2, m.bytes, COUNT(bytes) - 1), BP_ROOM);
+    t.extent = 1;
+    TILE_BACK(t, bp_add_layer(t, s, LISTS, TILE), BP_EXTENT);
+    t.extent = 0x80000001u;
+    bp_added a = bp_add_layer(t, s, LISTS, m.names, 2, m.bytes, COUNT(bytes));
+    memcpy(should.bytes, bytes, COUNT(bytes));
+    LAID(names, 0, 5, 2);
+    SAME(0, a.refusal), SAME(0x80000001u, a.tile.extent), SAME(COUNT(bytes), a.tile.used), SAME(1, a.tile.layers), HELD();
+    t = a.tile;
+    TILE_BACK(t, bp_add_layer(t, s, LISTS, TILE), BP_NAME);
+    SAME(1, bp_num_layers(t, TILE).count), SAME(COUNT(bytes), bp_compute_size(t, TILE).count), SAME(COUNT(bytes), bp_to_bytes(t, TILE).count);
+    size_t *const figures[] = {&t.used, &t.layers};
+    for (size_t i = 0; i < COUNT(figures); i++) {
+        t = a.tile, *figures[i] += (size_t)1 << 32;
+        TILE_BACK(t, bp_add_layer(t, s, LISTS, TILE), BP_STATE);
+        SAME(BP_STATE, bp_num_layers(t, TILE).refusal), SAME(0, bp_num_layers(t, TILE).count);
+        SAME(BP_STATE, bp_compute_size(t, TILE).refusal), SAME(BP_STATE, bp_to_bytes(t, TILE).refusal);
+    }
+}
+
+/* Document 01's tile: extent 4096, the layer "a" without features. */
+static void empty_layer(void)
+{
+    static const uint8_t tile[] = {0x1A, 0x08, 0x0A, 0x01, 0x61, 0x28, 0x80, 0x20, 0x78, 0x02};
+    fill();
+    bp_tile t = bp_tile_new(4096);
+    SAME(BP_ROOM, bp_create_layer(t, TEXT("a"), m.texts, 0).refusal);
+    bp_changed c = bp_create_layer(t, TEXT("a"), m.texts, 1);
+    SAME(0, c.refusal), SAME(4096, c.layer.extent), SAME(1, c.layer.name), FIGURES(c.layer.used, 0, 0, 1, 0);
+    bp_added a = bp_add_layer(t, c.layer, LISTS, TILE);
+    should.texts[0] = 'a', LAID(names, 0, 4, 1), memcpy(should.bytes, tile, sizeof tile);
+    SAME(0, a.refusal), SAME(sizeof tile, bp_to_bytes(a.tile, TILE).count), HELD();
+}
+
+int main(void)
+{
+    bp_layer open = tagged(made());
+    bp_layer shut = whole(closed(open));
+    tiles(open, shut);
+    states(open);
+    empty_layer();
+    return ended("layers and tiles");
+}
