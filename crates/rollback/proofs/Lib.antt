@@ -1,3 +1,4 @@
 pub mod Good
 pub mod Seen
 pub mod Rolled
+pub mod Odd
