@@ -1,6 +1,7 @@
-//! One piece of work, so many times over, by our library or by the Rust: bench WORK ours|rust TIMES
+//! One piece of work, so many times over, by our library or by the Rust: bench WORK ours|rust|same TIMES (same: the two tiles are compared)
 //! Counting the instructions of two runs and subtracting gives those of the work alone (bench/run does it).
 
+mod tiles;
 mod works;
 
 use std::hint::black_box;
@@ -30,6 +31,9 @@ fn ours(work: &Work, memory: &mut Memory) {
         }
         Work::Decode { words } => {
             black_box(ours::decode(words, &mut memory.numbers));
+        }
+        Work::Tile { features, way } => {
+            black_box(tiles::ours(features, *way, &mut memory.tiles));
         }
     }
 }
@@ -65,6 +69,9 @@ fn rust(work: &Work) {
             eprintln!("the Rust reads no words");
             exit(2)
         }
+        Work::Tile { features, .. } => {
+            black_box(tiles::rust(features));
+        }
     }
 }
 
@@ -72,6 +79,23 @@ fn rust(work: &Work) {
 struct Memory {
     words: Vec<u32>,
     numbers: Vec<i32>,
+    tiles: tiles::Memory,
+}
+
+/// The Rust's tables take their random keys from here, so that a count is the same at every run.
+#[no_mangle]
+extern "C" fn getrandom(to: *mut u8, length: usize, _flags: u32) -> isize {
+    unsafe { to.write_bytes(0x5A, length) };
+    length as isize
+}
+
+/// Whether the two tiles are the same, before their instructions are compared.
+fn same(work: &Work, memory: &mut Memory) {
+    if let Work::Tile { features, way } = work {
+        let bytes = tiles::ours(features, *way, &mut memory.tiles);
+        assert!(bytes == tiles::rust(features), "the tiles differ");
+        println!("{} bytes", bytes.len());
+    }
 }
 
 fn main() {
@@ -84,7 +108,7 @@ fn main() {
     };
     let Some((work, side, times)) = known else {
         eprintln!(
-            "usage: bench WORK ours|rust TIMES\nworks: {}",
+            "usage: bench WORK ours|rust|same TIMES\nworks: {}",
             works::NAMES.join(" ")
         );
         exit(2)
@@ -92,6 +116,7 @@ fn main() {
     let mut memory = Memory {
         words: vec![0; 1_048_576],
         numbers: vec![0; 1_048_576],
+        tiles: tiles::Memory::new(),
     };
     // Where a symbol of known place in the program was loaded, for bench/where.
     eprintln!("main at {:x}", main as fn() as usize);
@@ -99,6 +124,7 @@ fn main() {
     for _ in 0..times {
         match side.as_str() {
             "ours" => ours(black_box(&work), &mut memory),
+            "same" => same(&work, &mut memory),
             _ => rust(black_box(&work)),
         }
     }

@@ -1,5 +1,7 @@
 //! The pieces of work, by name.
 
+use crate::tiles::{self, Feature, Way};
+
 pub enum Work {
     /// One part.
     Encode {
@@ -13,6 +15,11 @@ pub enum Work {
     },
     Decode {
         words: Vec<u32>,
+    },
+    /// A tile of one layer with these features.
+    Tile {
+        features: Vec<Feature>,
+        way: Way,
     },
 }
 
@@ -32,6 +39,19 @@ pub const NAMES: &[&str] = &[
     "decode-10",
     "decode-400",
     "decode-100000",
+    "tile-same-10",
+    "tile-same-100",
+    "tile-same-1000",
+    "tile-own-10",
+    "tile-own-100",
+    "tile-own-1000",
+    "tile-calls-10",
+    "tile-calls-100",
+    "tile-calls-1000",
+    "values-1024",
+    "values-4096",
+    "values-16384",
+    "values-65536",
 ];
 
 const EDGES: [i32; 4] = [0, 4096, 0, 4096];
@@ -108,7 +128,11 @@ fn encoded(points: &[i32]) -> Vec<u32> {
 
 pub fn named(name: &str) -> Option<Work> {
     let (kind, count) = name.rsplit_once('-')?;
-    let count: usize = count.parse().ok().filter(|_| NAMES.contains(&name))?;
+    // Any size of a kind that is in the list.
+    let known = NAMES
+        .iter()
+        .any(|known| known.rsplit_once('-').is_some_and(|(k, _)| k == kind));
+    let count: usize = count.parse().ok().filter(|_| known)?;
     let line = |points| Work::Encode {
         kind: 2,
         edges: EDGES,
@@ -118,7 +142,12 @@ pub fn named(name: &str) -> Option<Work> {
         edges: EDGES,
         segments,
     };
+    let tile = |features, way| Work::Tile { features, way };
     Some(match kind {
+        "tile-same" => tile(tiles::posts(count, false), Way::Whole),
+        "tile-own" => tile(tiles::posts(count, true), Way::Whole),
+        "tile-calls" => tile(tiles::posts(count, true), Way::Calls),
+        "values" => tile(tiles::values(count), Way::Whole),
         "line-inside" => line(inside(count)),
         "line-crossing" => line(crossing(count)),
         "ring-collinear" => Work::Encode {

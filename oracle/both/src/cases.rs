@@ -1,6 +1,7 @@
 //! The cases of cases.py, the fixed ones and random ones, made here for speed. `oracle/compare` holds the two against each other first.
 
 use crate::random::Random;
+use crate::scripts;
 
 pub const LIMIT: i64 = 1_073_741_823;
 /// Bytes of a job file.
@@ -353,6 +354,11 @@ pub fn print(kind: &str, seed: u64, count: usize) {
             (0..count).for_each(|at| hex(next_job(&mut random, at)));
         }
         "large_jobs" => large_jobs(&mut random, count).into_iter().for_each(hex),
+        "tiles" => {
+            scripts::fixed_tiles().into_iter().for_each(hex);
+            (0..count).for_each(|at| hex(scripts::next_tile(&mut random, at)));
+        }
+        "large_tiles" => scripts::large_tiles().into_iter().for_each(hex),
         _ => {
             fixed_clips().into_iter().for_each(line);
             (0..count).for_each(|_| line(next_clip(&mut random)));

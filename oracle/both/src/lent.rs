@@ -63,3 +63,83 @@ impl Lent {
             .all(|at| self.all[at] == pattern(at))
     }
 }
+
+/// What a watched list is made of.
+pub trait Element: Copy + PartialEq + std::fmt::Debug {
+    fn pattern(at: usize) -> Self;
+}
+
+impl Element for u32 {
+    fn pattern(at: usize) -> u32 {
+        pattern(at)
+    }
+}
+
+impl Element for u8 {
+    fn pattern(at: usize) -> u8 {
+        (pattern(at) >> 24) as u8
+    }
+}
+
+/// A list beside what it is expected to hold, guards and all.
+pub struct Watched<T> {
+    all: Vec<T>,
+    expected: Vec<T>,
+}
+
+impl<T: Element> Watched<T> {
+    pub fn new(room: usize) -> Self {
+        let all: Vec<T> = (0..room + 2 * GUARD).map(T::pattern).collect();
+        Watched {
+            expected: all.clone(),
+            all,
+        }
+    }
+
+    /// A list with this content.
+    pub fn holding(content: &[T]) -> Self {
+        let mut list = Watched::new(content.len());
+        list.expect(0, content);
+        list.all = list.expected.clone();
+        list
+    }
+
+    pub fn room(&self) -> usize {
+        self.all.len() - 2 * GUARD
+    }
+
+    pub fn lent(&mut self) -> &mut [T] {
+        let room = self.room();
+        &mut self.all[GUARD..GUARD + room]
+    }
+
+    /// These elements are expected at that place from now on.
+    pub fn expect(&mut self, at: usize, elements: &[T]) {
+        self.expected[GUARD + at..GUARD + at + elements.len()].copy_from_slice(elements);
+    }
+
+    pub fn expected(&self, at: usize) -> T {
+        self.expected[GUARD + at]
+    }
+
+    /// Whether the guards and so many elements at the front are unharmed.
+    pub fn kept(&self, front: usize) -> bool {
+        let behind = GUARD + self.room();
+        let front = GUARD + front.min(self.room());
+        self.all[..front] == self.expected[..front] && self.all[behind..] == self.expected[behind..]
+    }
+
+    pub fn differs(&self, name: &str) -> Option<String> {
+        if self.all == self.expected {
+            return None;
+        }
+        let at = (0..self.all.len()).find(|at| self.all[*at] != self.expected[*at])?;
+        Some(format!(
+            "{name}: element {} of a list of {} is {:?}, expected {:?}",
+            at as i64 - GUARD as i64,
+            self.room(),
+            self.all[at],
+            self.expected[at]
+        ))
+    }
+}

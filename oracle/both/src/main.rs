@@ -1,7 +1,9 @@
 //! The same seeded cases through the Rust and through our compiled library, in one process.
-//! A kind of case is a module with a function `compare`, which ends at the first difference; layers and tiles join as one more arm of `run`.
+//! A kind of case is a module with a function `compare`, which ends at the first difference.
 
 mod arbitrary;
+mod arbitrary_tiles;
+mod caps;
 mod cases;
 mod clips;
 mod jobs;
@@ -9,12 +11,15 @@ mod judge;
 mod lent;
 mod random;
 mod report;
+mod scripts;
 mod shrink;
+mod tile_judge;
+mod tiles;
 
 use report::{Difference, Tally};
 use std::process::exit;
 
-const USAGE: &str = "usage: both jobs|clips|arbitrary|spoiled-jobs SEED COUNT, or both cases jobs|large_jobs|clips SEED COUNT";
+const USAGE: &str = "usage: both jobs|clips|tiles|arbitrary|arbitrary-tiles|spoiled-jobs|spoiled-tiles SEED COUNT, or both cases jobs|large_jobs|clips|tiles|large_tiles SEED COUNT";
 
 fn run(kind: &str, seed: u64, count: usize, tally: &mut Tally) -> Option<Difference> {
     match kind {
@@ -22,7 +27,11 @@ fn run(kind: &str, seed: u64, count: usize, tally: &mut Tally) -> Option<Differe
         // Shows that a difference is found: a word of ours is changed before it is compared.
         "spoiled-jobs" => jobs::compare(seed, count, true, tally),
         "clips" => clips::compare(seed, count, tally),
+        "tiles" => tiles::compare(seed, count, false, tally),
+        // The same: a byte of ours is changed.
+        "spoiled-tiles" => tiles::compare(seed, count, true, tally),
         "arbitrary" => arbitrary::run(seed, count, tally),
+        "arbitrary-tiles" => arbitrary_tiles::run(seed, count, tally),
         _ => {
             eprintln!("{USAGE}");
             exit(2)
@@ -44,8 +53,10 @@ fn main() {
     if words.first().is_some_and(|word| word == "cases") {
         return cases::print(&words[1], number(2) as u64, number(3));
     }
-    // A panic of the Rust is an answer; nothing is printed about it.
-    std::panic::set_hook(Box::new(|_| {}));
+    // A panic of the Rust is an answer; nothing is printed about it. Where only ours is called one would be a fault of this program.
+    if !words[0].starts_with("arbitrary") {
+        std::panic::set_hook(Box::new(|_| {}));
+    }
     let (seed, count) = (number(1) as u64, number(2));
     let mut tally = Tally::default();
     let found = run(&words[0], seed, count, &mut tally);

@@ -1,5 +1,7 @@
 //! Our compiled library as a Rust program calls it: include/brinepost.h in Rust.
 
+pub mod tiles;
+
 #[repr(C)]
 #[derive(Clone, Copy, Debug, Default, PartialEq)]
 pub struct Clipped {

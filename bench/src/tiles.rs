@@ -1,0 +1,182 @@
+//! Tiles of one layer: what is put into them, and how ours and the Rust make the bytes.
+
+use mvt_open::{GeomData, GeomType};
+use ours::tiles::{self, Head, Lists, TileLists, Value};
+
+const EXTENT: u32 = 4096;
+const WORDS: [u32; 3] = [9, 4, 4];
+
+/// A tag: a text, or kind and bits.
+#[derive(Clone)]
+pub enum Content {
+    Text(String),
+    Bits(u32, u64),
+}
+
+/// A point with an id and tags; the same tags as our lists have them, five words each and the bytes of their texts.
+pub struct Feature {
+    id: u64,
+    tags: Vec<(&'static str, Content)>,
+    words: Vec<u32>,
+    bytes: Vec<u8>,
+}
+
+/// How a feature goes into our layer.
+#[derive(Clone, Copy)]
+pub enum Way {
+    /// By the call that takes a whole one.
+    Whole,
+    /// By the calls that open, mark, tag and close it.
+    Calls,
+}
+
+/// Our lists, lent to every call.
+pub struct Memory {
+    keys: Vec<u32>,
+    values: Vec<u32>,
+    texts: Vec<u8>,
+    features: Vec<u32>,
+    names: [u32; 2],
+    bytes: Vec<u8>,
+}
+
+impl Memory {
+    pub fn new() -> Self {
+        Memory {
+            keys: vec![0; 2 * 65_536],
+            values: vec![0; 3 * 65_536],
+            texts: vec![0; 65_536],
+            features: vec![0; 1 << 20],
+            names: [0; 2],
+            bytes: vec![0; 1 << 22],
+        }
+    }
+}
+
+impl Feature {
+    fn new(id: u64, tags: Vec<(&'static str, Content)>) -> Self {
+        let (mut words, mut bytes) = (Vec::new(), Vec::new());
+        let mut put = |text: &str| {
+            let place = [bytes.len() as u32, text.len() as u32];
+            bytes.extend(text.as_bytes());
+            place
+        };
+        for (key, content) in &tags {
+            words.extend(put(key));
+            match content {
+                Content::Text(text) => {
+                    words.push(1);
+                    words.extend(put(text));
+                }
+                Content::Bits(kind, bits) => {
+                    words.extend([*kind, *bits as u32, (*bits >> 32) as u32]);
+                }
+            }
+        }
+        Feature {
+            id,
+            tags,
+            words,
+            bytes,
+        }
+    }
+}
+
+/// Features with five tags whose values are the same in all of them, or of which one is each feature's own.
+pub fn posts(count: usize, own: bool) -> Vec<Feature> {
+    let post = |at: u64| {
+        let (place, code) = if own { (at, at) } else { (0, 0) };
+        let name = format!("post {:02}", place % 50);
+        let code = 1.0 + code as f64 / 1024.0;
+        let tags = vec![
+            ("name", Content::Text(name)),
+            ("road", Content::Bits(5, 7 + place % 10)),
+            ("lane", Content::Bits(4, place % 3)),
+            ("code", Content::Bits(3, code.to_bits())),
+            ("open", Content::Bits(7, 1)),
+        ];
+        Feature::new(at, tags)
+    };
+    (0..count as u64).map(post).collect()
+}
+
+/// So many different values, eight to a feature.
+pub fn values(count: usize) -> Vec<Feature> {
+    const KEYS: [&str; 8] = ["a", "b", "c", "d", "e", "f", "g", "h"];
+    let feature = |at: u64| {
+        let tags = (0..8).map(|k| (KEYS[k as usize], Content::Bits(5, 8 * at + k)));
+        Feature::new(at, tags.collect())
+    };
+    (0..count as u64 / 8).map(feature).collect()
+}
+
+/// The tile's bytes by our library.
+pub fn ours<'a>(features: &[Feature], way: Way, memory: &'a mut Memory) -> &'a [u8] {
+    let tile = tiles::tile(EXTENT);
+    let mut layer = tile.create_layer(b"posts", &mut memory.texts).layer;
+    let mut lists = Lists {
+        keys: &mut memory.keys,
+        values: &mut memory.values,
+        texts: &mut memory.texts,
+        features: &mut memory.features,
+    };
+    for feature in features {
+        layer = match way {
+            Way::Whole => {
+                let head = Head {
+                    kind: 1,
+                    has_id: 1,
+                    id: feature.id,
+                };
+                layer
+                    .add_feature(head, &WORDS, &feature.words, &feature.bytes, &mut lists)
+                    .layer
+            }
+            Way::Calls => by_calls(layer, feature, &mut lists),
+        };
+    }
+    let mut tile_lists = TileLists {
+        names: &mut memory.names,
+        bytes: &mut memory.bytes,
+    };
+    let added = tile.add_layer(layer, &lists, &mut tile_lists);
+    assert_eq!(added.refusal, 0);
+    let size = added.tile.to_bytes(&tile_lists).count;
+    &memory.bytes[..size]
+}
+
+fn by_calls(layer: tiles::Layer, feature: &Feature, lists: &mut Lists) -> tiles::Layer {
+    let opened = layer.into_feature(1, &WORDS, lists).layer;
+    let mut tagged = opened.set_id(feature.id, lists).layer;
+    for (key, content) in &feature.tags {
+        let value = match content {
+            Content::Text(text) => Value::Text(text.as_bytes()),
+            Content::Bits(kind, bits) => Value::Bits(*kind, *bits),
+        };
+        tagged = tagged.add_tag(key.as_bytes(), value, lists).layer;
+    }
+    tagged.into_layer(lists).layer
+}
+
+/// The tile's bytes by the Rust. Its words come as given (the second copy): making them is another work.
+pub fn rust(features: &[Feature]) -> Vec<u8> {
+    let mut tile = mvt_open::Tile::new(EXTENT);
+    let mut layer = tile.create_layer("posts");
+    for given in features {
+        let geometry = GeomData::given(GeomType::Point, WORDS.to_vec());
+        let mut feature = layer.into_feature(geometry);
+        feature.set_id(given.id);
+        for (key, content) in &given.tags {
+            match content {
+                Content::Text(text) => feature.add_tag_string(key, text),
+                Content::Bits(3, bits) => feature.add_tag_double(key, f64::from_bits(*bits)),
+                Content::Bits(4, bits) => feature.add_tag_int(key, *bits as i64),
+                Content::Bits(5, bits) => feature.add_tag_uint(key, *bits),
+                Content::Bits(_, bits) => feature.add_tag_bool(key, *bits != 0),
+            }
+        }
+        layer = feature.into_layer();
+    }
+    tile.add_layer(layer).expect("the first layer is accepted");
+    tile.to_bytes().expect("a tile has bytes")
+}
