@@ -12,7 +12,8 @@ use borrow.Rule.Slice.PartMut.{midOf}
 use Rattle.wire.specs.declared.field.Field.{Field}
 use Rattle.wire.specs.declared.field.Field.the-variants.{FeatureId, FeatureTags, FeatureType, FeatureGeometry}
 use Rattle.varint.specs.Varints.{varint}
-use Rattle.varint.specs.Numbers.{wide, Word}
+use Rattle.whole.specs.Twos.{wide}
+use Rattle.varint.specs.Numbers.{Word}
 use Rattle.wire.specs.Fields.{varintField, packedField, varints}
 use Rattle.varint.proofs.Varints.{varint-ten}
 use Rattle.wire.proofs.Fields.{varint-field-short, delimited-long}

@@ -8,7 +8,7 @@ use lib.Dec.{leb, eqb}
 use Rattle.wire.specs.declared.field.Field.the-variants.{FeatureId, FeatureTags, FeatureType, FeatureGeometry}
 use Rattle.varint.specs.Varints.{varint}
 use Rattle.wire.specs.Schema.{head}
-use Rattle.varint.specs.Numbers.{wide}
+use Rattle.whole.specs.Twos.{wide}
 use Rattle.wire.specs.Fields.{varintField, packedField, delimited}
 
 -- an id mark of 1 says that the id is set

@@ -16,7 +16,7 @@ use Rattle.refusal.specs.declared.Refusal.the-variants.{Job, Room}
 use Rattle.refusal.specs.Said.{Said, accepted, refused}
 use Rattle.refusal.proofs.Laws.{never-both}
 use Rattle.clip.specs.declared.BBox.{BBox}
-use Rattle.numbers.specs.Numbers.{signedOf}
+use Rattle.whole.specs.Twos.{signed32}
 use Rattle.whole_job.specs.Jobs.{encodedJob}
 use Rattle.whole_job.proofs.Within.{encoded-within}
 use Rattle.job_file.specs.JobFile.{Memory, kindOf, partsOf, boxOf, endsOf, pointsIn, encodes, jobFile}
@@ -36,24 +36,24 @@ module _ (file : List ℕ) (points : List ℤ) (words : List ℕ) (a : length fi
         rw (le-leb (length file) 16384 a, le-leb 6 (length file) b, ← e, le-leb parts (length file - 6) h, lt-leb (length file - (6 + parts)) (length points) k)
         (record { answer = refl; memory = refl })
 
-    body-long : length (map signedOf (drop (6 + parts) file)) ≡ length file - (6 + parts)
-    body-long = length-map (drop (6 + parts) file) signedOf ∙ length-drop (6 + parts) file
+    body-long : length (map signed32 (drop (6 + parts) file)) ≡ length file - (6 + parts)
+    body-long = length-map (drop (6 + parts) file) signed32 ∙ length-drop (6 + parts) file
 
     -- the front of the points' list, once they are laid, is the points
-    pub laid-points : length file - (6 + parts) ≤ length points → (l : List ℤ) → l ≡ lay 0 (map signedOf (drop (6 + parts) file)) points
-        → take (length file - (6 + parts)) l ≡ map signedOf (drop (6 + parts) file)
+    pub laid-points : length file - (6 + parts) ≤ length points → (l : List ℤ) → l ≡ lay 0 (map signed32 (drop (6 + parts) file)) points
+        → take (length file - (6 + parts)) l ≡ map signed32 (drop (6 + parts) file)
     laid-points k l g =
-        let z : length file - (6 + parts) ≡ 0 + length (map signedOf (drop (6 + parts) file)) = omega (arith, body-long) in
-        rw (z, g) (take-lay 0 (map signedOf (drop (6 + parts) file)) points (omega (arith, body-long)))
+        let z : length file - (6 + parts) ≡ 0 + length (map signed32 (drop (6 + parts) file)) = omega (arith, body-long) in
+        rw (z, g) (take-lay 0 (map signed32 (drop (6 + parts) file)) points (omega (arith, body-long)))
 
-    pub whole : length file - (6 + parts) ≤ length points → (l : List ℤ) → l ≡ lay 0 (map signedOf (take (length file - (6 + parts)) (drop (6 + parts) file))) points
+    pub whole : length file - (6 + parts) ≤ length points → (l : List ℤ) → l ≡ lay 0 (map signed32 (take (length file - (6 + parts)) (drop (6 + parts) file))) points
         → (bbox : BBox) → bbox ≡ boxOf file → (answer : Said ℕ) (ws : List ℕ)
         → Gives (encodedJob (getD file 0 0) bbox (take (length file - (6 + parts)) l) (take (6 + parts - 6) (drop 6 file)) words) answer ws
         → Gives (jobFile file m) answer (record { points = l; words = ws })
     unfolding jobFile
     whole k l g′ bbox f answer ws w =
         let t : take (length file - (6 + parts)) (drop (6 + parts) file) ≡ drop (6 + parts) file = take-all (length file - (6 + parts)) (drop (6 + parts) file) (omega (arith, length-drop (6 + parts) file)) in
-        let g : l ≡ lay 0 (map signedOf (drop (6 + parts) file)) points = rw t at g′ in
+        let g : l ≡ lay 0 (map signed32 (drop (6 + parts) file)) points = rw t at g′ in
         let n : 6 + parts - 6 ≡ parts = omega arith in
         let v = rw (laid-points k l g, f, n) at w in
         rw (le-leb (length file) 16384 a, le-leb 6 (length file) b, ← e, le-leb parts (length file - 6) h, le-leb (length file - (6 + parts)) (length points) k)

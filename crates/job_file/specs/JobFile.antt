@@ -10,7 +10,8 @@ use Rattle.promise.specs.Laid.{lay}
 use Rattle.refusal.specs.declared.Refusal.the-variants.{Job, Room}
 use Rattle.refusal.specs.Said.{Said, refused}
 use Rattle.clip.specs.declared.BBox.{BBox}
-use Rattle.numbers.specs.Numbers.{maxBytes, signedOf}
+use Rattle.numbers.specs.Numbers.{maxBytes}
+use Rattle.whole.specs.Twos.{signed32}
 use Rattle.whole_job.specs.Jobs.{encodedJob}
 
 -- the lent lists: the points as signed numbers, and the words
@@ -24,7 +25,7 @@ kindOf file = getD file 0 0
 
 -- "box edges signed"
 abbrev pub box : ℕ → ℕ → ℕ → ℕ → BBox
-box left right bottom top = record { «x_min» = signedOf left; «x_max» = signedOf right; «y_min» = signedOf bottom; «y_max» = signedOf top }
+box left right bottom top = record { «x_min» = signed32 left; «x_max» = signed32 right; «y_min» = signed32 bottom; «y_max» = signed32 top }
 
 abbrev pub boxOf : List ℕ → BBox
 boxOf file = box (getD file 1 0) (getD file 2 0) (getD file 3 0) (getD file 4 0)
@@ -37,7 +38,7 @@ endsOf file = take (partsOf file) (drop 6 file)
 
 -- ---- the bodies
 abbrev pub pointsIn : List ℕ → List ℤ
-pointsIn file = map signedOf (drop (6 + partsOf file) file)
+pointsIn file = map signed32 (drop (6 + partsOf file) file)
 
 -- the whole job, its points laid in their list
 abbrev pub encodes : Written (Said ℕ) (List ℕ) → List ℤ → List ℤ → Written (Said ℕ) Memory

@@ -5,7 +5,7 @@ ghost use Prim.Native.Nat.{_≤_};
 ghost use lib.ListN.{length};
 ghost use Rattle.promise.specs.Answers.{Gives};
 ghost use Rattle.promise.specs.Laid.{lay};
-ghost use Rattle.numbers.specs.Numbers.{signedOf};
+ghost use Rattle.whole.specs.Twos.{signed32};
 ghost use Rattle.whole_job.specs.Jobs.{saidEncoded};
 ghost use Rattle.job_file.specs.JobFile.{box, jobFile};
 use clip::BBox;
@@ -17,7 +17,7 @@ use whole_job::Encoded;
 // Lays numbers, read as signed ones, at the front of `out`.
 fn lay_signed(numbers: &[u32], out: &mut [i32])
     requires { ⌜ length (now numbers) ≤ length (now out) ⌝ }
-    ensures { λ _. ⌜ now (out .exit) ≡ lay 0 (map signedOf (now (numbers .entry))) (now (out .entry)) ⌝ }
+    ensures { λ _. ⌜ now (out .exit) ≡ lay 0 (map signed32 (now (numbers .entry))) (now (out .entry)) ⌝ }
 {
     let mut i = 0;
     while i < numbers.len() {

@@ -1,17 +1,12 @@
--- How many numbers a file has, and where each of them stands; and a number read as a signed one.
+-- How many numbers a file has, and where each of them stands.
 use mathlib.Core.Path.{_≡_, refl, sym, _∙_, ap}
 use mathlib.Core.List.{List, [], _∷_}
 use Prim.Native.Nat.{ℕ, zero, suc, _+_, _*_, _-_, _/_, _%_, _<_, _≤_, _^_}
 use native.Mathlib.Omega.{arith}
 use mathlib.Core.Bool.{Bool, true, false, cond}
-use borrow.Author.Tests.{lt-ltb, le-ltb, leb-true}
+use borrow.Author.Tests.{leb-true}
 use lib.Dec.{leb, eqb}
-use lib.IntN.{pos, negsuc, _-ℤ_}
 use lib.ListN.{length, getD}
-use mir.Syntax.{w32}
-use mir.Val.{SFits, toZ}
-use mir.Facts.{toZ-pos}
-use Rattle.whole.proofs.Parts.{zarith, -parts}
 use Rattle.promise.specs.Answers.{Gives, kept}
 use Rattle.promise.specs.Laid.{lay}
 use Rattle.refusal.specs.declared.Refusal.the-variants.{Job, Room}
@@ -19,7 +14,7 @@ use Rattle.refusal.specs.Said.{Said, accepted, refused}
 use Rattle.refusal.proofs.Laws.{one-refusal, never-both}
 use Rattle.numbers.specs.declared.Numbers.{Numbers}
 use Rattle.numbers.specs.declared.Numbers.the-variants.{Read, Refused}
-use Rattle.numbers.specs.Numbers.{numbersOf, numberAt, signedOf, saidNumbers, maxBytes, reading}
+use Rattle.numbers.specs.Numbers.{numbersOf, numberAt, saidNumbers, maxBytes, reading}
 
 pub numbers-long : (l : List ℕ) → length (numbersOf l) ≡ length l / 4
 numbers-long [] = refl
@@ -40,29 +35,6 @@ numbers-at (a ∷ b ∷ c ∷ d ∷ rest) (suc i) h =
     let e2 : suc (suc (suc (suc (4 * i)))) + 2 ≡ suc (suc (suc (suc (4 * i + 2)))) = omega arith in
     let e3 : suc (suc (suc (suc (4 * i)))) + 3 ≡ suc (suc (suc (suc (4 * i + 3)))) = omega arith in
     rw (e0, e1, e2, e3) (numbers-at rest i (omega arith))
-
--- ---- as the machine computes the signed number
-module _ (n : ℕ) (l : n < 2 ^ 32) where
-  low : n < 2147483648 → pos n ≡ signedOf n
-  low h = rw (lt-ltb n 2147483648 h)
-
-  pub signed-low : n < 2147483648 → toZ w32 n ≡ signedOf n
-  signed-low h = toZ-pos w32 (omega arith) ∙ low h
-
-  -- -1 - (4294967295 - n)
-  high : 2147483648 ≤ n → negsuc 0 -ℤ toZ w32 (4294967295 - n) ≡ negsuc (4294967295 - n)
-  high h =
-      let e : toZ w32 (4294967295 - n) ≡ pos (4294967295 - n) = toZ-pos w32 (omega arith) in
-      rw e (omega (zarith, -parts (negsuc 0) (pos (4294967295 - n))))
-
-  pub high-fits : 2147483648 ≤ n → SFits w32 (negsuc 0 -ℤ toZ w32 (4294967295 - n))
-  high-fits h = rw (high h) (record { sfits = omega arith })
-
-  less : 2147483648 ≤ n → negsuc (4294967295 - n) ≡ signedOf n
-  less h = rw (le-ltb n 2147483648 h) (omega (zarith, -parts (pos n) (pos 4294967296)))
-
-  pub signed-high : 2147483648 ≤ n → negsuc 0 -ℤ toZ w32 (4294967295 - n) ≡ signedOf n
-  signed-high h = high h ∙ less h
 
 -- ---- one value for each answer
 pub one-numbers : (r r′ : Numbers) → saidNumbers r ≡ saidNumbers r′ → r ≡ r′

@@ -2,8 +2,7 @@
 use Prim.Native.Nat.{ℕ, _+_, _*_, _/_, _%_}
 use mathlib.Core.Bool.{cond}
 use mathlib.Core.List.{List, [], _∷_}
-use lib.Dec.{leb, ltb, eqb}
-use lib.IntN.{ℤ, pos, _-ℤ_}
+use lib.Dec.{leb, eqb}
 use lib.ListN.{length, getD}
 use Rattle.promise.specs.Answers.{Written, kept}
 use Rattle.promise.specs.Laid.{lay}
@@ -45,7 +44,3 @@ reading bytes out =
 abbrev pub saidNumbers : Numbers → Said ℕ
 saidNumbers (Read n) = accepted n
 saidNumbers (Refused r) = refused r 0
-
--- two's complement: from 2,147,483,648 on a number is 4,294,967,296 less
-abbrev pub signedOf : ℕ → ℤ
-signedOf n = cond (ltb n 2147483648) (pos n) (pos n -ℤ pos 4294967296)

@@ -4,7 +4,8 @@ ghost use Prim.Native.Nat.{_+_, _/_, _≤_};
 ghost use lib.ListN.{length};
 ghost use Rattle.promise.specs.Answers.{Gives};
 ghost use Rattle.promise.specs.Laid.{lay};
-ghost use Rattle.numbers.specs.Numbers.{maxBytes, number, numbersOf, numberAt, saidNumbers, reading, signedOf};
+ghost use Rattle.numbers.specs.Numbers.{maxBytes, number, numbersOf, numberAt, saidNumbers, reading};
+ghost use Rattle.whole.specs.Twos.{signed32};
 use refusal::Refusal;
 
 pub struct File {
@@ -74,7 +75,7 @@ pub fn read_numbers(bytes: &[u8], out: &mut [u32]) -> Numbers
 
 // A number of 32 bits read as a signed one.
 pub fn signed(n: u32) -> i32
-    ensures { λ r. ⌜ r ≡ signedOf n ⌝ }
+    ensures { λ r. ⌜ r ≡ signed32 n ⌝ }
 {
     if n < 2_147_483_648 {
         return n as i32;

@@ -6,12 +6,8 @@ use Prim.Native.Nat.{ℕ, _+_, _-_, _*_, _/_, _%_, _^_, _<_, _≤_}
 use native.Mathlib.Omega.{arith}
 use borrow.Author.Tests.{lt-ltb, le-ltb, le-leb, lt-leb, eq-eqb, ne-eqb}
 use lib.Dec.{ltb}
-use lib.IntN.{ℤ, pos, negsuc, _-ℤ_}
+use lib.IntN.{ℤ}
 use lib.ListN.{length, getD, take, drop}
-use mir.Syntax.{w64}
-use mir.Val.{SFits, toZ}
-use mir.Facts.{toZ-pos}
-use Rattle.whole.proofs.Parts.{zarith, -parts}
 use Rattle.script.specs.declared.Part.{Part}
 use Rattle.script.specs.declared.Next.{Next}
 use Rattle.script.specs.declared.Next.the-variants.{Is, Bad}
@@ -20,7 +16,8 @@ use Rattle.script.specs.declared.Value.{Value}
 use Rattle.script.specs.declared.Value.the-variants.{Text, Int, Sint}
 use Rattle.script.specs.declared.Taken.{Taken}
 use Rattle.script.specs.declared.Taken.the-variants.{Is as TakenIs, Bad as TakenBad}
-use Rattle.script.specs.Script.{signedOf, pairAt, longValue, longAt, filled, part, textAt, withText, creates, opens, stringAt, valued, tags, textOf, wordsOf}
+use Rattle.whole.specs.Twos.{signed64}
+use Rattle.script.specs.Script.{pairAt, longValue, longAt, filled, part, textAt, withText, creates, opens, stringAt, valued, tags, textOf, wordsOf}
 
 -- ---- a text's filling, by what is left of its length
 module _ (len last : ℕ) where
@@ -115,30 +112,8 @@ module _ (bytes : List ℕ) (p : Part) where
   unfolding wordsOf
   words-inside h = let e : p .start + p .len - p .start ≡ p .len = omega arith in rw (e, le-leb (p .start + p .len) (length bytes) h)
 
--- ---- a signed number, as the machine computes it
-module _ (n : ℕ) (l : n < 2 ^ 64) where
-  low : n < 9223372036854775808 → pos n ≡ signedOf n
-  low h = rw (lt-ltb n 9223372036854775808 h)
-
-  pub signed-low : n < 9223372036854775808 → toZ w64 n ≡ signedOf n
-  signed-low h = toZ-pos w64 (omega arith) ∙ low h
-
-  -- -1 - (18446744073709551615 - n)
-  high : 9223372036854775808 ≤ n → negsuc 0 -ℤ toZ w64 (18446744073709551615 - n) ≡ negsuc (18446744073709551615 - n)
-  high h =
-      let e : toZ w64 (18446744073709551615 - n) ≡ pos (18446744073709551615 - n) = toZ-pos w64 (omega arith) in
-      rw e (omega (zarith, -parts (negsuc 0) (pos (18446744073709551615 - n))))
-
-  pub high-fits : 9223372036854775808 ≤ n → SFits w64 (negsuc 0 -ℤ toZ w64 (18446744073709551615 - n))
-  high-fits h = rw (high h) (record { sfits = omega arith })
-
-  less : 9223372036854775808 ≤ n → negsuc (18446744073709551615 - n) ≡ signedOf n
-  less h = rw (le-ltb n 9223372036854775808 h) (omega (zarith, -parts (pos n) (pos 18446744073709551616)))
-
-  pub signed-high : 9223372036854775808 ≤ n → negsuc 0 -ℤ toZ w64 (18446744073709551615 - n) ≡ signedOf n
-  signed-high h = high h ∙ less h
-
-module _ (kind bits : ℕ) (no3 : kind ≡ 3 → ⊥) (z : ℤ) (e : z ≡ signedOf bits) where
+-- ---- a value of 64 bits
+module _ (kind bits : ℕ) (no3 : kind ≡ 3 → ⊥) (z : ℤ) (e : z ≡ signed64 bits) where
   pub int-is : kind ≡ 4 → Int z ≡ longValue kind bits
   int-is h = rw (ne-eqb kind 3 no3, eq-eqb kind 4 h, e)
 

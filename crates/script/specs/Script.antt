@@ -5,8 +5,8 @@ use mathlib.Core.Path.{_≡_}
 use mathlib.Core.Bool.{Bool, true, cond}
 use mathlib.Core.List.{List, []}
 use lib.Dec.{leb, ltb, eqb}
-use lib.IntN.{ℤ, pos, _-ℤ_}
 use lib.ListN.{length, getD, take, drop}
+use Rattle.whole.specs.Twos.{signed64, wide}
 use Rattle.script.specs.declared.Part.{Part}
 use Rattle.script.specs.declared.Value.{Value}
 use Rattle.script.specs.declared.Value.the-variants.{Text, Float, Double, Int, Uint, Sint, Bool as BoolValue}
@@ -50,7 +50,7 @@ withText TakenBad go = Bad
 
 -- ---- what follows each operation's number
 abbrev pub pairAt : List ℕ → ℕ → ℕ
-pairAt ns at = getD ns at 0 + 4294967296 * getD ns (at + 1) 0
+pairAt ns at = wide (getD ns at 0) (getD ns (at + 1) 0)
 
 -- 1: extent, name
 unfoldable pub creates : List ℕ → ℕ → Next
@@ -76,13 +76,9 @@ stringAt key ns at = withText (textAt ns at) (λ text next. Is (Tag key (Text te
 unfoldable pub floatAt : Part → List ℕ → ℕ → Next
 floatAt key ns at = cond (ltb at (length ns)) (Is (Tag key (Float (getD ns at 0))) (at + 1)) Bad
 
--- two's complement: from 2^63 on a number is 2^64 less
-abbrev pub signedOf : ℕ → ℤ
-signedOf n = cond (ltb n 9223372036854775808) (pos n) (pos n -ℤ pos 18446744073709551616)
-
 -- kinds 3 double, 4 int, 5 uint, 6 sint
 abbrev pub longValue : ℕ → ℕ → Value
-longValue kind bits = cond (eqb kind 3) (Double bits) (cond (eqb kind 4) (Int (signedOf bits)) (cond (eqb kind 5) (Uint bits) (Sint (signedOf bits))))
+longValue kind bits = cond (eqb kind 3) (Double bits) (cond (eqb kind 4) (Int (signed64 bits)) (cond (eqb kind 5) (Uint bits) (Sint (signed64 bits))))
 
 unfoldable pub longAt : Part → ℕ → List ℕ → ℕ → Next
 longAt key kind ns at = cond (leb 2 (length ns - at)) (Is (Tag key (longValue kind (pairAt ns at))) (at + 2)) Bad

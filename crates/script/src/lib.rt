@@ -2,7 +2,8 @@
 ghost use mathlib.Core.Path.{_≡_};
 ghost use Prim.Native.Nat.{_+_, _*_, _≤_};
 ghost use lib.ListN.{length};
-ghost use Rattle.script.specs.Script.{Wide, signedOf, filled, textAt, creates, opens, sets, floatAt, longValue, longAt, boolAt, stringAt, valued, tags, operation, textOf, wordsOf};
+ghost use Rattle.whole.specs.Twos.{signed64, wide};
+ghost use Rattle.script.specs.Script.{Wide, filled, textAt, creates, opens, sets, floatAt, longValue, longAt, boolAt, stringAt, valued, tags, operation, textOf, wordsOf};
 
 // A part of the script: a text starts at a word and has so many bytes, a run of words has so many words.
 pub struct Part {
@@ -51,14 +52,14 @@ fn wide(n: u32) -> usize
 }
 
 fn long(low: u32, high: u32) -> u64
-    ensures { λ r. ⌜ r ≡ low + 4294967296 * high ⌝ }
+    ensures { λ r. ⌜ r ≡ wide low high ⌝ }
 {
     (low as u64) + 4_294_967_296 * (high as u64)
 }
 
 // A number of 64 bits read as a signed one.
 fn signed(n: u64) -> i64
-    ensures { λ r. ⌜ r ≡ signedOf n ⌝ }
+    ensures { λ r. ⌜ r ≡ signed64 n ⌝ }
 {
     if n < 9_223_372_036_854_775_808 {
         return n as i64;

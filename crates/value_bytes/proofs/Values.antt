@@ -10,7 +10,8 @@ use lib.ListN.{length}
 use Rattle.promise.specs.Answers.{Gives}
 use Rattle.wire.specs.declared.field.ValueKind.the-variants.{Text, Float, Double, Int, Uint, Sint, Bool as Truth}
 use Rattle.wire.specs.declared.field.Field.the-variants.{Value}
-use Rattle.varint.specs.Numbers.{wide, zigzag}
+use Rattle.whole.specs.Twos.{wide}
+use Rattle.varint.specs.Numbers.{zigzag}
 use Rattle.wire.specs.Fields.{varintField, fixed32Field, fixed64Field}
 use Rattle.varint.specs.Puts.{put}
 use Rattle.wire.proofs.Fields.{varint-field-short, fixed32-field-long, fixed64-field-long}

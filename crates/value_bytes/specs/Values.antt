@@ -10,7 +10,8 @@ use Rattle.wire.specs.declared.field.ValueKind.the-variants.{Text, Float, Doubl
 use Rattle.wire.specs.declared.field.Field.the-variants.{Value}
 use Rattle.varint.specs.Varints.{varint}
 use Rattle.wire.specs.Schema.{head}
-use Rattle.varint.specs.Numbers.{wide, zigzag, fixed32, fixed64}
+use Rattle.whole.specs.Twos.{wide}
+use Rattle.varint.specs.Numbers.{zigzag, fixed32, fixed64}
 use Rattle.wire.specs.Fields.{varintField, fixed32Field, fixed64Field, delimited}
 use Rattle.value_bytes.specs.Texts.{textField}
 

@@ -3,27 +3,25 @@ use Prim.Native.Nat.{ℕ, _+_, _-_, _*_, _≤_, _<_}
 use mathlib.Core.Path.{_≡_, refl, sym, ap, _∙_}
 use mathlib.Core.Bool.{Bool, true, false}
 use native.Mathlib.Omega.{arith}
-use borrow.Author.Tests.{lt-ltb, le-ltb, ltb-true, ltb-false}
+use borrow.Author.Tests.{lt-ltb, ltb-true, ltb-false}
 use lib.Dec.{ltb}
 use lib.ListN.{length}
-use lib.IntN.{pos, negsuc, _-ℤ_}
-use Rattle.whole.proofs.Parts.{zarith, -parts}
+use Rattle.whole.specs.Twos.{signed64}
+use Rattle.whole.proofs.Twos.{twos-high}
 use Rattle.words.specs.Params.{param, unparam}
 use Rattle.words.proofs.Params.{param-pos, param-neg, unparam-param}
 use Rattle.varint.specs.Varints.{varint}
-use Rattle.varint.specs.Numbers.{signed, zigzag}
+use Rattle.varint.specs.Numbers.{zigzag}
 use Rattle.varint.proofs.Varints.{varint-size}
 
 pub zigzag-low : (bits : ℕ) → bits < 9223372036854775808 → 2 * bits ≡ zigzag bits
 unfolding zigzag
 zigzag-low bits h = rw (lt-ltb bits 9223372036854775808 h) (sym (param-pos bits))
 
-below : (bits : ℕ) → bits < 18446744073709551616 → pos bits -ℤ pos 18446744073709551616 ≡ negsuc (18446744073709551615 - bits)
-below bits h = omega (zarith, -parts (pos bits) (pos 18446744073709551616))
-
 pub zigzag-high : (bits : ℕ) → 9223372036854775808 ≤ bits → bits < 18446744073709551616 → 2 * (18446744073709551615 - bits) + 1 ≡ zigzag bits
 unfolding zigzag
-zigzag-high bits h f = rw (le-ltb bits 9223372036854775808 h) (sym (ap param (below bits f) ∙ param-neg (18446744073709551615 - bits)))
+zigzag-high bits h f =
+    sym (ap param (twos-high 9223372036854775808 18446744073709551615 bits refl h (omega arith)) ∙ param-neg (18446744073709551615 - bits))
 
 pub zigzag-fits : (bits : ℕ) → bits < 18446744073709551616 → zigzag bits < 18446744073709551616
 zigzag-fits bits f = by (ltb bits 9223372036854775808) refl
@@ -32,9 +30,9 @@ zigzag-fits bits f = by (ltb bits 9223372036854775808) refl
     by true e = omega (arith, zigzag-low bits (ltb-true bits 9223372036854775808 e), ltb-true bits 9223372036854775808 e)
     by false e = let h = ltb-false bits 9223372036854775808 e in omega (arith, zigzag-high bits h f)
 
-pub zigzag-back : (bits : ℕ) → unparam (zigzag bits) ≡ signed bits
+pub zigzag-back : (bits : ℕ) → unparam (zigzag bits) ≡ signed64 bits
 unfolding zigzag
-zigzag-back bits = unparam-param (signed bits)
+zigzag-back bits = unparam-param (signed64 bits)
 
 -- an int goes out as its 64 bits: below zero these are large
 pub negative-ten : (bits : ℕ) → 9223372036854775808 ≤ bits → bits < 18446744073709551616 → length (varint bits) ≡ 10

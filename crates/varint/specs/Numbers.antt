@@ -1,10 +1,8 @@
--- What stands in 32 and 64 bits (PB, "Signed Integers", "Non-varint Numbers"): bytes least significant first, halves put together, two's complement, zigzag.
-use Prim.Native.Nat.{ℕ, zero, suc, _+_, _*_, _/_, _%_, _<_}
+-- What stands in 32 and 64 bits (PB, "Signed Integers", "Non-varint Numbers"): bytes least significant first, zigzag.
+use Prim.Native.Nat.{ℕ, zero, suc, _/_, _%_, _<_}
 use mathlib.Core.Path.{_≡_, refl}
-use mathlib.Core.Bool.{cond}
 use mathlib.Core.List.{List, [], _∷_}
-use lib.Dec.{ltb}
-use lib.IntN.{ℤ, pos, _-ℤ_}
+use Rattle.whole.specs.Twos.{signed64}
 use Rattle.words.specs.Params.{param}
 
 -- so many bytes of a number, the least significant first
@@ -18,17 +16,9 @@ fixed32 n = little 4 n
 unfoldable pub fixed64 : ℕ → List ℕ
 fixed64 n = little 8 n
 
--- 64 bits of their halves
-abbrev pub wide : ℕ → ℕ → ℕ
-wide low high = low + 4294967296 * high
-
--- the number whose two's complement the 64 bits are
-abbrev pub signed : ℕ → ℤ
-signed bits = cond (ltb bits 9223372036854775808) (pos bits) (pos bits -ℤ pos 18446744073709551616)
-
 -- a sint: MVT's parameter rule at 64 bits. An int goes out as its 64 bits, so that one below zero takes ten bytes
 unfoldable pub zigzag : ℕ → ℕ
-zigzag bits = param (signed bits)
+zigzag bits = param (signed64 bits)
 
 -- a word of 32 bits, held in 64
 pub record Word (word n : ℕ) : Type 0 where

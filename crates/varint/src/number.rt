@@ -1,6 +1,7 @@
 // The 64 bits of a stored value: its halves put together, and a sint's zigzag.
 ghost use mathlib.Core.Path.{_≡_};
-ghost use Rattle.varint.specs.Numbers.{wide, zigzag};
+ghost use Rattle.whole.specs.Twos.{wide};
+ghost use Rattle.varint.specs.Numbers.{zigzag};
 
 pub fn wide(low: u32, high: u32) -> u64
     ensures { λ r. ⌜ r ≡ wide low high ⌝ }

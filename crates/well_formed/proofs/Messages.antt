@@ -10,7 +10,8 @@ use Rattle.wire.specs.declared.field.ValueKind.the-variants.{Text, Float, Doubl
 use Rattle.wire.specs.declared.field.Field.{Field}
 use Rattle.wire.specs.declared.field.Field.the-variants.{TileLayer, LayerName, LayerFeature, LayerKey, LayerValue, LayerExtent, LayerVersion, FeatureId, FeatureTags, FeatureType, FeatureGeometry, Value}
 use Rattle.wire.specs.Schema.{numberOf, typeOf, delimitedType}
-use Rattle.varint.specs.Numbers.{wide, zigzag}
+use Rattle.whole.specs.Twos.{wide}
+use Rattle.varint.specs.Numbers.{zigzag}
 use Rattle.varint.proofs.Numbers.{zigzag-fits}
 use Rattle.value_bytes.specs.Texts.{textOf, textField}
 use Rattle.value_bytes.specs.Values.{valueMessage}

@@ -5,3 +5,4 @@ pub mod Auto
 pub mod Machine
 pub mod Floors
 pub mod Lines
+pub mod Twos

@@ -1,9 +1,10 @@
 -- Below 2,147,483,648 the number itself; from there on one less than minus what is missing to 4,294,967,295.
-use mathlib.Core.Path.{_∙_}
+use mathlib.Core.Path.{refl, _∙_}
 use native.Mathlib.Omega.{arith}
 use borrow.Author.Needs.{needs}
 use mir.Facts.{toZ-ofZ}
-use Rattle.numbers.proofs.Places.{signed-low, signed-high, high-fits}
+use mir.Syntax.{w32}
+use Rattle.whole.proofs.Twos.{signed-low, signed-high, high-fits}
 use Rattle.numbers.proofs.signed.Statement.{statement}
 use Rattle.numbers.proofs.signed.Tie as tie
 
@@ -11,7 +12,7 @@ cast-result : tie.Need-cast-result
 cast-result c = search needs
 
 returns : tie.Need-returns
-returns c = signed-low (c .before .args .n) (omega arith) (c .if1 .taken)
+returns c = signed-low w32 2147483648 4294967295 (c .before .args .n) refl refl (omega arith) (c .if1 .taken)
 
 sub-result : tie.Need-sub-result
 sub-result c = search needs
@@ -20,10 +21,10 @@ cast-result-2 : tie.Need-cast-result-2
 cast-result-2 c = search needs
 
 sub-result-2 : tie.Need-sub-result-2
-sub-result-2 c = high-fits (c .before .args .n) (omega arith) (c .if1 .left)
+sub-result-2 c = high-fits w32 2147483648 4294967295 (c .before .args .n) refl refl (omega arith) (c .if1 .left)
 
 returns-2 : tie.Need-returns-2
-returns-2 c = toZ-ofZ (high-fits (c .before .args .n) (omega arith) (c .if1 .left)) ∙ signed-high (c .before .args .n) (omega arith) (c .if1 .left)
+returns-2 c = toZ-ofZ (high-fits w32 2147483648 4294967295 (c .before .args .n) refl refl (omega arith) (c .if1 .left)) ∙ signed-high w32 2147483648 4294967295 (c .before .args .n) refl refl (omega arith) (c .if1 .left)
 
 pub signed-spec : {M : Type 1} → statement M
 signed-spec =

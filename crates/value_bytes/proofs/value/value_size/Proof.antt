@@ -6,7 +6,7 @@ use Rattle.wire.specs.declared.field.ValueKind.the-variants.{Float, Double}
 use Rattle.wire.specs.declared.field.Field.the-variants.{Value}
 use Rattle.wire.proofs.Schema.{head-one}
 use Rattle.wire.proofs.Fields.{fixed32-field-long, fixed64-field-long}
-use Rattle.varint.specs.Numbers.{wide}
+use Rattle.whole.specs.Twos.{wide}
 use Rattle.value_bytes.proofs.Values.{long-as, is-text, is-float, is-double, is-int, is-uint, is-sint, is-bool, is-none}
 use borrow.Author.Needs.{needs}
 use Rattle.value_bytes.proofs.value.value_size.Statement.{statement}
