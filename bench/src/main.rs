@@ -32,8 +32,8 @@ fn ours(work: &Work, memory: &mut Memory) {
         Work::Decode { words } => {
             black_box(ours::decode(words, &mut memory.numbers));
         }
-        Work::Tile { features, way } => {
-            black_box(tiles::ours(features, *way, &mut memory.tiles));
+        Work::Tile { given, way } => {
+            black_box(tiles::ours(given, *way, &mut memory.tiles));
         }
     }
 }
@@ -69,8 +69,8 @@ fn rust(work: &Work) {
             eprintln!("the Rust reads no words");
             exit(2)
         }
-        Work::Tile { features, .. } => {
-            black_box(tiles::rust(features));
+        Work::Tile { given, .. } => {
+            black_box(tiles::rust(given));
         }
     }
 }
@@ -91,9 +91,9 @@ extern "C" fn getrandom(to: *mut u8, length: usize, _flags: u32) -> isize {
 
 /// Whether the two tiles are the same, before their instructions are compared.
 fn same(work: &Work, memory: &mut Memory) {
-    if let Work::Tile { features, way } = work {
-        let bytes = tiles::ours(features, *way, &mut memory.tiles);
-        assert!(bytes == tiles::rust(features), "the tiles differ");
+    if let Work::Tile { given, way } = work {
+        let bytes = tiles::ours(given, *way, &mut memory.tiles);
+        assert!(bytes == tiles::rust(given), "the tiles differ");
         println!("{} bytes", bytes.len());
     }
 }
@@ -113,10 +113,14 @@ fn main() {
         );
         exit(2)
     };
+    let lists = match &work {
+        Work::Tile { given, way } => tiles::Memory::new(given.tags(), *way == tiles::Way::Many),
+        _ => tiles::Memory::new(0, false),
+    };
     let mut memory = Memory {
         words: vec![0; 1_048_576],
         numbers: vec![0; 1_048_576],
-        tiles: tiles::Memory::new(),
+        tiles: lists,
     };
     // Where a symbol of known place in the program was loaded, for bench/where.
     eprintln!("main at {:x}", main as fn() as usize);

@@ -1,7 +1,7 @@
 //! Tiles of one layer: what is put into them, and how ours and the Rust make the bytes.
 
 use mvt_open::{GeomData, GeomType};
-use ours::tiles::{self, Head, Lists, TileLists, Value};
+use ours::tiles::{self, Features, Head, Indexes, Lists, TileLists, Value};
 
 const EXTENT: u32 = 4096;
 const WORDS: [u32; 3] = [9, 4, 4];
@@ -21,17 +21,65 @@ pub struct Feature {
     bytes: Vec<u8>,
 }
 
-/// How a feature goes into our layer.
-#[derive(Clone, Copy)]
+/// How the features go into our layer.
+#[derive(Clone, Copy, PartialEq)]
 pub enum Way {
-    /// By the call that takes a whole one.
+    /// All by one call, with an index lent for keys and for values.
+    Many,
+    /// All by one call, keys and values looked up by scan.
+    Scan,
+    /// Each by the call that takes a whole one.
     Whole,
-    /// By the calls that open, mark, tag and close it.
+    /// Each by the calls that open, mark, tag and close it.
     Calls,
+}
+
+/// The features of a tile, and the same as one call takes them, one behind the other.
+pub struct Given {
+    features: Vec<Feature>,
+    heads: Vec<u32>,
+    words: Vec<u32>,
+    tags: Vec<u32>,
+    bytes: Vec<u8>,
+}
+
+impl Given {
+    fn new(features: Vec<Feature>) -> Self {
+        let mut given = Given {
+            features: Vec::new(),
+            heads: Vec::new(),
+            words: Vec::new(),
+            tags: Vec::new(),
+            bytes: Vec::new(),
+        };
+        for feature in &features {
+            let from = given.bytes.len() as u32;
+            for tag in feature.words.chunks_exact(5) {
+                let text = if tag[2] == 1 { from } else { 0 };
+                given
+                    .tags
+                    .extend([tag[0] + from, tag[1], tag[2], tag[3] + text, tag[4]]);
+            }
+            let id = [feature.id as u32, (feature.id >> 32) as u32];
+            let sizes = [WORDS.len() as u32, feature.words.len() as u32];
+            given.heads.extend([1, 1, id[0], id[1], sizes[0], sizes[1]]);
+            given.words.extend(WORDS);
+            given.bytes.extend(&feature.bytes);
+        }
+        given.features = features;
+        given
+    }
+
+    /// How many tags all have.
+    pub fn tags(&self) -> usize {
+        self.tags.len() / 5
+    }
 }
 
 /// Our lists, lent to every call.
 pub struct Memory {
+    key_index: Vec<u32>,
+    value_index: Vec<u32>,
     keys: Vec<u32>,
     values: Vec<u32>,
     texts: Vec<u8>,
@@ -41,10 +89,15 @@ pub struct Memory {
 }
 
 impl Memory {
-    pub fn new() -> Self {
+    /// Room for a key and a value of each of so many tags, and where wanted an index of them.
+    pub fn new(tags: usize, indexed: bool) -> Self {
+        let entries = tags.min(65_536);
+        let slots = if indexed { entries } else { 0 };
         Memory {
-            keys: vec![0; 2 * 65_536],
-            values: vec![0; 3 * 65_536],
+            key_index: vec![0; 2 * slots],
+            value_index: vec![0; 2 * slots],
+            keys: vec![0; 2 * entries],
+            values: vec![0; 3 * entries],
             texts: vec![0; 65_536],
             features: vec![0; 1 << 20],
             names: [0; 2],
@@ -83,7 +136,7 @@ impl Feature {
 }
 
 /// Features with five tags whose values are the same in all of them, or of which one is each feature's own.
-pub fn posts(count: usize, own: bool) -> Vec<Feature> {
+pub fn posts(count: usize, own: bool) -> Given {
     let post = |at: u64| {
         let (place, code) = if own { (at, at) } else { (0, 0) };
         let name = format!("post {:02}", place % 50);
@@ -97,21 +150,21 @@ pub fn posts(count: usize, own: bool) -> Vec<Feature> {
         ];
         Feature::new(at, tags)
     };
-    (0..count as u64).map(post).collect()
+    Given::new((0..count as u64).map(post).collect())
 }
 
 /// So many different values, eight to a feature.
-pub fn values(count: usize) -> Vec<Feature> {
+pub fn values(count: usize) -> Given {
     const KEYS: [&str; 8] = ["a", "b", "c", "d", "e", "f", "g", "h"];
     let feature = |at: u64| {
         let tags = (0..8).map(|k| (KEYS[k as usize], Content::Bits(5, 8 * at + k)));
         Feature::new(at, tags.collect())
     };
-    (0..count as u64 / 8).map(feature).collect()
+    Given::new((0..count as u64 / 8).map(feature).collect())
 }
 
 /// The tile's bytes by our library.
-pub fn ours<'a>(features: &[Feature], way: Way, memory: &'a mut Memory) -> &'a [u8] {
+pub fn ours<'a>(given: &Given, way: Way, memory: &'a mut Memory) -> &'a [u8] {
     let tile = tiles::tile(EXTENT);
     let mut layer = tile.create_layer(b"posts", &mut memory.texts).layer;
     let mut lists = Lists {
@@ -120,21 +173,29 @@ pub fn ours<'a>(features: &[Feature], way: Way, memory: &'a mut Memory) -> &'a [
         texts: &mut memory.texts,
         features: &mut memory.features,
     };
-    for feature in features {
-        layer = match way {
-            Way::Whole => {
-                let head = Head {
-                    kind: 1,
-                    has_id: 1,
-                    id: feature.id,
-                };
-                layer
-                    .add_feature(head, &WORDS, &feature.words, &feature.bytes, &mut lists)
-                    .layer
-            }
-            Way::Calls => by_calls(layer, feature, &mut lists),
-        };
-    }
+    let mut indexes = Indexes {
+        keys: &mut memory.key_index,
+        values: &mut memory.value_index,
+    };
+    layer = match way {
+        Way::Many | Way::Scan => {
+            let all = Features {
+                heads: &given.heads,
+                words: &given.words,
+                tags: &given.tags,
+                bytes: &given.bytes,
+            };
+            layer.add_features(all, &mut lists, &mut indexes).layer
+        }
+        Way::Whole => {
+            let whole = |layer, feature| by_whole(layer, feature, &mut lists);
+            given.features.iter().fold(layer, whole)
+        }
+        Way::Calls => {
+            let calls = |layer, feature| by_calls(layer, feature, &mut lists);
+            given.features.iter().fold(layer, calls)
+        }
+    };
     let mut tile_lists = TileLists {
         names: &mut memory.names,
         bytes: &mut memory.bytes,
@@ -143,6 +204,17 @@ pub fn ours<'a>(features: &[Feature], way: Way, memory: &'a mut Memory) -> &'a [
     assert_eq!(added.refusal, 0);
     let size = added.tile.to_bytes(&tile_lists).count;
     &memory.bytes[..size]
+}
+
+fn by_whole(layer: tiles::Layer, feature: &Feature, lists: &mut Lists) -> tiles::Layer {
+    let head = Head {
+        kind: 1,
+        has_id: 1,
+        id: feature.id,
+    };
+    layer
+        .add_feature(head, &WORDS, &feature.words, &feature.bytes, lists)
+        .layer
 }
 
 fn by_calls(layer: tiles::Layer, feature: &Feature, lists: &mut Lists) -> tiles::Layer {
@@ -159,10 +231,10 @@ fn by_calls(layer: tiles::Layer, feature: &Feature, lists: &mut Lists) -> tiles:
 }
 
 /// The tile's bytes by the Rust. Its words come as given (the second copy): making them is another work.
-pub fn rust(features: &[Feature]) -> Vec<u8> {
+pub fn rust(given: &Given) -> Vec<u8> {
     let mut tile = mvt_open::Tile::new(EXTENT);
     let mut layer = tile.create_layer("posts");
-    for given in features {
+    for given in &given.features {
         let geometry = GeomData::given(GeomType::Point, WORDS.to_vec());
         let mut feature = layer.into_feature(geometry);
         feature.set_id(given.id);

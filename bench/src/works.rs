@@ -1,6 +1,6 @@
 //! The pieces of work, by name.
 
-use crate::tiles::{self, Feature, Way};
+use crate::tiles::{self, Given, Way};
 
 pub enum Work {
     /// One part.
@@ -18,7 +18,7 @@ pub enum Work {
     },
     /// A tile of one layer with these features.
     Tile {
-        features: Vec<Feature>,
+        given: Given,
         way: Way,
     },
 }
@@ -45,6 +45,12 @@ pub const NAMES: &[&str] = &[
     "tile-own-10",
     "tile-own-100",
     "tile-own-1000",
+    "tile-scan-10",
+    "tile-scan-100",
+    "tile-scan-1000",
+    "tile-whole-10",
+    "tile-whole-100",
+    "tile-whole-1000",
     "tile-calls-10",
     "tile-calls-100",
     "tile-calls-1000",
@@ -52,6 +58,10 @@ pub const NAMES: &[&str] = &[
     "values-4096",
     "values-16384",
     "values-65536",
+    "values-scan-1024",
+    "values-scan-4096",
+    "values-scan-16384",
+    "values-scan-65536",
 ];
 
 const EDGES: [i32; 4] = [0, 4096, 0, 4096];
@@ -142,12 +152,15 @@ pub fn named(name: &str) -> Option<Work> {
         edges: EDGES,
         segments,
     };
-    let tile = |features, way| Work::Tile { features, way };
+    let tile = |given, way| Work::Tile { given, way };
     Some(match kind {
-        "tile-same" => tile(tiles::posts(count, false), Way::Whole),
-        "tile-own" => tile(tiles::posts(count, true), Way::Whole),
+        "tile-same" => tile(tiles::posts(count, false), Way::Many),
+        "tile-own" => tile(tiles::posts(count, true), Way::Many),
+        "tile-scan" => tile(tiles::posts(count, true), Way::Scan),
+        "tile-whole" => tile(tiles::posts(count, true), Way::Whole),
         "tile-calls" => tile(tiles::posts(count, true), Way::Calls),
-        "values" => tile(tiles::values(count), Way::Whole),
+        "values" => tile(tiles::values(count), Way::Many),
+        "values-scan" => tile(tiles::values(count), Way::Scan),
         "line-inside" => line(inside(count)),
         "line-crossing" => line(crossing(count)),
         "ring-collinear" => Work::Encode {

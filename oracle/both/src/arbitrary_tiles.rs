@@ -3,10 +3,11 @@
 
 use crate::judge::{JOB, KIND, ROOM};
 use crate::lent::Watched;
+use crate::many;
 use crate::random::Random;
 use crate::report::{Difference, Tally};
 use crate::tile_judge::{Memory, EXTENT, NAME, TEXT, TURN};
-use ours::tiles::{self, Changed, Counted, Figures, Head, Layer, Tile, Value};
+use ours::tiles::{self, Changed, Counted, Features, Figures, Head, Indexes, Layer, Tile, Value};
 
 const STATE: u32 = 4;
 const TEXT_LIMIT: usize = 1_024;
@@ -472,6 +473,97 @@ fn whole(random: &mut Random, held: &Held, memory: &mut Memory) -> Said {
     changed(held, "whole features", given, first, &[TEXT, ROOM], "kvtf")
 }
 
+const SEVERAL: &str = "several features, against one by one";
+
+/// Several features by one call: what they answer and write must be what they do one by one, whatever the indexes hold.
+fn several(random: &mut Random, held: &Held, memory: &mut Memory) -> Said {
+    let pool = text(random);
+    let (mut heads, mut words, mut tags) = (Vec::new(), Vec::new(), Vec::new());
+    for _ in 0..random.below(4) {
+        let (w, t) = (random.below(4), random.below(4));
+        let kind = 1 + (number(random) % 3) * (number(random) % 2);
+        heads.extend([kind, number(random) % 2, number(random), number(random)]);
+        heads.extend([w as u32, 5 * t as u32]);
+        words.extend((0..w).map(|_| number(random)));
+        for _ in 0..t {
+            tags.extend(place(random, pool.len()));
+            tags.extend(value(random, pool.len()));
+        }
+    }
+    match random.below(12) {
+        0 => word(random, &mut heads),
+        1 => cut(random, &mut heads),
+        2 => word(random, &mut tags),
+        3 => cut(random, &mut words),
+        _ => {}
+    }
+    let mut alone = held.lent();
+    let (refusal, layer, count) = one_by_one(held.layer, &heads, &words, &tags, &pool, &mut alone);
+    let rooms = [held.keys.len() / 2, held.values.len() / 3];
+    let mut indexes = rooms.map(|room| Watched::new(many::words(room, random.below(4))));
+    let (mut lists, _) = memory.lent();
+    let [keys, values] = &mut indexes;
+    let mut lent = Indexes {
+        keys: keys.lent(),
+        values: values.lent(),
+    };
+    let given = Features {
+        heads: &heads,
+        words: &words,
+        tags: &tags,
+        bytes: &pool,
+    };
+    let said = held.layer.add_features(given, &mut lists, &mut lent);
+    let (written, _) = alone.lent();
+    let alike = (said.refusal, said.layer, said.count) == (refusal, layer, count)
+        && lists.keys == written.keys
+        && lists.values == written.values
+        && lists.texts == written.texts
+        && lists.features == written.features
+        && indexes.iter().all(|index| index.kept(0));
+    Said {
+        call: SEVERAL,
+        refusal: said.refusal,
+        first: refusal,
+        rest: &[],
+        back: alike,
+        within: alike,
+        writes: "kvtf",
+    }
+}
+
+/// JOB where the heads do not tell all the words, else each feature by its own call up to the first that is refused.
+fn one_by_one(
+    given: Layer,
+    heads: &[u32],
+    words: &[u32],
+    tags: &[u32],
+    pool: &[u8],
+    memory: &mut Memory,
+) -> (u32, Layer, usize) {
+    let sum = |at: usize| heads.chunks(6).map(|head| head[at] as usize).sum::<usize>();
+    let whole = heads.len() % 6 == 0 && heads.chunks(6).all(|head| head[1] <= 1);
+    if !whole || sum(4) != words.len() || sum(5) != tags.len() {
+        return (JOB, given, 0);
+    }
+    let (mut layer, mut count, mut w, mut t) = (given, 0, 0, 0);
+    for head in heads.chunks(6) {
+        let (w_end, t_end) = (w + head[4] as usize, t + head[5] as usize);
+        let first = Head {
+            kind: head[0],
+            has_id: head[1],
+            id: u64::from(head[2]) | u64::from(head[3]) << 32,
+        };
+        let (mut lists, _) = memory.lent();
+        let one = layer.add_feature(first, &words[w..w_end], &tags[t..t_end], pool, &mut lists);
+        if one.refusal != 0 {
+            return (one.refusal, layer, count);
+        }
+        (layer, count, w, t) = (one.layer, count + 1, w_end, t_end);
+    }
+    (0, layer, count)
+}
+
 fn open(random: &mut Random, held: &Held, memory: &mut Memory) -> Said {
     let kind = random.between(0, 4) as u32;
     let words: Vec<u32> = (0..random.below(6)).map(|_| number(random)).collect();
@@ -567,7 +659,8 @@ fn ask(random: &mut Random, held: &Held, memory: &mut Memory) -> Said {
 }
 
 fn call(random: &mut Random, held: &Held, memory: &mut Memory) -> Said {
-    match random.below(12) {
+    match random.below(14) {
+        12 | 13 => several(random, held, memory),
         0..=2 => tag(random, held, memory),
         3 | 4 => whole(random, held, memory),
         5 => open(random, held, memory),
@@ -628,7 +721,7 @@ fn wrong(said: &Said, held: &Held, memory: &Memory) -> Option<String> {
         return Some(format!("{call}: a figure exceeds its list"));
     }
     // What stays: all of a list that is not written; of one that a refused feature has begun to write the used part; the guards.
-    let begun = refusal != 0 && call == "whole features" && said.first == 0;
+    let begun = refusal != 0 && (call == "whole features" && said.first == 0 || call == SEVERAL);
     let stays = |list: char, room: usize, used: usize| {
         if !said.writes.contains(list) || refusal != 0 && !begun {
             room

@@ -9,6 +9,7 @@ mod clips;
 mod jobs;
 mod judge;
 mod lent;
+mod many;
 mod random;
 mod report;
 mod scripts;

@@ -1,12 +1,14 @@
 //! Tile scripts through both, call by call: after every call the answer, the carried layer and tile, and every element of the six lists.
 
 use crate::caps;
+use crate::lent::Watched;
+use crate::many::{self, Together};
 use crate::random::Random;
 use crate::report::{Difference, Tally};
 use crate::scripts::{self, Operation, Value};
 use crate::shrink;
 use crate::tile_judge::{Memory, Rooms, TileJudge};
-use ours::tiles::{self, Head, Layer, Tile};
+use ours::tiles::{self, Features, Head, Indexes, Layer, Tile};
 
 #[derive(Clone, Debug)]
 struct Script {
@@ -23,6 +25,7 @@ struct Script {
 struct Counts {
     calls: usize,
     whole: usize,
+    many: usize,
     refused: [usize; 15],
     no_layer: usize,
     tags: usize,
@@ -62,6 +65,24 @@ impl<'a> Feature<'a> {
             }
         }
         None
+    }
+
+    /// So many features at the front at most, one behind the other.
+    fn several(operations: &'a [Operation], most: usize) -> Vec<Self> {
+        let (mut features, mut at) = (Vec::new(), 0);
+        while let Some(feature) = Feature::at(&operations[at..]).filter(|_| features.len() < most) {
+            at += feature.operations;
+            features.push(feature);
+        }
+        features
+    }
+
+    fn head(&self) -> Head {
+        Head {
+            kind: self.kind,
+            has_id: u32::from(self.id.is_some()),
+            id: self.id.unwrap_or(0),
+        }
     }
 
     /// The calls that it stands for.
@@ -152,16 +173,63 @@ impl Run {
 
     fn ours_whole(&mut self, feature: &Feature) -> (u32, Layer, Tile) {
         let (tags, bytes) = feature.lists();
-        let head = Head {
-            kind: feature.kind,
-            has_id: u32::from(feature.id.is_some()),
-            id: feature.id.unwrap_or(0),
-        };
         let (mut lists, _) = self.memory.lent();
-        let changed = self
-            .layer
-            .add_feature(head, feature.words, &tags, &bytes, &mut lists);
+        let changed =
+            self.layer
+                .add_feature(feature.head(), feature.words, &tags, &bytes, &mut lists);
         (changed.refusal, changed.layer, self.tile)
+    }
+
+    /// Features by one call, and what is expected of it: how many are accepted, the refusal, and what the indexes hold after it.
+    fn several(
+        &mut self,
+        features: &[Feature],
+    ) -> Result<(usize, u32, (u32, Layer, Tile)), String> {
+        // Which indexes are lent changes from call to call and from script to script.
+        let turn = self.counts.calls + self.memory.features.room();
+        let (mut accepted, mut refusal) = (0, 0);
+        for feature in features {
+            refusal = self.judged_whole(feature);
+            if refusal != 0 {
+                break;
+            }
+            accepted += 1;
+        }
+        let mut together = Together::default();
+        for feature in features {
+            let (tags, bytes) = feature.lists();
+            together.push(feature.head(), feature.words, &tags, &bytes);
+        }
+        let mut keys = Watched::new(many::words(self.memory.keys.room() / 2, turn));
+        let mut values = Watched::new(many::words(self.memory.values.room() / 3, turn / 4));
+        let (mut lists, _) = self.memory.lent();
+        let mut indexes = Indexes {
+            keys: keys.lent(),
+            values: values.lent(),
+        };
+        let given = Features {
+            heads: &together.heads,
+            words: &together.words,
+            tags: &together.tags,
+            bytes: &together.bytes,
+        };
+        let said = self.layer.add_features(given, &mut lists, &mut indexes);
+        if said.count != accepted {
+            return Err(format!(
+                "{} features accepted, expected {accepted}",
+                said.count
+            ));
+        }
+        many::expect_keys(&mut keys, &self.memory, self.judge.layer.used);
+        many::expect_values(&mut values, &self.memory, self.judge.layer.used);
+        if let Some(differs) = keys
+            .differs("keys' index")
+            .or(values.differs("values' index"))
+        {
+            return Err(differs);
+        }
+        self.counts.many += 1;
+        Ok((accepted, refusal, (said.refusal, said.layer, self.tile)))
     }
 
     /// What a whole feature is expected to answer: its calls up to the first that is refused, and then the layer as it was.
@@ -251,23 +319,41 @@ fn run(script: &Script, spoil: bool) -> Result<Counts, String> {
     let mut at = 0;
     while at < script.operations.len() {
         let rest = &script.operations[at..];
-        let feature = Feature::at(rest).filter(|_| script.whole);
+        let most = if script.whole {
+            1 + run.counts.calls % 4
+        } else {
+            0
+        };
+        let features = Feature::several(rest, most);
         let operation = &rest[0];
         let what = format!("operation {}", at + 1);
-        at += feature.as_ref().map_or(1, |feature| feature.operations);
         if !run.judge.has_layer() && !matches!(operation, Operation::Create(..)) {
             run.counts.no_layer += 1;
+            at += features.first().map_or(1, |feature| feature.operations);
             continue;
         }
-        let (refusal, said) = match feature {
-            Some(feature) => {
-                run.counts.whole += 1;
-                (run.judged_whole(&feature), run.ours_whole(&feature))
+        let (refusal, said) = match &features[..] {
+            [] => {
+                at += 1;
+                (
+                    run.judge.perform(operation, &mut run.memory),
+                    run.ours(operation),
+                )
             }
-            None => (
-                run.judge.perform(operation, &mut run.memory),
-                run.ours(operation),
-            ),
+            [feature] if run.counts.calls % 2 == 0 => {
+                run.counts.whole += 1;
+                at += feature.operations;
+                (run.judged_whole(feature), run.ours_whole(feature))
+            }
+            several => {
+                let (accepted, refusal, said) = run
+                    .several(several)
+                    .map_err(|differs| format!("{what}: {differs}"))?;
+                // The one that is refused is passed over too.
+                let passed = several.iter().take(accepted + 1);
+                at += passed.map(|feature| feature.operations).sum::<usize>();
+                (refusal, said)
+            }
         };
         run.compared(&what, said, refusal)?;
     }
@@ -527,6 +613,7 @@ fn held_against(
             );
             tally.add("calls", counts.calls);
             tally.add("of them whole features", counts.whole);
+            tally.add("of them several features at once", counts.many);
             for (number, name) in REFUSALS {
                 tally.add(name, counts.refused[number]);
             }

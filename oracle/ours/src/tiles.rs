@@ -36,6 +36,14 @@ pub struct Changed {
 
 #[repr(C)]
 #[derive(Clone, Copy, Debug, Default, PartialEq)]
+pub struct Many {
+    pub refusal: u32,
+    pub layer: Layer,
+    pub count: usize,
+}
+
+#[repr(C)]
+#[derive(Clone, Copy, Debug, Default, PartialEq)]
 pub struct Counted {
     pub refusal: u32,
     pub count: usize,
@@ -62,6 +70,21 @@ pub struct Lists<'a> {
     pub values: &'a mut [u32],
     pub texts: &'a mut [u8],
     pub features: &'a mut [u32],
+}
+
+/// The two lists by which keys and values are looked up. One that is too short is not used.
+pub struct Indexes<'a> {
+    pub keys: &'a mut [u32],
+    pub values: &'a mut [u32],
+}
+
+/// Whole features one behind the other: six words of `heads` each, their words and tags, and the bytes of all texts.
+#[derive(Clone, Copy, Debug)]
+pub struct Features<'a> {
+    pub heads: &'a [u32],
+    pub words: &'a [u32],
+    pub tags: &'a [u32],
+    pub bytes: &'a [u8],
 }
 
 /// The two lists of a tile.
@@ -123,6 +146,29 @@ mod c {
     }
 
     extern "C" {
+        pub fn bp_add_features(
+            layer: Layer,
+            heads: *const u32,
+            heads_len: usize,
+            words: *const u32,
+            words_len: usize,
+            tags: *const u32,
+            tags_len: usize,
+            bytes: *const u8,
+            bytes_len: usize,
+            keys: *mut u32,
+            keys_len: usize,
+            values: *mut u32,
+            values_len: usize,
+            texts: *mut u8,
+            texts_len: usize,
+            features: *mut u32,
+            features_len: usize,
+            key_index: *mut u32,
+            key_index_len: usize,
+            value_index: *mut u32,
+            value_index_len: usize,
+        ) -> Many;
         pub fn bp_layer_new(
             name: *const u8,
             name_len: usize,
@@ -274,6 +320,35 @@ impl Layer {
             bytes.as_ptr(),
             bytes.len()
         )
+    }
+
+    /// Whole features up to the first that is refused.
+    pub fn add_features(self, given: Features, lists: &mut Lists, indexes: &mut Indexes) -> Many {
+        unsafe {
+            c::bp_add_features(
+                self,
+                given.heads.as_ptr(),
+                given.heads.len(),
+                given.words.as_ptr(),
+                given.words.len(),
+                given.tags.as_ptr(),
+                given.tags.len(),
+                given.bytes.as_ptr(),
+                given.bytes.len(),
+                lists.keys.as_mut_ptr(),
+                lists.keys.len(),
+                lists.values.as_mut_ptr(),
+                lists.values.len(),
+                lists.texts.as_mut_ptr(),
+                lists.texts.len(),
+                lists.features.as_mut_ptr(),
+                lists.features.len(),
+                indexes.keys.as_mut_ptr(),
+                indexes.keys.len(),
+                indexes.values.as_mut_ptr(),
+                indexes.values.len(),
+            )
+        }
     }
 
     pub fn num_features(self, lists: &mut Lists) -> Counted {
