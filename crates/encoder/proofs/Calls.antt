@@ -9,30 +9,35 @@ use lib.Dec.{leb, ltb, eqb}
 use lib.ListN.{length}
 use Rattle.promise.specs.Answers.{Gives}
 use Rattle.promise.specs.Laid.{lay}
-use Rattle.promise.proofs.Laying.{lay-nothing}
 use Rattle.promise.proofs.Cases.{gives-kept}
 use Rattle.refusal.specs.declared.Refusal.the-variants.{State, Coord, Empty, Room}
 use Rattle.refusal.specs.Said.{Said}
 use Rattle.clip.specs.declared.Pt.{Pt}
 use Rattle.clip.specs.Domain.{isCoord, isGood}
 use Rattle.words.specs.Geometries.{maxWords, room}
-use Rattle.encoder.specs.declared.MaybePt.{MaybePt}
-use Rattle.encoder.specs.declared.MaybePt.the-variants.{Nowhere, At}
-use Rattle.encoder.specs.declared.Run.the-variants.{Nothing}
-use Rattle.encoder.specs.declared.MaybeWord.{MaybeWord}
-use Rattle.encoder.specs.declared.MaybeWord.the-variants.{NoWord, Word}
+use Rattle.words.specs.Commands.{commandWord}
+use Rattle.points.specs.declared.MaybePt.{MaybePt}
+use Rattle.points.specs.declared.MaybePt.the-variants.{Nowhere, At}
+use Rattle.points.specs.declared.boundary.Ends.{Ends}
+use Rattle.points.specs.Points.{lastBetween}
+use Rattle.points.specs.Boundary.{bounds, endsOf}
+use Rattle.strokes.specs.declared.Run.the-variants.{Nothing}
+use Rattle.strokes.specs.declared.Stroke.{Stroke}
+use Rattle.strokes.specs.Pushed.{moveTo, lineTo, closePath, countWord}
+use Rattle.strokes.specs.Strokes.{layIf, layStroke, layStrokes, layEnd}
+use Rattle.strokes.proofs.Commands.{count-is}
+use Rattle.strokes.proofs.Stores.{lay-if-none, strokes-laid, Fitting, fitting-laid, fitting-long}
 use Rattle.encoder.specs.declared.GeomEncoder.{GeomEncoder}
 use Rattle.encoder.specs.declared.Plan.{Plan}
 use Rattle.encoder.specs.declared.Plans.{Plans}
-use Rattle.encoder.specs.declared.Ends.{Ends}
-use Rattle.words.specs.Commands.{commandWord}
-use Rattle.encoder.specs.States.{inLimit, valid}
+use Rattle.encoder.specs.States.{valid}
 use Rattle.encoder.specs.Answers.{Counted, done, turned, fitting}
-use Rattle.encoder.specs.Emitting.{emission, placeOf, moveTo, lineTo, lastBetween, takenOut}
+use Rattle.encoder.specs.Emitting.{emission, placeOf, takenOut}
 use Rattle.encoder.specs.Adding.{boundary, emitted, drawn, ended, added}
 use Rattle.encoder.specs.Completing.{counting, closing, cleared, finished, isEmpty, completed}
-use Rattle.encoder.specs.Planning.{wordOf, planned, listOf, endsOf, missing, alone, emissionIf, Ready, Fitting, endOf, layPlan, laid, Under, Planned}
+use Rattle.encoder.specs.Planning.{planned, emissionIf, Ready, endOf, layAt, laid, Under, Planned}
 use Rattle.encoder.proofs.States.{yes-of, no-of, Valid, valid-facts, valid-ready, room-length, room-cap}
+use Rattle.encoder.proofs.Boundaries.{bounds-are}
 use Rattle.encoder.proofs.Steps.{Step, emission-step, if-step, emitted-three}
 
 -- ---- the plan of a point
@@ -57,7 +62,7 @@ module _ (s : GeomEncoder) (p : Pt) (R : Ready maxWords s) (ends : Ends) (first 
       step3 : Step (maxWords + 6) (second .next) (planned last)
       step3 = subst (Step (maxWords + 6) (second .next)) (sym k) (emission-step (maxWords + 6) (second .next) ready2 p)
 
-      pub point-planned : Planned (record { first = first; second = second; last = last }) s p
+      pub point-planned : Planned (record { next = last .next; first = first .stroke; second = second .stroke; last = last .stroke }) s p
       point-planned = record {
         emits = λ out. ap (λ (l : List Pt). emitted s (l ++ (p ∷ [])) out) (sym b) ∙ emitted-three s (ends .first) (ends .second) p (planned first) (planned second) (planned last) i j k out;
         under = record {
@@ -66,9 +71,6 @@ module _ (s : GeomEncoder) (p : Pt) (R : Ready maxWords s) (ends : Ends) (first 
           last = omega (arith, step3 .ends);
         };
       }
-
-pub all-laid : (plans : Plans) (out a b c : List ℕ) → a ≡ layPlan (plans .first) out → b ≡ layPlan (plans .second) a → c ≡ layPlan (plans .last) b → c ≡ laid plans out
-all-laid plans out a b c e f g = g ∙ ap (layPlan (plans .last)) (f ∙ ap (layPlan (plans .second)) e)
 
 -- ---- the raw end
 module _ (s : GeomEncoder) (p : Pt) where
@@ -84,19 +86,17 @@ module _ (s : GeomEncoder) where
   unfolding finished
   points-kept e = rw (eq-eqb (s .kind) 1 e)
 
-  module _ (e : s .kind ≡ 1 → ⊥) (close : MaybeWord) (f : wordOf close ≡ closing s) (r : GeomEncoder) where
-    pub left-open : close ≡ NoWord → r ≡ cleared s (s .«cmd_offset») (s .used) → r ≡ finished s
+  module _ (e : s .kind ≡ 1 → ⊥) (r : GeomEncoder) where
+    pub closed-by : (eqb (s .kind) 3 && ltb 1 (s .count)) ≡ true → r ≡ cleared s (s .used) (s .used + 1) → r ≡ finished s
     unfolding finished
-    left-open g h =
-        let k : closing s ≡ [] = sym f ∙ ap wordOf g in
+    closed-by f h = let k : closing s ≡ commandWord closePath 1 ∷ [] = rw f in rw (ne-eqb (s .kind) 1 e, k) h
+
+    pub left-open : (eqb (s .kind) 3 && ltb 1 (s .count)) ≡ false → r ≡ cleared s (s .«cmd_offset») (s .used) → r ≡ finished s
+    unfolding finished
+    left-open f h =
+        let k : closing s ≡ [] = rw f in
         let z : s .used + 0 ≡ s .used = omega arith in
         rw (ne-eqb (s .kind) 1 e, k, z) h
-
-    pub closed-by : (w : ℕ) → close ≡ Word w → r ≡ cleared s (s .used) (s .used + 1) → r ≡ finished s
-    unfolding finished
-    closed-by w g h =
-        let k : closing s ≡ w ∷ [] = sym f ∙ ap wordOf g in
-        rw (ne-eqb (s .kind) 1 e, k) h
 
 -- ---- what completing writes: at most one word at each place, and none at the last command's place without a command
 pub one-word : (s : GeomEncoder) → length (counting s) ≤ 1
@@ -141,8 +141,8 @@ module _ (s : GeomEncoder) (p : Pt) (out : List ℕ) (v : Bool) (e : v ≡ valid
       pub add-ready : Ready maxWords s
       add-ready = valid-ready facts-in
 
-      pub add-bounds : (isGood (s .bbox) ≡ true) × ((inLimit (s .«xy_end») ≡ true) × (isCoord p ≡ true))
-      add-bounds = (add-ready .good, (facts-in .end, yes-of t (isCoord p) f k))
+      pub add-bounds : (ends : Ends) → endsOf ends ≡ bounds (s .kind) (s .bbox) (s .«xy_end») p → endsOf ends ≡ boundary s p
+      add-bounds ends b = b ∙ bounds-are s p (add-ready .good) (facts-in .end) (yes-of t (isCoord p) f k)
 
       pub add-within : {a : Said Counted} {o : List ℕ} → Gives (fitting s out (drawn s p out)) a o → Gives (added s p out) a o
       unfolding added
@@ -150,38 +150,39 @@ module _ (s : GeomEncoder) (p : Pt) (out : List ℕ) (v : Bool) (e : v ≡ valid
 
 -- ---- a point with its boundary points: ROOM, or all of it
 module _ (s : GeomEncoder) (p : Pt) (out : List ℕ) (plans : Plans) (P : Planned plans s p) (m : ℕ) (q : m ≡ room (length out)) where
-  pub cut-room : m < plans .last .next .used → Gives (fitting s out (drawn s p out)) (turned Room s) out
+  pub cut-room : m < plans .next .used → Gives (fitting s out (drawn s p out)) (turned Room s) out
   cut-room l =
-      let b : leb (plans .last .next .used) (room (length out)) ≡ false = lt-leb (plans .last .next .used) (room (length out)) (omega arith) in
+      let b : leb (plans .next .used) (room (length out)) ≡ false = lt-leb (plans .next .used) (room (length out)) (omega arith) in
       rw (P .emits out, b) (gives-kept (turned Room s) out)
 
-  module _ (l : plans .last .next .used ≤ m) where
+  module _ (l : plans .next .used ≤ m) where
     pub cut-under : Under plans (length out)
     cut-under =
         let u = P .under in
         let g = room-length (length out) in
         record { first = omega (arith, u .first); second = omega (arith, u .second); last = omega (arith, u .last) }
 
-    pub cut-done : (o : List ℕ) → o ≡ laid plans out → (r : GeomEncoder) → r ≡ ended (plans .last .next) p → Gives (fitting s out (drawn s p out)) (done r) o
+    pub cut-done : (o : List ℕ) → o ≡ layStrokes (plans .first) (plans .second) (plans .last) out → (r : GeomEncoder) → r ≡ ended (plans .next) p → Gives (fitting s out (drawn s p out)) (done r) o
     cut-done o g r d =
-        let b : leb (plans .last .next .used) (room (length out)) ≡ true = le-leb (plans .last .next .used) (room (length out)) (omega arith) in
-        rw (P .emits out, b) (record { answer = ap done d; memory = g })
+        let b : leb (plans .next .used) (room (length out)) ≡ true = le-leb (plans .next .used) (room (length out)) (omega arith) in
+        let m : layStrokes (plans .first) (plans .second) (plans .last) out ≡ laid plans out = strokes-laid (plans .first) (plans .second) (plans .last) out (cut-under .first) (cut-under .second) (cut-under .last) in
+        rw (P .emits out, b) (record { answer = ap done d; memory = g ∙ m })
 
 -- ---- a point by itself: as one with two plans before it that lay nothing
 nothing-first : GeomEncoder → Plan
-nothing-first s = record { next = s; at = s .used; run = Nothing }
+nothing-first s = record { next = s; stroke = record { at = s .used; run = Nothing } }
 
 module _ (s : GeomEncoder) (p : Pt) (R : Ready maxWords s) (b : [] ≡ boundary s p) (plan : Plan) (i : planned plan ≡ emission s p) where
   only : Plans
-  only = record { first = nothing-first s; second = nothing-first s; last = plan }
+  only = record { next = plan .next; first = nothing-first s .stroke; second = nothing-first s .stroke; last = plan .stroke }
 
   only-planned : Planned only s p
   unfolding only nothing-first
   only-planned = point-planned s p R (record { first = Nowhere; second = Nowhere }) (nothing-first s) refl (nothing-first s) refl b plan i
 
-  only-laid : (out : List ℕ) → laid only out ≡ layPlan plan out
+  only-laid : (out : List ℕ) → layStrokes (only .first) (only .second) (only .last) out ≡ layStroke (plan .stroke) out
   unfolding only nothing-first
-  only-laid out = rw (lay-nothing (s .used) out, lay-nothing (s .used) out)
+  only-laid out = rw (lay-if-none (s .used) out, lay-if-none (s .used) out)
 
   module _ (out : List ℕ) (m : ℕ) (q : m ≡ room (length out)) where
     pub alone-room : m < plan .next .used → Gives (fitting s out (drawn s p out)) (turned Room s) out
@@ -189,22 +190,9 @@ module _ (s : GeomEncoder) (p : Pt) (R : Ready maxWords s) (b : [] ≡ boundary 
     alone-room l = cut-room s p out only only-planned m q l
 
     module _ (l : plan .next .used ≤ m) where
-      pub alone-under : endOf plan ≤ length out
-      unfolding only
-      alone-under = cut-under s p out only only-planned m q l .last
-
-      pub alone-done : (o : List ℕ) → o ≡ layPlan plan out → (r : GeomEncoder) → r ≡ ended (plan .next) p → Gives (fitting s out (drawn s p out)) (done r) o
+      pub alone-done : (o : List ℕ) → o ≡ layStroke (plan .stroke) out → (r : GeomEncoder) → r ≡ ended (plan .next) p → Gives (fitting s out (drawn s p out)) (done r) o
       unfolding only
       alone-done o g r d = cut-done s p out only only-planned m q l o (g ∙ sym (only-laid out)) r d
-
--- neither end there: no boundary point
-pub alone-none : (ends : Ends) (t : Bool) (l : List Pt) → endsOf ends ≡ l → t ≡ alone ends → t ≡ true → [] ≡ l
-alone-none ends t l e a h = by (ends .first) (ends .second) e (sym a ∙ h)
-  where
-    by : (m n : MaybePt) → listOf m ++ listOf n ≡ l → (missing m && missing n) ≡ true → [] ≡ l
-    by Nowhere Nowhere f g = f
-    by Nowhere (At y) f g = absurd (let z : _≡_ {A = ℕ} 0 1 = cc in omega arith)
-    by (At x) n f g = absurd (let z : _≡_ {A = ℕ} 0 1 = cc in omega arith)
 
 -- not a polygon; a polygon
 module _ (s : GeomEncoder) (p : Pt) where
@@ -244,21 +232,27 @@ module _ (s : GeomEncoder) (out : List ℕ) (v : Bool) (e : v ≡ valid s (lengt
             rw (yes-of v (valid s (length out)) e h, sym f ∙ k, b) (gives-kept (turned Room s) out)
 
         module _ (l : next .used ≤ m) where
-          pub count-fits : (w : MaybeWord) → wordOf w ≡ counting s → Fitting (s .«cmd_offset») (wordOf w) (length out)
-          count-fits w i =
+          count-fits : Fitting (s .«cmd_offset») (counting s) (length out)
+          count-fits =
               let g = room-length (length out) in
-              rw i (record { fits = λ z. omega (arith, facts .placed (counted-some s (sym f ∙ k) z), facts .fits, one-word s) })
+              record { fits = λ z. omega (arith, facts .placed (counted-some s (sym f ∙ k) z), facts .fits, one-word s) }
 
-          pub close-fits : (w : MaybeWord) (o : List ℕ) → wordOf w ≡ closing s → length o ≡ length out → Fitting (s .used) (wordOf w) (length o)
-          close-fits w o i n =
+          close-fits : (o : List ℕ) → length o ≡ length out → Fitting (s .used) (closing s) (length o)
+          close-fits o n =
               let g = room-length (length out) in
               let u : next .used ≡ finished s .used = ap (λ (x : GeomEncoder). x .used) d in
-              rw i (record { fits = λ z. omega (arith, finished-used s) })
+              record { fits = λ z. omega (arith, finished-used s) }
 
-          pub end-done : (a b : MaybeWord) (o o′ : List ℕ) → wordOf a ≡ counting s → wordOf b ≡ closing s → o ≡ lay (s .«cmd_offset») (wordOf a) out → o′ ≡ lay (s .used) (wordOf b) o →
-              Gives (completed s out) (done next) o′
+          end-laid : layEnd (s .kind) (s .count) (s .«cmd_offset») (s .used) out ≡ lay (s .used) (closing s) (lay (s .«cmd_offset») (counting s) out)
+          end-laid =
+              let o : List ℕ = lay (s .«cmd_offset») (counting s) out in
+              ap (λ (c : List ℕ). layIf (s .used) (closing s) (layIf (s .«cmd_offset») c out)) (count-is (s .kind) (s .count) end-count)
+              ∙ ap (layIf (s .used) (closing s)) (fitting-laid (s .«cmd_offset») (counting s) out count-fits)
+              ∙ fitting-laid (s .used) (closing s) o (close-fits o (fitting-long (s .«cmd_offset») (counting s) out count-fits))
+
+          pub end-done : (o : List ℕ) → o ≡ layEnd (s .kind) (s .count) (s .«cmd_offset») (s .used) out → Gives (completed s out) (done next) o
           unfolding completed
-          end-done a b o o′ i j x y =
+          end-done o x =
               let u : next .used ≡ finished s .used = ap (λ (x : GeomEncoder). x .used) d in
               let z : leb (finished s .used) (room (length out)) ≡ true = le-leb (finished s .used) (room (length out)) (omega arith) in
-              rw (yes-of v (valid s (length out)) e h, sym f ∙ k, z) (record { answer = ap done d; memory = rw (x, i, j) at y })
+              rw (yes-of v (valid s (length out)) e h, sym f ∙ k, z) (record { answer = ap done d; memory = x ∙ end-laid })

@@ -17,13 +17,16 @@ use Rattle.clip.specs.declared.BBox.{BBox}
 use Rattle.clip.specs.Cutting.{clip}
 use Rattle.words.specs.Geometries.{maxWords}
 use Rattle.words.specs.Commands.{commandWord}
-use Rattle.encoder.specs.declared.MaybePt.{MaybePt}
-use Rattle.encoder.specs.declared.MaybePt.the-variants.{Nowhere, At}
+use Rattle.points.specs.declared.MaybePt.{MaybePt}
+use Rattle.points.specs.declared.MaybePt.the-variants.{Nowhere, At}
 use Rattle.encoder.specs.declared.GeomEncoder.{GeomEncoder}
 use Rattle.encoder.specs.States.{fresh, valid}
 use Rattle.encoder.specs.Answers.{done}
-use Rattle.encoder.specs.Emitting.{Emission, emission, clamped, samePt, lastOf, steps, placeOf, begun, closePath}
-use Rattle.encoder.specs.Adding.{moved, movedEnds, cutFrom, boundary, emissions, emitted, added}
+use Rattle.points.specs.Points.{clamped, samePt, lastOf}
+use Rattle.points.specs.Boundary.{moved, movedEnds}
+use Rattle.strokes.specs.Pushed.{closePath}
+use Rattle.encoder.specs.Emitting.{Emission, emission, steps, placeOf, begun}
+use Rattle.encoder.specs.Adding.{cutFrom, boundary, emissions, emitted, added}
 use Rattle.encoder.specs.Completing.{closing, cleared, finished, completed}
 use Rattle.encoder.specs.Calls.{Call, add, complete, partCalls, After, none, next}
 use Rattle.encoder.specs.Planning.{Ready}

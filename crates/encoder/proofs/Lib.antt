@@ -1,7 +1,5 @@
-pub mod Points
-pub mod Commands
-pub mod Stores
 pub mod States
+pub mod Differences
 pub mod Pushing
 pub mod Boundaries
 pub mod Steps

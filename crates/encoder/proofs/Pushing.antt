@@ -1,65 +1,32 @@
 -- Laws of planning one emission: what it asks, what each `return` gives, and that a state stays ready for the next.
-use mathlib.Core.Path.{_≡_, refl, sym, _∙_}
+use mathlib.Core.Path.{_≡_, sym, _∙_}
 use mathlib.Core.Bool.{Bool, true, false, cond, _&&_}
 use Prim.Native.Nat.{ℕ, _+_, _≤_}
 use native.Mathlib.Omega.{arith}
 use borrow.Author.Tests.{leb-true}
 use lib.Dec.{leb, eqb}
-use lib.IntN.{ℤ, pos, _-ℤ_}
-use lib.Signed.{_≤ℤ_, _<ℤ_, ltZ, leZ-yes}
-use Rattle.whole.proofs.Parts.{zarith}
-use Rattle.whole.proofs.Machine.{lt-no}
+use lib.IntN.{_-ℤ_}
 use Rattle.clip.specs.declared.Pt.{Pt}
-use Rattle.clip.specs.declared.BBox.{BBox}
-use Rattle.clip.specs.Domain.{isGood}
-use Rattle.clip.specs.Facts.{Within, Coord}
-use Rattle.clip.proofs.Callers.{coord-facts, good-facts}
 use Rattle.words.specs.Params.{param}
-use Rattle.encoder.specs.declared.MaybePt.{MaybePt}
-use Rattle.encoder.specs.declared.MaybePt.the-variants.{Nowhere, At}
+use Rattle.points.specs.declared.MaybePt.{MaybePt}
+use Rattle.points.specs.declared.MaybePt.the-variants.{Nowhere, At}
 use Rattle.encoder.specs.declared.GeomEncoder.{GeomEncoder}
-use Rattle.encoder.specs.declared.MaybeWord.{MaybeWord}
-use Rattle.encoder.specs.declared.MaybeWord.the-variants.{NoWord, Word}
-use Rattle.encoder.specs.declared.Run.the-variants.{Nothing, Two, Three}
+use Rattle.strokes.specs.declared.MaybeWord.{MaybeWord}
+use Rattle.strokes.specs.declared.MaybeWord.the-variants.{NoWord, Word}
+use Rattle.strokes.specs.declared.Run.the-variants.{Nothing, Two, Three}
 use Rattle.encoder.specs.declared.Plan.{Plan}
-use Rattle.encoder.specs.States.{inLimit}
-use Rattle.encoder.specs.Emitting.{clampTo, clamped, isLast, command, lastBetween, takenOut, popped, lastOf, advanced, pushed, skipped, emission}
-use Rattle.encoder.specs.Planning.{wordOf, planned, emissionIf, Ready}
+use Rattle.points.specs.Points.{clamped, isLast, lastBetween, lastOf}
+use Rattle.strokes.specs.Pushed.{wordOf, command}
+use Rattle.encoder.specs.Emitting.{takenOut, popped, advanced, pushed, skipped, emission}
+use Rattle.encoder.specs.Planning.{planned, emissionIf, Ready}
 use Rattle.encoder.proofs.States.{both}
-
--- ---- points within the limit
-within-nought : Within (pos 0)
-within-nought = record { least = leZ-yes tt; most = leZ-yes tt }
-
-pub last-coord : (m : MaybePt) → inLimit m ≡ true → Coord (lastOf m)
-last-coord Nowhere e = record { at-x = within-nought; at-y = within-nought }
-last-coord (At p) e = coord-facts e
-
-clamp-within : (lo hi z : ℤ) → Within lo → Within hi → lo <ℤ hi → Within (clampTo lo hi z)
-clamp-within lo hi z l h o = go (ltZ z lo) refl
-  where
-    above : lo ≤ℤ z → (t : Bool) → ltZ hi z ≡ t → Within (cond t hi z)
-    above k true e = h
-    above k false e = let n : z ≤ℤ hi = lt-no e in record { least = omega (zarith, l .least, k); most = omega (zarith, h .most, n) }
-
-    go : (t : Bool) → ltZ z lo ≡ t → Within (cond t lo (cond (ltZ hi z) hi z))
-    go true e = l
-    go false e = above (lt-no e) (ltZ hi z) refl
-
-pub clamped-coord : (b : BBox) (p : Pt) → isGood b ≡ true → Coord (clamped b p)
-clamped-coord b p e =
-    let g = good-facts e in
-    record {
-      at-x = clamp-within (b .«x_min») (b .«x_max») (p .x) (g .left) (g .right) (g .wide);
-      at-y = clamp-within (b .«y_min») (b .«y_max») (p .y) (g .bottom) (g .top) (g .tall);
-    }
 
 -- ---- the two returns of `push_point`
 module _ (s : GeomEncoder) (p last : Pt) (cmd : MaybeWord) (a b : ℕ) (l : last ≡ lastOf (s .pt1)) (x : a ≡ param (p .x -ℤ last .x)) (y : b ≡ param (p .y -ℤ last .y)) (n : GeomEncoder) where
-  pub push-two : cmd ≡ NoWord → n ≡ advanced s p (s .«cmd_offset») (s .used + 2) → planned (record { next = n; at = s .used; run = Two a b }) ≡ pushed (wordOf cmd) s p
+  pub push-two : cmd ≡ NoWord → n ≡ advanced s p (s .«cmd_offset») (s .used + 2) → planned (record { next = n; stroke = record { at = s .used; run = Two a b } }) ≡ pushed (wordOf cmd) s p
   push-two e f = rw (e, f, x, y, l)
 
-  pub push-three : (w : ℕ) → cmd ≡ Word w → n ≡ advanced s p (s .used) (s .used + 3) → planned (record { next = n; at = s .used; run = Three w a b }) ≡ pushed (wordOf cmd) s p
+  pub push-three : (w : ℕ) → cmd ≡ Word w → n ≡ advanced s p (s .used) (s .used + 3) → planned (record { next = n; stroke = record { at = s .used; run = Three w a b } }) ≡ pushed (wordOf cmd) s p
   push-three w e f = rw (e, f, x, y, l)
 
 -- ---- taking out: what it asks and what it leaves
@@ -97,7 +64,7 @@ module _ (s : GeomEncoder) (p q : Pt) (e : q ≡ clamped (s .bbox) p) (t : Bool)
 
 -- ---- the two returns of `add_if`
 module _ (s : GeomEncoder) (m : MaybePt) where
-  pub if-none : m ≡ Nowhere → planned (record { next = s; at = s .used; run = Nothing }) ≡ emissionIf s m
+  pub if-none : m ≡ Nowhere → planned (record { next = s; stroke = record { at = s .used; run = Nothing } }) ≡ emissionIf s m
   if-none e = rw e
 
   pub if-some : (p : Pt) (r : Plan) → m ≡ At p → planned r ≡ emission s p → planned r ≡ emissionIf s m

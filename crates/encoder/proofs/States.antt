@@ -9,7 +9,9 @@ use Rattle.promise.proofs.Cases.{told-yes, told-no}
 use Rattle.clip.specs.Domain.{isGood}
 use Rattle.words.specs.Geometries.{isKind, maxWords, room}
 use Rattle.encoder.specs.declared.GeomEncoder.{GeomEncoder}
-use Rattle.encoder.specs.States.{inLimit, valid}
+use Rattle.points.specs.Points.{inLimit, inLimits}
+use Rattle.strokes.specs.Figures.{figuresFit}
+use Rattle.encoder.specs.States.{valid}
 use Rattle.encoder.specs.Planning.{Ready}
 
 pub both : (s t : Bool) → (s && t) ≡ true → (s ≡ true) × (t ≡ true)
@@ -73,6 +75,11 @@ valid-facts s n e =
       at0 = at0;
       at1 = at1;
     }
+
+-- the rules joined as the code asks them
+pub rules-joined : (s : GeomEncoder) (n : ℕ) (f k b l : Bool) → f ≡ figuresFit (s .used) (s .count) (s .«cmd_offset») n → k ≡ isKind (s .kind) → b ≡ isGood (s .bbox) → l ≡ inLimits (s .«xy_end») (s .pt0) (s .pt1) → (f && k && b && l) ≡ valid s n
+unfolding valid
+rules-joined s n f k b l e g h i = rw (e, g, h, i)
 
 -- what planning asks
 pub valid-ready : {s : GeomEncoder} {n : ℕ} → Valid s n → Ready maxWords s

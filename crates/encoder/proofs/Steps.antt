@@ -17,13 +17,17 @@ use Rattle.clip.specs.declared.Pt.{Pt}
 use Rattle.clip.specs.Domain.{isCoord}
 use Rattle.clip.proofs.Callers.{coord-is}
 use Rattle.words.specs.Commands.{commandWord}
-use Rattle.encoder.specs.declared.MaybePt.{MaybePt}
-use Rattle.encoder.specs.declared.MaybePt.the-variants.{Nowhere, At}
+use Rattle.points.specs.declared.MaybePt.{MaybePt}
+use Rattle.points.specs.declared.MaybePt.the-variants.{Nowhere, At}
 use Rattle.encoder.specs.declared.GeomEncoder.{GeomEncoder}
-use Rattle.encoder.specs.Emitting.{clamped, isLast, command, moveTo, lineTo, takenOut, popped, lastOf, steps, pushed, begun, skipped, emission, Emission}
+use Rattle.points.specs.Points.{clamped, isLast, lastOf}
+use Rattle.points.specs.Boundary.{listOf}
+use Rattle.points.proofs.Coords.{clamped-coord}
+use Rattle.strokes.specs.Pushed.{command, moveTo, lineTo}
+use Rattle.encoder.specs.Emitting.{takenOut, popped, steps, pushed, begun, skipped, emission, Emission}
 use Rattle.encoder.specs.Adding.{emitted}
-use Rattle.encoder.specs.Planning.{listOf, emissionIf, Ready}
-use Rattle.encoder.proofs.Pushing.{clamped-coord, out-count, out-used, popped-ready}
+use Rattle.encoder.specs.Planning.{emissionIf, Ready}
+use Rattle.encoder.proofs.Pushing.{out-count, out-used, popped-ready}
 
 -- ---- the cases
 pub command-cases : (P : List ℕ → Type 0) (kind count : ℕ) →

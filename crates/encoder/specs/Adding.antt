@@ -10,24 +10,18 @@ use Rattle.promise.specs.Laid.{lay}
 use Rattle.refusal.specs.declared.Refusal.the-variants.{State, Coord}
 use Rattle.refusal.specs.Said.{Said}
 use Rattle.clip.specs.declared.Pt.{Pt}
-use Rattle.clip.specs.declared.Seg.{Seg}
 use Rattle.clip.specs.declared.BBox.{BBox}
 use Rattle.clip.specs.Domain.{isCoord}
 use Rattle.clip.specs.Cutting.{clip}
-use Rattle.encoder.specs.declared.MaybePt.{MaybePt}
-use Rattle.encoder.specs.declared.MaybePt.the-variants.{Nowhere, At}
+use Rattle.points.specs.declared.MaybePt.{MaybePt}
+use Rattle.points.specs.declared.MaybePt.the-variants.{Nowhere, At}
+use Rattle.points.specs.Boundary.{movedEnds}
 use Rattle.encoder.specs.declared.GeomEncoder.{GeomEncoder}
 use Rattle.encoder.specs.States.{valid}
 use Rattle.encoder.specs.Answers.{Counted, turned, fitting}
-use Rattle.encoder.specs.Emitting.{emission, samePt}
+use Rattle.encoder.specs.Emitting.{emission}
 
 -- ---- "clip the raw segment. Emit the first end if it moved, then the second if it moved."
-abbrev pub moved : Pt → Pt → List Pt
-moved raw end = cond (samePt raw end) [] (end ∷ [])
-
-abbrev pub movedEnds : Seg → Seg → List Pt
-movedEnds raw cut = moved (raw .p0) (cut .p0) ++ moved (raw .p1) (cut .p1)
-
 abbrev pub cutFrom : BBox → MaybePt → Pt → List Pt
 cutFrom b Nowhere p = []
 cutFrom b (At q) p = movedEnds (record { p0 = q; p1 = p }) (clip b (record { p0 = q; p1 = p }) .seg)

@@ -9,11 +9,12 @@ use Rattle.promise.specs.Laid.{lay}
 use Rattle.refusal.specs.declared.Refusal.the-variants.{State, Empty}
 use Rattle.refusal.specs.Said.{Said}
 use Rattle.words.specs.Commands.{commandWord}
-use Rattle.encoder.specs.declared.MaybePt.the-variants.{Nowhere}
+use Rattle.points.specs.declared.MaybePt.the-variants.{Nowhere}
+use Rattle.strokes.specs.Pushed.{moveTo, lineTo, closeWord}
 use Rattle.encoder.specs.declared.GeomEncoder.{GeomEncoder}
 use Rattle.encoder.specs.States.{valid}
 use Rattle.encoder.specs.Answers.{Counted, turned, fitting}
-use Rattle.encoder.specs.Emitting.{moveTo, lineTo, closePath, placeOf}
+use Rattle.encoder.specs.Emitting.{placeOf}
 
 -- "points set the MoveTo's count .. Others with count > 1 set LineTo's count to count - 1": the word laid at the last command's place
 abbrev pub counting : GeomEncoder → List ℕ
@@ -21,7 +22,7 @@ counting s = cond (eqb (s .kind) 1) (commandWord moveTo (s .count) ∷ []) (cond
 
 -- "polygons then write ClosePath, 15"
 abbrev pub closing : GeomEncoder → List ℕ
-closing s = cond (eqb (s .kind) 3 && ltb 1 (s .count)) (commandWord closePath 1 ∷ []) []
+closing s = closeWord (s .kind) (s .count)
 
 -- "Count, raw end and the point before last are cleared; the last point stays."
 abbrev pub cleared : GeomEncoder → ℕ → ℕ → GeomEncoder

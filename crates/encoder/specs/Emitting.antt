@@ -1,67 +1,18 @@
 -- Document 01, "Adding a point", "Emitting": what one point gives, as the next state and a run of words laid at a place. Nothing here looks at the words that stand in the list, and no room is asked for.
 use Prim.Native.Nat.{ℕ, _+_, _-_}
-use mathlib.Core.Bool.{Bool, false, cond, _&&_, _||_}
+use mathlib.Core.Bool.{Bool, cond, _&&_}
 use mathlib.Core.List.{List, [], _∷_, _++_}
 use lib.Dec.{leb, eqb}
-use lib.IntN.{ℤ, pos, negsuc, _-ℤ_}
-use lib.Signed.{ltZ}
+use lib.IntN.{_-ℤ_}
 use lib.ListN.{length}
 use Rattle.clip.specs.declared.Pt.{Pt}
-use Rattle.clip.specs.declared.BBox.{BBox}
-use Rattle.words.specs.Commands.{commandWord, idOf}
-use Rattle.words.specs.declared.command.Command.the-variants.{MoveTo, LineTo, ClosePath}
 use Rattle.words.specs.Params.{param}
-use Rattle.encoder.specs.declared.MaybePt.{MaybePt}
-use Rattle.encoder.specs.declared.MaybePt.the-variants.{Nowhere, At}
+use Rattle.points.specs.declared.MaybePt.the-variants.{At}
+use Rattle.points.specs.Points.{clamped, isLast, lastBetween, lastOf}
+use Rattle.strokes.specs.Pushed.{command}
 use Rattle.encoder.specs.declared.GeomEncoder.{GeomEncoder}
 
--- ---- "Clamp to the box."
-abbrev pub clampTo : ℤ → ℤ → ℤ → ℤ
-clampTo lo hi z = cond (ltZ z lo) lo (cond (ltZ hi z) hi z)
-
-abbrev pub clamped : BBox → Pt → Pt
-clamped b p = record { x = clampTo (b .«x_min») (b .«x_max») (p .x); y = clampTo (b .«y_min») (b .«y_max») (p .y) }
-
--- ---- "If equal to the last emitted point"
-abbrev pub eqZ : ℤ → ℤ → Bool
-eqZ (pos m) (pos n) = eqb m n
-eqZ (pos m) (negsuc n) = false
-eqZ (negsuc m) (pos n) = false
-eqZ (negsuc m) (negsuc n) = eqb m n
-
-abbrev pub samePt : Pt → Pt → Bool
-samePt p q = eqZ (p .x) (q .x) && eqZ (p .y) (q .y)
-
-abbrev pub isLast : MaybePt → Pt → Bool
-isLast Nowhere p = false
-isLast (At q) p = samePt q p
-
--- ---- "Points: MoveTo at count 0. Lines and polygons: MoveTo at 0, LineTo at 1."
-abbrev pub moveTo : ℕ
-moveTo = idOf MoveTo
-
-abbrev pub lineTo : ℕ
-lineTo = idOf LineTo
-
-abbrev pub closePath : ℕ
-closePath = idOf ClosePath
-
-abbrev pub command : ℕ → ℕ → List ℕ
-command kind count = cond (eqb count 0) (commandWord moveTo 1 ∷ []) (cond (eqb count 1) (cond (eqb kind 1) [] (commandWord lineTo 1 ∷ [])) [])
-
--- ---- "strictly between the one before and the new one on one horizontal or vertical"
-abbrev pub strictly : ℤ → ℤ → ℤ → Bool
-strictly a m b = (ltZ a m && ltZ m b) || (ltZ b m && ltZ m a)
-
-abbrev pub between : Pt → Pt → Pt → Bool
-between a m b = (eqZ (a .x) (m .x) && eqZ (m .x) (b .x) && strictly (a .y) (m .y) (b .y)) || (eqZ (a .y) (m .y) && eqZ (m .y) (b .y) && strictly (a .x) (m .x) (b .x))
-
-abbrev pub lastBetween : MaybePt → MaybePt → Pt → Bool
-lastBetween (At a) (At m) b = between a m b
-lastBetween (At a) Nowhere b = false
-lastBetween Nowhere m b = false
-
--- "Polygons with count ≥ 2"
+-- ---- taking out: "Polygons with count ≥ 2", the last point "strictly between the one before and the new one on one horizontal or vertical"
 abbrev pub takenOut : GeomEncoder → Pt → Bool
 takenOut s p = eqb (s .kind) 3 && leb 2 (s .count) && lastBetween (s .pt0) (s .pt1) p
 
@@ -73,10 +24,6 @@ pub record Emission : Type 0 where
   pub next : GeomEncoder
   pub at : ℕ
   pub run : List ℕ
-
-abbrev pub lastOf : MaybePt → Pt
-lastOf Nowhere = record { x = pos 0; y = pos 0 }
-lastOf (At p) = p
 
 abbrev pub steps : Pt → Pt → List ℕ
 steps from to = param (to .x -ℤ from .x) ∷ param (to .y -ℤ from .y) ∷ []

@@ -5,9 +5,9 @@ use clip::BBox;
 use clip::Pt;
 use encoder::Drawn;
 use encoder::GeomEncoder;
-use encoder::MaybePt;
 use encoder::Started;
 use numbers::signed;
+use points::MaybePt;
 
 fn wide(n: u32) -> usize {
     n as usize

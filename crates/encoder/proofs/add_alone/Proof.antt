@@ -1,5 +1,5 @@
--- One plan gives the state and the list after the emission, and its run ends within the room.
-use Rattle.encoder.proofs.Calls.{alone-room, alone-under, alone-done}
+-- One plan gives the state and the list after the emission, and its run, which ends within the room, is laid.
+use Rattle.encoder.proofs.Calls.{alone-room, alone-done}
 use borrow.Author.Needs.{needs}
 use Rattle.encoder.proofs.add_alone.Statement.{statement}
 use Rattle.encoder.proofs.add_alone.Tie as tie
@@ -13,8 +13,8 @@ room-requires c κs = search needs
 returns : tie.Need-returns
 returns c = search (needs, alone-room)
 
-write-plan-requires : tie.Need-write-plan-requires
-write-plan-requires c κs = search (needs, alone-under)
+write-stroke-requires : tie.Need-write-stroke-requires
+write-stroke-requires c κs = search needs
 
 set-end-requires : tie.Need-set-end-requires
 set-end-requires c κs = search needs
@@ -32,7 +32,7 @@ add-alone-spec =
     add-tile-point-requires
     room-requires
     returns
-    write-plan-requires
+    write-stroke-requires
     set-end-requires
     same-length
     returns-2)

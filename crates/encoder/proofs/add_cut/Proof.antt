@@ -1,5 +1,5 @@
--- The plans give the state and the list after the emissions, and their runs end within the room.
-use Rattle.encoder.proofs.Calls.{cut-room, cut-under, cut-done}
+-- The plans give the state and the list after the emissions, and their runs, which end within the room, are laid.
+use Rattle.encoder.proofs.Calls.{cut-room, cut-done}
 use borrow.Author.Needs.{needs}
 use Rattle.encoder.proofs.add_cut.Statement.{statement}
 use Rattle.encoder.proofs.add_cut.Tie as tie
@@ -13,8 +13,8 @@ room-requires c κs = search needs
 returns : tie.Need-returns
 returns c = search (needs, cut-room)
 
-write-plans-requires : tie.Need-write-plans-requires
-write-plans-requires c κs = search (needs, cut-under)
+write-strokes-requires : tie.Need-write-strokes-requires
+write-strokes-requires c κs = search needs
 
 set-end-requires : tie.Need-set-end-requires
 set-end-requires c κs = search needs
@@ -32,7 +32,7 @@ add-cut-spec =
     plan-point-requires
     room-requires
     returns
-    write-plans-requires
+    write-strokes-requires
     set-end-requires
     same-length
     returns-2)

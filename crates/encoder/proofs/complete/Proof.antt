@@ -1,5 +1,5 @@
 -- The definition is the same chain of checks; a count is set only where a command stands below the used words, and ClosePath has the room that was asked for.
-use Rattle.encoder.proofs.Calls.{end-state, end-empty, end-used, end-count, end-room, count-fits, close-fits, end-done}
+use Rattle.encoder.proofs.Calls.{end-state, end-empty, end-used, end-room, end-done}
 use borrow.Author.Needs.{needs}
 use Rattle.encoder.proofs.complete.Statement.{statement}
 use Rattle.encoder.proofs.complete.Tie as tie
@@ -16,9 +16,6 @@ is-empty-requires c κs = search needs
 returns-2 : tie.Need-returns-2
 returns-2 c = search (needs, end-empty)
 
-close-path-requires : tie.Need-close-path-requires
-close-path-requires c κs = search needs
-
 finish-requires : tie.Need-finish-requires
 finish-requires c κs = search (needs, end-used)
 
@@ -28,14 +25,8 @@ room-requires c κs = search needs
 returns-3 : tie.Need-returns-3
 returns-3 c = search (needs, end-room)
 
-set-command-count-requires : tie.Need-set-command-count-requires
-set-command-count-requires c κs = search (needs, end-count)
-
-write-word-requires : tie.Need-write-word-requires
-write-word-requires c κs = search (needs, count-fits)
-
-write-word-requires-2 : tie.Need-write-word-requires-2
-write-word-requires-2 c κs = search (needs, close-fits)
+write-end-requires : tie.Need-write-end-requires
+write-end-requires c κs = search needs
 
 same-length : tie.Need-same-length
 same-length c = search needs
@@ -51,12 +42,9 @@ complete-spec =
     returns
     is-empty-requires
     returns-2
-    close-path-requires
     finish-requires
     room-requires
     returns-3
-    set-command-count-requires
-    write-word-requires
-    write-word-requires-2
+    write-end-requires
     same-length
     returns-4)

@@ -7,36 +7,21 @@ use Rattle.encoder.proofs.finish.Tie as tie
 returns : tie.Need-returns
 returns c = search (needs, points-kept)
 
-enum-told : tie.Need-enum-told
-enum-told c = search needs
+add-clear : tie.Need-add-clear
+add-clear c = search needs
 
 clear-requires : tie.Need-clear-requires
 clear-requires c κs = search needs
 
-enum-told-2 : tie.Need-enum-told-2
-enum-told-2 c = search needs
-
-add-clear : tie.Need-add-clear
-add-clear c = search needs
+returns-2 : tie.Need-returns-2
+returns-2 c = search (needs, closed-by)
 
 clear-requires-2 : tie.Need-clear-requires-2
 clear-requires-2 c κs = search needs
 
-returns-2 : tie.Need-returns-2
-returns-2 c = search (needs, left-open)
-
 returns-3 : tie.Need-returns-3
-returns-3 c = search (needs, closed-by)
+returns-3 c = search (needs, left-open)
 
 pub finish-spec : {M : Type 1} → statement M
 finish-spec =
-    tie.close
-    (tie.spec
-    returns
-    enum-told
-    clear-requires
-    enum-told-2
-    add-clear
-    clear-requires-2
-    returns-2
-    returns-3)
+    tie.close (tie.spec returns add-clear clear-requires returns-2 clear-requires-2 returns-3)

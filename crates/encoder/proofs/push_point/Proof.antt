@@ -1,6 +1,7 @@
 -- Steps between points within the limit; two words more, or three with a command.
 use Rattle.clip.specs.Facts.{Coord}
-use Rattle.encoder.proofs.Pushing.{last-coord, push-two, push-three}
+use Rattle.points.proofs.Coords.{last-coord}
+use Rattle.encoder.proofs.Pushing.{push-two, push-three}
 use borrow.Author.Needs.{needs}
 use Rattle.encoder.proofs.push_point.Statement.{statement}
 use Rattle.encoder.proofs.push_point.Tie as tie
