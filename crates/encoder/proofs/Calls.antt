@@ -19,7 +19,6 @@ use Rattle.words.specs.Commands.{commandWord}
 use Rattle.points.specs.declared.MaybePt.{MaybePt}
 use Rattle.points.specs.declared.MaybePt.the-variants.{Nowhere, At}
 use Rattle.points.specs.declared.boundary.Ends.{Ends}
-use Rattle.points.specs.Points.{lastBetween}
 use Rattle.points.specs.Boundary.{bounds, endsOf}
 use Rattle.strokes.specs.declared.Run.the-variants.{Nothing}
 use Rattle.strokes.specs.declared.Stroke.{Stroke}
@@ -32,7 +31,7 @@ use Rattle.encoder.specs.declared.Plan.{Plan}
 use Rattle.encoder.specs.declared.Plans.{Plans}
 use Rattle.encoder.specs.States.{valid}
 use Rattle.encoder.specs.Answers.{Counted, done, turned, fitting}
-use Rattle.encoder.specs.Emitting.{emission, placeOf, takenOut}
+use Rattle.encoder.specs.Emitting.{emission, placeOf}
 use Rattle.encoder.specs.Adding.{boundary, emitted, drawn, ended, added}
 use Rattle.encoder.specs.Completing.{counting, closing, cleared, finished, isEmpty, completed}
 use Rattle.encoder.specs.Planning.{planned, emissionIf, Ready, endOf, layAt, laid, Under, Planned}
@@ -194,26 +193,18 @@ module _ (s : GeomEncoder) (p : Pt) (R : Ready maxWords s) (b : [] ≡ boundary 
       unfolding only
       alone-done o g r d = cut-done s p out only only-planned m q l o (g ∙ sym (only-laid out)) r d
 
--- not a polygon; a polygon
-module _ (s : GeomEncoder) (p : Pt) where
-  pub no-ring : (s .kind ≡ 3 → ⊥) → false ≡ takenOut s p
-  no-ring h = rw (ne-eqb (s .kind) 3 h)
-
-  pub a-ring : (s .kind ≡ 3) → (b : Bool) → b ≡ lastBetween (s .pt0) (s .pt1) p → (leb 2 (s .count) && b) ≡ takenOut s p
-  a-ring h b e = rw (eq-eqb (s .kind) 3 h, e)
-
--- ---- the returns of `complete`
+-- ---- the returns of `complete_geom`
 module _ (s : GeomEncoder) (out : List ℕ) (v : Bool) (e : v ≡ valid s (length out)) where
   pub end-state : not v ≡ true → Gives (completed s out) (turned State s) out
   unfolding completed
   end-state h = rw (no-of v (valid s (length out)) e h) (gives-kept (turned State s) out)
 
-  module _ (h : not v ≡ false) (t : Bool) (f : t ≡ isEmpty s) where
-    pub end-empty : t ≡ true → Gives (completed s out) (turned Empty s) out
+  module _ (h : not v ≡ false) where
+    pub end-empty : isEmpty s ≡ true → Gives (completed s out) (turned Empty s) out
     unfolding completed
-    end-empty k = rw (yes-of v (valid s (length out)) e h, sym f ∙ k) (gives-kept (turned Empty s) out)
+    end-empty k = rw (yes-of v (valid s (length out)) e h, k) (gives-kept (turned Empty s) out)
 
-    module _ (k : t ≡ false) where
+    module _ (k : isEmpty s ≡ false) where
       facts : Valid s (length out)
       facts = valid-facts s (length out) (yes-of v (valid s (length out)) e h)
 
@@ -229,13 +220,13 @@ module _ (s : GeomEncoder) (out : List ℕ) (v : Bool) (e : v ≡ valid s (lengt
         end-room l =
             let u : next .used ≡ finished s .used = ap (λ (x : GeomEncoder). x .used) d in
             let b : leb (finished s .used) (room (length out)) ≡ false = lt-leb (finished s .used) (room (length out)) (omega arith) in
-            rw (yes-of v (valid s (length out)) e h, sym f ∙ k, b) (gives-kept (turned Room s) out)
+            rw (yes-of v (valid s (length out)) e h, k, b) (gives-kept (turned Room s) out)
 
         module _ (l : next .used ≤ m) where
           count-fits : Fitting (s .«cmd_offset») (counting s) (length out)
           count-fits =
               let g = room-length (length out) in
-              record { fits = λ z. omega (arith, facts .placed (counted-some s (sym f ∙ k) z), facts .fits, one-word s) }
+              record { fits = λ z. omega (arith, facts .placed (counted-some s k z), facts .fits, one-word s) }
 
           close-fits : (o : List ℕ) → length o ≡ length out → Fitting (s .used) (closing s) (length o)
           close-fits o n =
@@ -255,4 +246,4 @@ module _ (s : GeomEncoder) (out : List ℕ) (v : Bool) (e : v ≡ valid s (lengt
           end-done o x =
               let u : next .used ≡ finished s .used = ap (λ (x : GeomEncoder). x .used) d in
               let z : leb (finished s .used) (room (length out)) ≡ true = le-leb (finished s .used) (room (length out)) (omega arith) in
-              rw (yes-of v (valid s (length out)) e h, sym f ∙ k, z) (record { answer = ap done d; memory = x ∙ end-laid })
+              rw (yes-of v (valid s (length out)) e h, k, z) (record { answer = ap done d; memory = x ∙ end-laid })

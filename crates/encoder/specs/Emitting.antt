@@ -1,20 +1,20 @@
 -- Document 01, "Adding a point", "Emitting": what one point gives, as the next state and a run of words laid at a place. Nothing here looks at the words that stand in the list, and no room is asked for.
 use Prim.Native.Nat.{ℕ, _+_, _-_}
-use mathlib.Core.Bool.{Bool, cond, _&&_}
+use mathlib.Core.Bool.{Bool, cond}
 use mathlib.Core.List.{List, [], _∷_, _++_}
-use lib.Dec.{leb, eqb}
+use lib.Dec.{eqb}
 use lib.IntN.{_-ℤ_}
 use lib.ListN.{length}
 use Rattle.clip.specs.declared.Pt.{Pt}
 use Rattle.words.specs.Params.{param}
 use Rattle.points.specs.declared.MaybePt.the-variants.{At}
-use Rattle.points.specs.Points.{clamped, isLast, lastBetween, lastOf}
+use Rattle.points.specs.Points.{clamped, isLast, outBefore, lastOf}
 use Rattle.strokes.specs.Pushed.{command}
 use Rattle.encoder.specs.declared.GeomEncoder.{GeomEncoder}
 
 -- ---- taking out: "Polygons with count ≥ 2", the last point "strictly between the one before and the new one on one horizontal or vertical"
 abbrev pub takenOut : GeomEncoder → Pt → Bool
-takenOut s p = eqb (s .kind) 3 && leb 2 (s .count) && lastBetween (s .pt0) (s .pt1) p
+takenOut s p = outBefore (s .kind) (s .count) (s .pt0) (s .pt1) p
 
 abbrev pub popped : GeomEncoder → GeomEncoder
 popped s = record { kind = s .kind; bbox = s .bbox; «xy_end» = s .«xy_end»; pt0 = s .pt0; pt1 = s .pt0; «cmd_offset» = s .«cmd_offset»; count = s .count - 1; used = s .used - 2 }

@@ -13,9 +13,9 @@ ghost use Rattle.points.specs.Boundary.{endsOf};
 ghost use Rattle.strokes.specs.Pushed.{wordOf};
 ghost use Rattle.encoder.specs.States.{valid};
 ghost use Rattle.encoder.specs.Answers.{saidStarted, started, saidDrawn, fitting};
-ghost use Rattle.encoder.specs.Emitting.{takenOut, popped, advanced, pushed, skipped, emission};
+ghost use Rattle.encoder.specs.Emitting.{popped, advanced, pushed, skipped, emission};
 ghost use Rattle.encoder.specs.Adding.{boundary, drawn, ended, pointAt, added};
-ghost use Rattle.encoder.specs.Completing.{cleared, finished, isEmpty, completed};
+ghost use Rattle.encoder.specs.Completing.{cleared, finished, completed};
 ghost use Rattle.encoder.specs.Planning.{planLimit, planned, Planned, emissionIf, Ready};
 use clip::BBox;
 use clip::Pt;
@@ -82,21 +82,6 @@ pub fn is_valid(s: GeomEncoder, length: usize) -> bool
 }
 
 // ---- emitting
-// Whether the last emitted point is taken out before p.
-fn should_simplify_point(s: GeomEncoder, p: Pt) -> bool
-    ensures { λ r. ⌜ r ≡ takenOut s p ⌝ }
-{
-    let kind = s.kind;
-    let count = s.count;
-    let pt0 = s.pt0;
-    let pt1 = s.pt1;
-    if kind != Geometry::POLYGON {
-        return false;
-    }
-    let between = points::is_last_between(pt0, pt1, p);
-    (2 <= count) & between
-}
-
 // The parameter word of a step along x, and of one along y. Two points within the limit are less than 2^31 apart.
 fn step_x(from: Pt, to: Pt) -> u32
     requires { ⌜ Coord from ⌝ }
@@ -221,13 +206,14 @@ fn add_tile_point(s: GeomEncoder, p: Pt) -> Plan
     ensures { λ r. ⌜ planned r ≡ emission s p ⌝ }
 {
     let bbox = s.bbox;
+    let pt0 = s.pt0;
     let pt1 = s.pt1;
     let q = points::make_point(p, bbox);
     if points::is_last(pt1, q) {
         return skip_point(s);
     }
     let command = strokes::push_command(s.kind, s.count);
-    if should_simplify_point(s, q) {
+    if points::should_simplify_point(s.kind, s.count, pt0, pt1, q) {
         return push_point(command, pop_point(s), q);
     }
     push_point(command, s, q)
@@ -333,15 +319,6 @@ fn finish(s: GeomEncoder) -> GeomEncoder
     clear(s, place, used)
 }
 
-// Whether completing would be refused as EMPTY.
-fn is_empty(s: GeomEncoder) -> bool
-    ensures { λ r. ⌜ r ≡ isEmpty s ⌝ }
-{
-    let kind = s.kind;
-    let count = s.count;
-    (kind == Geometry::POINT) & (count == 0)
-}
-
 // ---- the calls
 // A point that brings no boundary point: one emission, planned and written by itself. Most points are such.
 fn add_alone(s: GeomEncoder, p: Pt, words: &mut [u32]) -> Drawn
@@ -398,25 +375,6 @@ fn add(s: GeomEncoder, p: Pt, words: &mut [u32]) -> Drawn
     add_cut(s, p, ends, words)
 }
 
-// STATE, EMPTY, ROOM; then everything that is written.
-fn complete(s: GeomEncoder, words: &mut [u32]) -> Drawn
-    ensures { λ r. ⌜ Gives (completed s (now (words .entry))) (saidDrawn r) (now (words .exit)) ⌝ }
-{
-    if !is_valid(s, words.len()) {
-        return Drawn::Refused(Refusal::State, s);
-    }
-    if is_empty(s) {
-        return Drawn::Refused(Refusal::Empty, s);
-    }
-    let next = finish(s);
-    let room = Geometry::room(words.len());
-    if room < next.used {
-        return Drawn::Refused(Refusal::Room, s);
-    }
-    strokes::write_end(s.kind, s.count, s.cmd_offset, s.used, words);
-    Drawn::Done(next)
-}
-
 impl GeomEncoder {
     // A fresh encoder for a geometry of that kind in a box: KIND, BOX.
     pub fn new(kind: u32, bbox: BBox) -> Started
@@ -462,10 +420,22 @@ impl GeomEncoder {
         add(self, Pt { x: x, y: y }, words)
     }
 
-    // Completes a part: STATE, EMPTY, ROOM.
+    // Completes a part: STATE, EMPTY, ROOM; then everything that is written.
     pub fn complete_geom(self, words: &mut [u32]) -> Drawn
         ensures { λ r. ⌜ Gives (completed self (now (words .entry))) (saidDrawn r) (now (words .exit)) ⌝ }
     {
-        complete(self, words)
+        if !is_valid(self, words.len()) {
+            return Drawn::Refused(Refusal::State, self);
+        }
+        if (self.kind == Geometry::POINT) & (self.count == 0) {
+            return Drawn::Refused(Refusal::Empty, self);
+        }
+        let next = finish(self);
+        let room = Geometry::room(words.len());
+        if room < next.used {
+            return Drawn::Refused(Refusal::Room, self);
+        }
+        strokes::write_end(self.kind, self.count, self.cmd_offset, self.used, words);
+        Drawn::Done(next)
     }
 }

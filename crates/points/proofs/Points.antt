@@ -3,7 +3,7 @@ use mathlib.Core.Path.{_≡_, refl, sym, _∙_, ap}
 use mathlib.Core.Bool.{Bool, true, false, _&&_, _||_}
 use Prim.Native.Nat.{ℕ}
 use borrow.Author.Tests.{eq-eqb, ne-eqb}
-use lib.Dec.{eqb}
+use lib.Dec.{leb, eqb}
 use lib.IntN.{ℤ, pos, negsuc, ℤ-discrete}
 use lib.Signed.{ltZ}
 use mir.Syntax.{w32}
@@ -13,7 +13,7 @@ use Rattle.clip.specs.declared.Pt.{Pt}
 use Rattle.clip.specs.declared.BBox.{BBox}
 use Rattle.points.specs.declared.MaybePt.{MaybePt}
 use Rattle.points.specs.declared.MaybePt.the-variants.{At}
-use Rattle.points.specs.Points.{eqZ, clampTo, clamped, strictly, between, lastBetween}
+use Rattle.points.specs.Points.{eqZ, clampTo, clamped, strictly, between, lastBetween, outBefore}
 
 -- ---- equal numbers
 pub eqZ-refl : (a : ℤ) → eqZ a a ≡ true
@@ -80,3 +80,11 @@ module _ (b : BBox) (p : Pt) (x y : ℤ) (fx : SFits w32 x) (fy : SFits w32 y) (
       y ≡ clampTo (toZ w32 (ofZ w32 (b .«y_min»))) (toZ w32 (ofZ w32 (b .«y_max»))) (toZ w32 (ofZ w32 (p .y))) →
       _≡_ {A = Pt} (record { x = toZ w32 (ofZ w32 x); y = toZ w32 (ofZ w32 y) }) (clamped b p)
   made-point e f = rw (toZ-ofZ fx, toZ-ofZ fy, clamp-back l r px e, clamp-back d u py f)
+
+-- not a polygon; a polygon
+module _ (kind count : ℕ) (l m : MaybePt) (p : Pt) where
+  pub no-ring : (kind ≡ 3 → ⊥) → false ≡ outBefore kind count l m p
+  no-ring h = rw (ne-eqb kind 3 h)
+
+  pub a-ring : kind ≡ 3 → (b : Bool) → b ≡ lastBetween l m p → (leb 2 count && b) ≡ outBefore kind count l m p
+  a-ring h b e = rw (eq-eqb kind 3 h, e)

@@ -1,6 +1,7 @@
 -- Document 01, "Adding a point": a point that may be missing, and what the encoder asks of points: within the limit, clamped to the box, equal to the last one, the last one between two others.
+use Prim.Native.Nat.{ℕ}
 use mathlib.Core.Bool.{Bool, true, false, cond, _&&_, _||_}
-use lib.Dec.{eqb}
+use lib.Dec.{leb, eqb}
 use lib.IntN.{ℤ, pos, negsuc}
 use lib.Signed.{ltZ}
 use Rattle.clip.specs.declared.Pt.{Pt}
@@ -49,6 +50,10 @@ abbrev pub lastBetween : MaybePt → MaybePt → Pt → Bool
 lastBetween (At a) (At m) b = between a m b
 lastBetween (At a) Nowhere b = false
 lastBetween Nowhere m b = false
+
+-- "Polygons with count ≥ 2"
+abbrev pub outBefore : ℕ → ℕ → MaybePt → MaybePt → Pt → Bool
+outBefore kind count before last p = eqb kind 3 && leb 2 count && lastBetween before last p
 
 -- ---- "from the last emitted point (0, 0 at the start)"
 abbrev pub lastOf : MaybePt → Pt

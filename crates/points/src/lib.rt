@@ -1,9 +1,10 @@
 // Points as the encoder looks at them (document 01, "Adding a point"): a point that may be missing, within the limit, clamped to the box, equal to the last one, between two others; and in `boundary` the
 // points that a segment which leaves the box brings. Functions of points alone: they know no state and no words.
 ghost use mathlib.Core.Path.{_≡_};
-ghost use Rattle.points.specs.Points.{inLimit, inLimits, clampTo, clamped, samePt, isLast, strictly, between, lastBetween, lastOf};
+ghost use Rattle.points.specs.Points.{inLimit, inLimits, clampTo, clamped, samePt, isLast, strictly, between, lastBetween, outBefore, lastOf};
 use clip::BBox;
 use clip::Pt;
+use words::geometry::Geometry;
 
 pub mod boundary;
 
@@ -94,7 +95,7 @@ fn is_between(a: Pt, m: Pt, b: Pt) -> bool
 }
 
 // Whether the last point lies strictly between the one before it and b, on one horizontal or vertical.
-pub fn is_last_between(pt0: MaybePt, pt1: MaybePt, b: Pt) -> bool
+fn is_last_between(pt0: MaybePt, pt1: MaybePt, b: Pt) -> bool
     ensures { λ r. ⌜ r ≡ lastBetween pt0 pt1 b ⌝ }
 {
     match pt0 {
@@ -104,6 +105,17 @@ pub fn is_last_between(pt0: MaybePt, pt1: MaybePt, b: Pt) -> bool
             MaybePt::At(m) => is_between(a, m, b),
         },
     }
+}
+
+// Whether the last emitted point is taken out before p.
+pub fn should_simplify_point(kind: u32, count: u32, pt0: MaybePt, pt1: MaybePt, p: Pt) -> bool
+    ensures { λ r. ⌜ r ≡ outBefore kind count pt0 pt1 p ⌝ }
+{
+    if kind != Geometry::POLYGON {
+        return false;
+    }
+    let between = is_last_between(pt0, pt1, p);
+    (2 <= count) & between
 }
 
 // The last point, (0, 0) at the start.

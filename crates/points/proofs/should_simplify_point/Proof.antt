@@ -1,8 +1,8 @@
 -- Only a polygon's point is taken out; there the other two tests joined.
 use borrow.Author.Needs.{needs}
-use Rattle.encoder.proofs.Calls.{no-ring, a-ring}
-use Rattle.encoder.proofs.should_simplify_point.Statement.{statement}
-use Rattle.encoder.proofs.should_simplify_point.Tie as tie
+use Rattle.points.proofs.Points.{no-ring, a-ring}
+use Rattle.points.proofs.should_simplify_point.Statement.{statement}
+use Rattle.points.proofs.should_simplify_point.Tie as tie
 
 returns : tie.Need-returns
 returns c = search (needs, no-ring)

@@ -1,17 +1,14 @@
 -- The definition is the same chain of checks; a count is set only where a command stands below the used words, and ClosePath has the room that was asked for.
 use Rattle.encoder.proofs.Calls.{end-state, end-empty, end-used, end-room, end-done}
 use borrow.Author.Needs.{needs}
-use Rattle.encoder.proofs.complete.Statement.{statement}
-use Rattle.encoder.proofs.complete.Tie as tie
+use Rattle.encoder.proofs.GeomEncoder.complete_geom.Statement.{statement}
+use Rattle.encoder.proofs.GeomEncoder.complete_geom.Tie as tie
 
 is-valid-requires : tie.Need-is-valid-requires
 is-valid-requires c κs = search needs
 
 returns : tie.Need-returns
 returns c = search (needs, end-state)
-
-is-empty-requires : tie.Need-is-empty-requires
-is-empty-requires c κs = search needs
 
 returns-2 : tie.Need-returns-2
 returns-2 c = search (needs, end-empty)
@@ -34,13 +31,12 @@ same-length c = search needs
 returns-4 : tie.Need-returns-4
 returns-4 c = search (needs, end-done)
 
-pub complete-spec : {M : Type 1} → statement M
-complete-spec =
+pub complete-geom-spec : {M : Type 1} → statement M
+complete-geom-spec =
     tie.close
     (tie.spec
     is-valid-requires
     returns
-    is-empty-requires
     returns-2
     finish-requires
     room-requires
