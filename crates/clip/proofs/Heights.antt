@@ -9,12 +9,14 @@ use Rattle.clip.specs.Domain.{limit}
 use mir.Syntax.{w64}
 use mir.Val.{SFits}
 use Rattle.whole.specs.Floor.{IsFloor}
-use Rattle.whole.proofs.Laws.{*-nonneg, diff, diff<, ≤-total, ≤-trans}
+use Rattle.whole.proofs.Laws.{*-nonneg, diff, diff<, ≤-total, ≤-trans, <-≤}
 use Rattle.whole.proofs.Machine.{Size, size-of, size-+, size--, size-*, size-pos, fit-size}
 use Rattle.whole.proofs.Auto.{reads, ≤:, <:, ≤!, <! }
 use Rattle.whole.proofs.Floors.{floor-ge, floor-lt, floor-is}
-use Rattle.clip.specs.Cutting.{height}
+use Rattle.clip.specs.Rounding.{round}
+use Rattle.clip.specs.Cutting.{least, most, height}
 use Rattle.clip.specs.Facts.{Within, Asked}
+use Rattle.clip.proofs.Tests.{by-le}
 use Rattle.clip.proofs.Roundings.{twice-pos}
 
 -- the limit as a size, and that of a difference of two coordinates
@@ -86,5 +88,15 @@ module _ {x1 y1 x2 y2 x : ℤ} (a : Asked x1 y1 x2 y2 x) where
     size-sum = ⊎-elim (λ (h : y1 ≤ℤ y2). let k = rises h in size-of (≤-trans (a .in-y1 .least) (k .0)) (≤-trans (k .1) (a .in-y2 .most)))
         (λ (h : y2 ≤ℤ y1). let k = falls h in size-of (≤-trans (a .in-y2 .least) (k .0)) (≤-trans (k .1) (a .in-y1 .most))) (≤-total y1 y2)
 
+  rounded : IsFloor (pos 2 *ℤ ((y2 -ℤ y1) *ℤ (x -ℤ x1)) +ℤ (x2 -ℤ x1)) (pos 2 *ℤ (x2 -ℤ x1)) (round ((y2 -ℤ y1) *ℤ (x -ℤ x1)) (x2 -ℤ x1))
+  rounded = floor-is (pos 2 *ℤ ((y2 -ℤ y1) *ℤ (x -ℤ x1)) +ℤ (x2 -ℤ x1)) (pos 2 *ℤ (x2 -ℤ x1)) den-pos
+
   pub size-height : Size (height x1 y1 x2 y2 x) L
-  size-height = size-sum (floor-is (pos 2 *ℤ ((y2 -ℤ y1) *ℤ (x -ℤ x1)) +ℤ (x2 -ℤ x1)) (pos 2 *ℤ (x2 -ℤ x1)) den-pos)
+  size-height = size-sum rounded
+
+  -- the height lies between the two y
+  pub above-least : (c : ℤ) → height x1 y1 x2 y2 x ≤ℤ c → least y1 y2 ≤ℤ c
+  above-least c k = by-le (λ z. z ≤ℤ c) y1 y2 y1 y2 (λ h. ≤-trans (rises rounded h .0) k) (λ h. ≤-trans (falls rounded (<-≤ h) .0) k)
+
+  pub below-most : (c : ℤ) → c ≤ℤ height x1 y1 x2 y2 x → c ≤ℤ most y1 y2
+  below-most c k = by-le (λ z. c ≤ℤ z) y1 y2 y2 y1 (λ h. ≤-trans k (rises rounded h .1)) (λ h. ≤-trans k (falls rounded (<-≤ h) .1))

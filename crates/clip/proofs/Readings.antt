@@ -44,7 +44,7 @@ one-end false true t (At p) h = refl
 one-end false false t Missing h = refl
 one-end false false t (At p) h = refl
 
-out : (s : Side) (b : BBox) (p : Pt) → beyond s (edge s b) (p .x) ≡ true → Out s b p
+pub out : (s : Side) (b : BBox) (p : Pt) → beyond s (edge s b) (p .x) ≡ true → Out s b p
 out low b p e = let l : p .x <ℤ b .«x_min» = lt-yes e in omega (zarith, -parts (b .«x_min») (p .x))
 out high b p e = let l : b .«x_max» <ℤ p .x = lt-yes e in omega (zarith, -parts (b .«x_max») (p .x), neg-p (b .«x_max» -ℤ p .x), neg-n (b .«x_max» -ℤ p .x))
 

@@ -1,11 +1,13 @@
 -- What the functions return, one law for each way through them, over plain values: the facts that the code's tests and calls tell make the definition's answer.
 use mathlib.Core.Path.{_≡_, refl, sym, _∙_, ap, subst}
-use mathlib.Core.Bool.{Bool, true, false, not, _&&_, _||_}
+use mathlib.Core.Bool.{Bool, true, false, cond, not, _&&_}
 use mathlib.Core.Logic.{_⊎_, inl, inr}
 use native.Mathlib.Omega.{arith}
 use lib.IntN.{ℤ}
-use lib.Signed.{_<ℤ_, ltZ, leZ}
-use Rattle.whole.proofs.Machine.{le-yes}
+use lib.Signed.{_≤ℤ_, _<ℤ_, ltZ, leZ}
+use Rattle.whole.proofs.Parts.{zarith}
+use Rattle.whole.proofs.Laws.{<-≤}
+use Rattle.whole.proofs.Machine.{lt-yes, lt-no, le-yes}
 use borrow.Author.Tests.{not-true, not-false}
 use Rattle.promise.proofs.Cases.{is-yes, is-no}
 use Rattle.clip.specs.declared.Pt.{Pt}
@@ -21,66 +23,67 @@ use Rattle.clip.specs.Domain.{isCoord, isGood}
 use Rattle.clip.specs.Answer.{saidClipped, clipped}
 use Rattle.clip.specs.Demand3.{Demand3}
 use Rattle.clip.specs.Facts.{Coord, Good, Asked}
-use Rattle.clip.specs.Cutting.{least, most, height, inRange, reaches, crossInOrder, crossAtX, crossAtY, swap, swapped, replace, cutXMin, cutXMax, cutYMin, cutYMax, cuts, overlap, clip}
-use Rattle.clip.proofs.Tests.{both, both-is}
-use Rattle.clip.proofs.Ends.{Side, low, high, endsX, endsY, join, swapBox, swapSeg}
-use Rattle.clip.proofs.Readings.{at-x-min, at-x-max, at-y-min}
-use Rattle.clip.proofs.Fates.{Fate, clear, moved, stuck, fate}
+use Rattle.clip.specs.Cutting.{height, inRange, reaches, crossInOrder, crossAtX, swap, replace, cutXMin, cutXMax, cutYMin, cutYMax, cuts, overlap, clip}
+use Rattle.clip.proofs.Tests.{le-is, lt-is, both, both-is}
+use Rattle.clip.proofs.Ends.{Side, low, high, edge, beyond, endsX, endsY, join, swapBox, swapSeg}
+use Rattle.clip.proofs.Heights.{above-least, below-most}
+use Rattle.clip.proofs.Verdicts.{verdict}
+use Rattle.clip.proofs.Readings.{crossing-sym, out, at-x-min, at-x-max, at-y-min}
+use Rattle.clip.proofs.Fates.{Fate, clear, moved, stuck, fate, none-beyond}
 use Rattle.clip.proofs.Callers.{good-proper, inside-coord, box-refused, coord-refused, not-refused, demand-clip}
 
--- ---- intersect_in_order
-module _ (p q : Pt) (x a b : ℤ) (r : Bool) (e : r ≡ reaches p q x a b) where
-  pub not-reached : not r ≡ true → Missing ≡ crossInOrder p q x a b
-  not-reached n = is-no (reaches p q x a b) Missing _ Missing (sym e ∙ not-true r n) refl
+-- ---- the crossing, with p left of q and the line between them
+module _ (p q : Pt) (c : ℤ) (cp : Coord p) (cq : Coord q) where
+  asked : p .x ≤ℤ c → c ≤ℤ q .x → p .x <ℤ q .x → Asked (p .x) (p .y) (q .x) (q .y) c
+  asked f t l = record { in-x1 = cp .at-x; in-y1 = cp .at-y; in-x2 = cq .at-x; in-y2 = cq .at-y; from = f; to = t; apart = l }
 
-  module _ (n : not r ≡ false) where
-    reached : reaches p q x a b ≡ true
-    reached = sym e ∙ not-false r n
+  -- p beyond the lower edge, or q beyond the upper one, and the other not
+  pub asked-low : ltZ (p .x) c ≡ true → ltZ (q .x) c ≡ false → Asked (p .x) (p .y) (q .x) (q .y) c
+  asked-low u v = let h : p .x <ℤ c = lt-yes u in let k : c ≤ℤ q .x = lt-no v in asked (<-≤ h) k (omega zarith)
 
-    pub asked : Coord p → Coord q → p .x <ℤ q .x → Asked (p .x) (p .y) (q .x) (q .y) x
-    asked cp cq l =
-        let k = both (leZ (p .x) x && leZ x (q .x)) (leZ a (most (p .y) (q .y)) && leZ (least (p .y) (q .y)) b) reached in
-        let m = both (leZ (p .x) x) (leZ x (q .x)) (k .0) in
-        record { in-x1 = cp .at-x; in-y1 = cp .at-y; in-x2 = cq .at-x; in-y2 = cq .at-y; from = le-yes (m .0); to = le-yes (m .1); apart = l }
+  pub asked-high : ltZ c (q .x) ≡ true → ltZ c (p .x) ≡ false → Asked (p .x) (p .y) (q .x) (q .y) c
+  asked-high u v = let h : c <ℤ q .x = lt-yes u in let k : p .x ≤ℤ c = lt-no v in asked k (<-≤ h) (omega zarith)
 
-    module _ (y : ℤ) (f : y ≡ height (p .x) (p .y) (q .x) (q .y) x) where
-      ranged-by : (w : Crossing) → w ≡ inRange x a b y → w ≡ crossInOrder p q x a b
-      ranged-by w g = is-yes (reaches p q x a b) w _ Missing reached (g ∙ ap (inRange x a b) f)
+either-way : (t : Bool) (w : Crossing) → w ≡ Missing → cond t w Missing ≡ Missing
+either-way true w e = e
+either-way false w e = refl
 
-      pub ranged : (leZ a y && leZ y b) ≡ true → At (record { x = x; y = y }) ≡ crossInOrder p q x a b
-      ranged h = ranged-by _ (is-yes (leZ a y && leZ y b) _ _ Missing h refl)
-
-      pub not-ranged : (leZ a y && leZ y b) ≡ false → Missing ≡ crossInOrder p q x a b
-      not-ranged h = ranged-by _ (is-no (leZ a y && leZ y b) Missing _ Missing h refl)
-
--- ---- intersect_at_x, intersect_at_y
-module _ (p q : Pt) (x a b : ℤ) where
-  pub in-order : (r : Crossing) → ltZ (p .x) (q .x) ≡ true → r ≡ crossInOrder p q x a b → r ≡ crossAtX p q x a b
+module _ (p q : Pt) (c a b h : ℤ) (k : Asked (p .x) (p .y) (q .x) (q .y) c) (e : h ≡ height (p .x) (p .y) (q .x) (q .y) c) where
+  ordered : crossAtX p q c a b ≡ crossInOrder p q c a b
   unfolding crossAtX
-  in-order r e g = is-yes (ltZ (p .x) (q .x)) r _ _ e g
+  ordered = sym (is-yes (ltZ (p .x) (q .x)) (crossInOrder p q c a b) (crossInOrder p q c a b) _ (lt-is (k .apart)) refl)
 
-  pub turned-round : (r : Crossing) → ltZ (p .x) (q .x) ≡ false → ltZ (q .x) (p .x) ≡ true → r ≡ crossInOrder q p x a b → r ≡ crossAtX p q x a b
-  unfolding crossAtX
-  turned-round r e f g = is-no (ltZ (p .x) (q .x)) r _ _ e (is-yes (ltZ (q .x) (p .x)) r _ _ f g)
+  -- the height lies between the two y: where it is in range, so the segment reaches that range
+  reached : a ≤ℤ height (p .x) (p .y) (q .x) (q .y) c → height (p .x) (p .y) (q .x) (q .y) c ≤ℤ b → reaches p q c a b ≡ true
+  reached l u = both-is (both-is (le-is (k .from)) (le-is (k .to))) (both-is (le-is (below-most k a l)) (le-is (above-least k b u)))
 
-  pub one-x : ltZ (p .x) (q .x) ≡ false → ltZ (q .x) (p .x) ≡ false → Missing ≡ crossAtX p q x a b
-  unfolding crossAtX
-  one-x e f = is-no (ltZ (p .x) (q .x)) Missing _ _ e (is-no (ltZ (q .x) (p .x)) Missing _ Missing f refl)
+  pub met : (leZ a h && leZ h b) ≡ true → crossAtX p q c a b ≡ At (record { x = c; y = h })
+  met t =
+      let g = both (leZ a h) (leZ h b) t in
+      let r = reached (subst (λ (z : ℤ). a ≤ℤ z) e (le-yes (g .0))) (subst (λ (z : ℤ). z ≤ℤ b) e (le-yes (g .1))) in
+      let m : At (record { x = c; y = h }) ≡ inRange c a b h = is-yes (leZ a h && leZ h b) _ _ Missing t refl in
+      ordered ∙ sym (is-yes (reaches p q c a b) _ _ Missing r (m ∙ ap (inRange c a b) e))
 
-pub swap-coord : {p : Pt} (r : Pt) → Coord p → r ≡ swap p → Coord r
-swap-coord r h e = subst Coord (sym e) (record { at-x = h .at-y; at-y = h .at-x })
+  pub missed : (leZ a h && leZ h b) ≡ false → crossAtX p q c a b ≡ Missing
+  missed t =
+      let m : Missing ≡ inRange c a b h = is-no (leZ a h && leZ h b) Missing _ Missing t refl in
+      ordered ∙ either-way (reaches p q c a b) _ (sym (m ∙ ap (inRange c a b) e))
 
-module _ (p q : Pt) (y a b : ℤ) (u v : Pt) (e : u ≡ swap p) (f : v ≡ swap q) (w : Crossing) (g : w ≡ crossAtX u v y a b) where
-  pub at-y-is : (r : Crossing) → r ≡ swapped w → r ≡ crossAtY p q y a b
-  at-y-is r h = h ∙ ap swapped (g ∙ (λ i. crossAtX (e i) (f i) y a b))
+  -- the same with the ends exchanged
+  pub met-back : (leZ a h && leZ h b) ≡ true → crossAtX q p c a b ≡ At (record { x = c; y = h })
+  met-back t = crossing-sym q p c a b ∙ met t
 
-pub swapped-none : {w : Crossing} → w ≡ Missing → Missing ≡ swapped w
-swapped-none e = sym (ap swapped e)
+  pub missed-back : (leZ a h && leZ h b) ≡ false → crossAtX q p c a b ≡ Missing
+  missed-back t = crossing-sym q p c a b ∙ missed t
 
-pub swapped-at : {w : Crossing} {p r : Pt} → w ≡ At p → r ≡ swap p → At r ≡ swapped w
-swapped-at e f = ap At f ∙ sym (ap swapped e)
+pub turned : {p : Pt} → Coord p → Coord (swap p)
+turned h = record { at-x = h .at-y; at-y = h .at-x }
 
--- ---- replace_end, cut_at_x, cut_at_y
+-- no crossing where both ends are strictly outside
+pub none-x : (d : Side) (b : BBox) (p q : Pt) → beyond d (edge d b) (p .x) ≡ true → beyond d (edge d b) (q .x) ≡ true → crossAtX p q (edge d b) (b .«y_min») (b .«y_max») ≡ Missing
+none-x d b p q u v = none-beyond d b (out d b p u) (out d b q v) (verdict _ _ _ p q)
+
+-- ---- the cuts
 module _ (u v : Bool) (s : Seg) where
   pub replaced-0 : (w : Crossing) (p : Pt) → w ≡ At p → u ≡ true → join p (s .p1) ≡ replace u v s w
   replaced-0 w p e f = rw (e, f) refl
@@ -88,17 +91,12 @@ module _ (u v : Bool) (s : Seg) where
   pub replaced-1 : (w : Crossing) (p : Pt) → w ≡ At p → u ≡ false → v ≡ true → join (s .p0) p ≡ replace u v s w
   replaced-1 w p e f g = rw (e, f, g) refl
 
-  pub replaced-by : {r : Seg} {w x : Crossing} → r ≡ replace u v s w → w ≡ x → r ≡ replace u v s x
-  replaced-by e f = e ∙ ap (replace u v s) f
+  pub not-replaced : (w : Crossing) → w ≡ Missing → s ≡ replace u v s w
+  not-replaced w e = sym (ap (replace u v s) e)
 
-  pub replaced-none : (w : Crossing) → (u || v) ≡ false → s ≡ replace u v s w
-  replaced-none w h = go u v w h
-    where
-      go : (u v : Bool) (w : Crossing) → (u || v) ≡ false → s ≡ replace u v s w
-      go u v Missing h = refl
-      go true v (At p) h = absurd (let z : _≡_ {A = Prim.Native.Nat.ℕ} 0 1 = cc in omega arith)
-      go false true (At p) h = absurd (let z : _≡_ {A = Prim.Native.Nat.ℕ} 0 1 = cc in omega arith)
-      go false false (At p) h = refl
+  pub replaced-none : (w : Crossing) → u ≡ false → v ≡ false → s ≡ replace u v s w
+  replaced-none Missing e f = refl
+  replaced-none (At p) e f = rw (e, f) refl
 
 -- ---- what is cut stays within the limit
 fate-coord : {s : Side} {b : BBox} {p q r : Pt} → Good b → Coord p → Fate s b p q r → Coord r

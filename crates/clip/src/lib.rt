@@ -6,7 +6,7 @@ ghost use lib.Signed.{_<ℤ_};
 ghost use Rattle.whole.specs.Floor.{floor};
 ghost use Rattle.clip.specs.Domain.{limit, within, isCoord, isGood};
 ghost use Rattle.clip.specs.Facts.{Coord, Good, Asked};
-ghost use Rattle.clip.specs.Cutting.{least, most, height, reaches, crossInOrder, crossAtX, crossAtY, swap, replace, cutXMin, cutXMax, cutYMin, cutYMax, overlap, clip};
+ghost use Rattle.clip.specs.Cutting.{least, most, height, cutXMin, cutXMax, cutYMin, cutYMax, overlap, clip};
 ghost use Rattle.clip.specs.Answer.{saidClipped, clipped};
 ghost use Rattle.clip.specs.Demand3.{Demand3};
 use refusal::Refusal;
@@ -38,7 +38,7 @@ pub enum Clipped {
     Refused(Refusal),
 }
 
-// Where a segment crosses an edge's line, if it does.
+// Where a segment crosses an edge's line, if it does. The definitions speak of it; the code has its y or its x at hand.
 enum Crossing {
     Missing,
     At(Pt),
@@ -121,131 +121,7 @@ fn most_of(m: i32, n: i32) -> i32
     if m <= n { n } else { m }
 }
 
-// Whether x lies between the ends, which are given in order of x, and the segment's y range meets [a, b].
-fn reaches_line(p1: Pt, p2: Pt, x: i32, a: i32, b: i32) -> bool
-    ensures { λ r. ⌜ r ≡ reaches p1 p2 x a b ⌝ }
-{
-    let x1 = p1.x;
-    let y1 = p1.y;
-    let x2 = p2.x;
-    let y2 = p2.y;
-    let top = most_of(y1, y2);
-    let bottom = least_of(y1, y2);
-    (x1 <= x) & (x <= x2) & ((a <= top) & (bottom <= b))
-}
-
-// The crossing at x of a segment whose ends are given in order of x.
-fn intersect_in_order(p1: Pt, p2: Pt, x: i32, a: i32, b: i32) -> Crossing
-    requires { ⌜ Coord p1 ⌝ }
-    requires { ⌜ Coord p2 ⌝ }
-    requires { ⌜ p1 .x <ℤ p2 .x ⌝ }
-    ensures { λ r. ⌜ r ≡ crossInOrder p1 p2 x a b ⌝ }
-{
-    let x1 = p1.x;
-    let y1 = p1.y;
-    let x2 = p2.x;
-    let y2 = p2.y;
-    if !reaches_line(p1, p2, x, a, b) {
-        return Crossing::Missing;
-    }
-    let y = height_at(x1, y1, x2, y2, x);
-    if (a <= y) & (y <= b) {
-        return Crossing::At(Pt { x: x, y: y });
-    }
-    Crossing::Missing
-}
-
-// The crossing at x, where y is to lie from a to b.
-fn intersect_at_x(p1: Pt, p2: Pt, x: i32, a: i32, b: i32) -> Crossing
-    requires { ⌜ Coord p1 ⌝ }
-    requires { ⌜ Coord p2 ⌝ }
-    ensures { λ r. ⌜ r ≡ crossAtX p1 p2 x a b ⌝ }
-{
-    let x1 = p1.x;
-    let x2 = p2.x;
-    if x1 < x2 {
-        return intersect_in_order(p1, p2, x, a, b);
-    }
-    if x2 < x1 {
-        return intersect_in_order(p2, p1, x, a, b);
-    }
-    Crossing::Missing
-}
-
-// x and y change roles.
-fn swap_pt(p: Pt) -> Pt
-    ensures { λ r. ⌜ r ≡ swap p ⌝ }
-{
-    let x = p.x;
-    let y = p.y;
-    Pt { x: y, y: x }
-}
-
-// The crossing at y, where x is to lie from a to b.
-fn intersect_at_y(p1: Pt, p2: Pt, y: i32, a: i32, b: i32) -> Crossing
-    requires { ⌜ Coord p1 ⌝ }
-    requires { ⌜ Coord p2 ⌝ }
-    ensures { λ r. ⌜ r ≡ crossAtY p1 p2 y a b ⌝ }
-{
-    let q1 = swap_pt(p1);
-    let q2 = swap_pt(p2);
-    let w = intersect_at_x(q1, q2, y, a, b);
-    match w {
-        Crossing::Missing => Crossing::Missing,
-        Crossing::At(p) => Crossing::At(swap_pt(p)),
-    }
-}
-
-// A crossing replaces the end strictly outside, if one is.
-fn replace_end(out0: bool, out1: bool, seg: Seg, w: Crossing) -> Seg
-    ensures { λ r. ⌜ r ≡ replace out0 out1 seg w ⌝ }
-{
-    let p0 = seg.p0;
-    let p1 = seg.p1;
-    match w {
-        Crossing::Missing => seg,
-        Crossing::At(p) => {
-            if out0 {
-                return Seg { p0: p, p1: p1 };
-            }
-            if out1 {
-                return Seg { p0: p0, p1: p };
-            }
-            seg
-        }
-    }
-}
-
-// The cut at x: out0 and out1 say which ends are strictly outside. Where none is, no crossing is looked for.
-fn cut_at_x(out0: bool, out1: bool, seg: Seg, x: i32, a: i32, b: i32) -> Seg
-    requires { ⌜ Coord (seg .p0) ⌝ }
-    requires { ⌜ Coord (seg .p1) ⌝ }
-    ensures { λ r. ⌜ r ≡ replace out0 out1 seg (crossAtX (seg .p0) (seg .p1) x a b) ⌝ }
-{
-    let p0 = seg.p0;
-    let p1 = seg.p1;
-    if out0 | out1 {
-        let w = intersect_at_x(p0, p1, x, a, b);
-        return replace_end(out0, out1, seg, w);
-    }
-    seg
-}
-
-fn cut_at_y(out0: bool, out1: bool, seg: Seg, y: i32, a: i32, b: i32) -> Seg
-    requires { ⌜ Coord (seg .p0) ⌝ }
-    requires { ⌜ Coord (seg .p1) ⌝ }
-    ensures { λ r. ⌜ r ≡ replace out0 out1 seg (crossAtY (seg .p0) (seg .p1) y a b) ⌝ }
-{
-    let p0 = seg.p0;
-    let p1 = seg.p1;
-    if out0 | out1 {
-        let w = intersect_at_y(p0, p1, y, a, b);
-        return replace_end(out0, out1, seg, w);
-    }
-    seg
-}
-
-// The cuts at the four edges.
+// The cuts at the four edges: where one end is strictly outside, it goes to the rounded crossing, if that lies in the box's range. A line that both ends are beyond has no crossing.
 fn cut_x_min(bbox: BBox, seg: Seg) -> Seg
     requires { ⌜ Coord (seg .p0) ⌝ }
     requires { ⌜ Coord (seg .p1) ⌝ }
@@ -257,8 +133,26 @@ fn cut_x_min(bbox: BBox, seg: Seg) -> Seg
     let p0 = seg.p0;
     let p1 = seg.p1;
     let x0 = p0.x;
+    let y0 = p0.y;
     let x1 = p1.x;
-    cut_at_x(x0 < x, x1 < x, seg, x, a, b)
+    let y1 = p1.y;
+    if x0 < x {
+        if x1 < x {
+            return seg;
+        }
+        let y = height_at(x0, y0, x1, y1, x);
+        if (a <= y) & (y <= b) {
+            return Seg { p0: Pt { x: x, y: y }, p1: p1 };
+        }
+        return seg;
+    }
+    if x1 < x {
+        let y = height_at(x1, y1, x0, y0, x);
+        if (a <= y) & (y <= b) {
+            return Seg { p0: p0, p1: Pt { x: x, y: y } };
+        }
+    }
+    seg
 }
 
 fn cut_x_max(bbox: BBox, seg: Seg) -> Seg
@@ -272,8 +166,26 @@ fn cut_x_max(bbox: BBox, seg: Seg) -> Seg
     let p0 = seg.p0;
     let p1 = seg.p1;
     let x0 = p0.x;
+    let y0 = p0.y;
     let x1 = p1.x;
-    cut_at_x(x < x0, x < x1, seg, x, a, b)
+    let y1 = p1.y;
+    if x < x0 {
+        if x < x1 {
+            return seg;
+        }
+        let y = height_at(x1, y1, x0, y0, x);
+        if (a <= y) & (y <= b) {
+            return Seg { p0: Pt { x: x, y: y }, p1: p1 };
+        }
+        return seg;
+    }
+    if x < x1 {
+        let y = height_at(x0, y0, x1, y1, x);
+        if (a <= y) & (y <= b) {
+            return Seg { p0: p0, p1: Pt { x: x, y: y } };
+        }
+    }
+    seg
 }
 
 fn cut_y_min(bbox: BBox, seg: Seg) -> Seg
@@ -287,8 +199,26 @@ fn cut_y_min(bbox: BBox, seg: Seg) -> Seg
     let p0 = seg.p0;
     let p1 = seg.p1;
     let y0 = p0.y;
+    let x0 = p0.x;
     let y1 = p1.y;
-    cut_at_y(y0 < y, y1 < y, seg, y, a, b)
+    let x1 = p1.x;
+    if y0 < y {
+        if y1 < y {
+            return seg;
+        }
+        let x = height_at(y0, x0, y1, x1, y);
+        if (a <= x) & (x <= b) {
+            return Seg { p0: Pt { x: x, y: y }, p1: p1 };
+        }
+        return seg;
+    }
+    if y1 < y {
+        let x = height_at(y1, x1, y0, x0, y);
+        if (a <= x) & (x <= b) {
+            return Seg { p0: p0, p1: Pt { x: x, y: y } };
+        }
+    }
+    seg
 }
 
 fn cut_y_max(bbox: BBox, seg: Seg) -> Seg
@@ -302,8 +232,26 @@ fn cut_y_max(bbox: BBox, seg: Seg) -> Seg
     let p0 = seg.p0;
     let p1 = seg.p1;
     let y0 = p0.y;
+    let x0 = p0.x;
     let y1 = p1.y;
-    cut_at_y(y < y0, y < y1, seg, y, a, b)
+    let x1 = p1.x;
+    if y < y0 {
+        if y < y1 {
+            return seg;
+        }
+        let x = height_at(y1, x1, y0, x0, y);
+        if (a <= x) & (x <= b) {
+            return Seg { p0: Pt { x: x, y: y }, p1: p1 };
+        }
+        return seg;
+    }
+    if y < y1 {
+        let x = height_at(y0, x0, y1, x1, y);
+        if (a <= x) & (x <= b) {
+            return Seg { p0: p0, p1: Pt { x: x, y: y } };
+        }
+    }
+    seg
 }
 
 // Whether the segment's bounding rectangle and the box overlap, edges counted.
