@@ -1,12 +1,12 @@
 -- What the functions return, one law for each way through them, over plain values: the facts that the code's tests and calls tell make the definition's answer.
 use mathlib.Core.Path.{_≡_, refl, sym, _∙_, ap, subst}
-use mathlib.Core.Bool.{Bool, true, false, cond, not, _&&_}
-use mathlib.Core.Logic.{_⊎_, inl, inr}
+use mathlib.Core.Bool.{Bool, true, false, cond, not, _&&_, _||_}
+use mathlib.Core.Logic.{_⊎_, inl, inr, ⊎-elim}
 use native.Mathlib.Omega.{arith}
-use lib.IntN.{ℤ}
+use lib.IntN.{ℤ, negℤ}
 use lib.Signed.{_≤ℤ_, _<ℤ_, ltZ, leZ}
 use Rattle.whole.proofs.Parts.{zarith}
-use Rattle.whole.proofs.Laws.{<-≤}
+use Rattle.whole.proofs.Laws.{<-≤, ≤-trans}
 use Rattle.whole.proofs.Machine.{lt-yes, lt-no, le-yes}
 use borrow.Author.Tests.{not-true, not-false}
 use Rattle.promise.proofs.Cases.{is-yes, is-no}
@@ -19,18 +19,20 @@ use Rattle.clip.specs.declared.ClippedSeg.{ClippedSeg}
 use Rattle.clip.specs.declared.Clipped.{Clipped}
 use Rattle.clip.specs.declared.Clipped.the-variants.{Done, Refused}
 use Rattle.refusal.specs.declared.Refusal.the-variants.{Box, Coord as CoordRefusal}
-use Rattle.clip.specs.Domain.{isCoord, isGood}
-use Rattle.clip.specs.Answer.{saidClipped, clipped}
-use Rattle.clip.specs.Demand3.{Demand3}
+use Rattle.clip.specs.Domain.{limit, isCoord, isGood}
+use Rattle.clip.specs.Answer.{saidClipped, areCoords, clipped}
+use Rattle.clip.specs.Numbers.{segAt, boxAt}
+use Rattle.clip.specs.Demand3.{Demand3, Inside}
 use Rattle.clip.specs.Facts.{Coord, Good, Asked}
-use Rattle.clip.specs.Cutting.{height, inRange, reaches, crossInOrder, crossAtX, swap, replace, cutXMin, cutXMax, cutYMin, cutYMax, cuts, overlap, clip}
-use Rattle.clip.proofs.Tests.{le-is, lt-is, both, both-is}
+use Rattle.clip.specs.Cutting.{least, most, height, inRange, reaches, crossInOrder, crossAtX, swap, replace, cutXMin, cutXMax, cutYMin, cutYMax, cuts, clip}
+use Rattle.clip.proofs.Tests.{most-lt, lt-least, le-is, lt-is, both, both-is}
 use Rattle.clip.proofs.Ends.{Side, low, high, edge, beyond, endsX, endsY, join, swapBox, swapSeg}
 use Rattle.clip.proofs.Heights.{above-least, below-most}
 use Rattle.clip.proofs.Verdicts.{verdict}
 use Rattle.clip.proofs.Readings.{crossing-sym, out, at-x-min, at-x-max, at-y-min}
 use Rattle.clip.proofs.Fates.{Fate, clear, moved, stuck, fate, none-beyond}
-use Rattle.clip.proofs.Callers.{good-proper, inside-coord, box-refused, coord-refused, not-refused, demand-clip}
+use Rattle.clip.proofs.Overlaps.{Apart, left, right, under, over, cuts-apart, clip-cuts}
+use Rattle.clip.proofs.Callers.{Kept, coord-facts, coord-is, good-facts, good-is, good-proper, inside-coord, box-refused, coord-refused, not-refused, demand-clip, clip-inside}
 
 -- ---- the crossing, with p left of q and the line between them
 module _ (p q : Pt) (c : ℤ) (cp : Coord p) (cq : Coord q) where
@@ -131,17 +133,119 @@ module _ {b : BBox} (g : Good b) {t : Seg} (h : Coords t) where
   pub y-min-coords : (r : Seg) → r ≡ cutYMin b t → Coords r
   y-min-coords r e = subst Coords (sym (e ∙ at-y-min b t)) (of-y low)
 
--- ---- clip_good
-module _ (b : BBox) (s : Seg) (r : Bool) (e : r ≡ overlap b s) where
-  pub not-bounded : not r ≡ true → record { seg = s } ≡ clip b s
-  unfolding clip
-  not-bounded n = λ i. record { seg = is-no (overlap b s) s (cuts b s) s (sym e ∙ not-true r n) refl i }
+-- ---- tests joined in another order, or with fewer of them
+same : (s t : Bool) → (s ≡ true → t ≡ true) → (t ≡ true → s ≡ true) → s ≡ t
+same true t f g = sym (f refl)
+same false true f g = g refl
+same false false f g = refl
 
-  pub four-cuts : not r ≡ false → (s1 s2 s3 s4 : Seg) → s1 ≡ cutXMin b s → s2 ≡ cutXMax b s1 → s3 ≡ cutYMin b s2 → s4 ≡ cutYMax b s3 → record { seg = s4 } ≡ clip b s
-  unfolding clip cuts
-  four-cuts n s1 s2 s3 s4 e1 e2 e3 e4 =
+-- the lower edge lies below the upper one: where one is within one end of the limit, so is the other
+module _ (l r b t : ℤ) where
+  abbrev edgesTest : Bool
+  edgesTest = ltZ l r && ltZ b t && leZ (negℤ limit) l && leZ r limit && leZ (negℤ limit) b && leZ t limit
+
+  edges-facts : edgesTest ≡ true → Good (boxAt l r b t)
+  edges-facts e =
+      let k = both (ltZ l r && ltZ b t && leZ (negℤ limit) l && leZ r limit && leZ (negℤ limit) b) (leZ t limit) e in
+      let j = both (ltZ l r && ltZ b t && leZ (negℤ limit) l && leZ r limit) (leZ (negℤ limit) b) (k .0) in
+      let i = both (ltZ l r && ltZ b t && leZ (negℤ limit) l) (leZ r limit) (j .0) in
+      let h = both (ltZ l r && ltZ b t) (leZ (negℤ limit) l) (i .0) in
+      let g = both (ltZ l r) (ltZ b t) (h .0) in
+      let lr : l <ℤ r = lt-yes (g .0) in
+      let bt : b <ℤ t = lt-yes (g .1) in
+      let ll : negℤ limit ≤ℤ l = le-yes (h .1) in
+      let rr : r ≤ℤ limit = le-yes (i .1) in
+      let bb : negℤ limit ≤ℤ b = le-yes (j .1) in
+      let tu : t ≤ℤ limit = le-yes (k .1) in
+      record {
+        wide = lr;
+        tall = bt;
+        left = record { least = ll; most = ≤-trans (<-≤ lr) rr };
+        right = record { least = ≤-trans ll (<-≤ lr); most = rr };
+        bottom = record { least = bb; most = ≤-trans (<-≤ bt) tu };
+        top = record { least = ≤-trans bb (<-≤ bt); most = tu };
+      }
+
+  pub edges-good : edgesTest ≡ isGood (boxAt l r b t)
+  edges-good = same edgesTest (isGood (boxAt l r b t)) (λ e. good-is (edges-facts e)) (λ e. let g = good-facts e in
+      both-is (both-is (both-is (both-is (both-is (lt-is (g .wide)) (lt-is (g .tall))) (le-is (g .left .least))) (le-is (g .right .most))) (le-is (g .bottom .least))) (le-is (g .top .most)))
+
+module _ (x0 y0 x1 y1 : ℤ) where
+  abbrev n : ℤ
+  n = negℤ limit
+
+  abbrev coordsTest : Bool
+  coordsTest = leZ n x0 && leZ n y0 && leZ n x1 && leZ n y1 && leZ x0 limit && leZ y0 limit && leZ x1 limit && leZ y1 limit
+
+  in-all : coordsTest ≡ true → areCoords (segAt x0 y0 x1 y1) ≡ true
+  unfolding isCoord
+  in-all e =
+      let k = both (leZ n x0 && leZ n y0 && leZ n x1 && leZ n y1 && leZ x0 limit && leZ y0 limit && leZ x1 limit) (leZ y1 limit) e in
+      let j = both (leZ n x0 && leZ n y0 && leZ n x1 && leZ n y1 && leZ x0 limit && leZ y0 limit) (leZ x1 limit) (k .0) in
+      let i = both (leZ n x0 && leZ n y0 && leZ n x1 && leZ n y1 && leZ x0 limit) (leZ y0 limit) (j .0) in
+      let h = both (leZ n x0 && leZ n y0 && leZ n x1 && leZ n y1) (leZ x0 limit) (i .0) in
+      let g = both (leZ n x0 && leZ n y0 && leZ n x1) (leZ n y1) (h .0) in
+      let f = both (leZ n x0 && leZ n y0) (leZ n x1) (g .0) in
+      let d = both (leZ n x0) (leZ n y0) (f .0) in
+      both-is (both-is (both-is (d .0) (h .1)) (both-is (d .1) (i .1))) (both-is (both-is (f .1) (j .1)) (both-is (g .1) (k .1)))
+
+  all-in : areCoords (segAt x0 y0 x1 y1) ≡ true → coordsTest ≡ true
+  all-in e =
+      let k = both (isCoord (record { x = x0; y = y0 })) (isCoord (record { x = x1; y = y1 })) e in
+      let p = coord-facts (k .0) in
+      let q = coord-facts (k .1) in
+      both-is (both-is (both-is (both-is (both-is (both-is (both-is (le-is (p .at-x .least)) (le-is (p .at-y .least))) (le-is (q .at-x .least))) (le-is (q .at-y .least))) (le-is (p .at-x .most))) (le-is (p .at-y .most))) (le-is (q .at-x .most))) (le-is (q .at-y .most))
+
+  pub coords-good : coordsTest ≡ areCoords (segAt x0 y0 x1 y1)
+  coords-good = same coordsTest (areCoords (segAt x0 y0 x1 y1)) in-all all-in
+
+-- ---- a segment beside the box, and one with no end outside it
+or-cases : (s t : Bool) → (s || t) ≡ true → (s ≡ true) ⊎ (t ≡ true)
+or-cases true t e = inl refl
+or-cases false t e = inr e
+
+module _ (b : BBox) (s : Seg) (g : Good b) where
+  stays : Apart b (s .p0) (s .p1) → record { seg = s } ≡ clip b s
+  stays k = sym (ap (λ (t : Seg). record { seg = t }) (clip-cuts b (good-proper g) s ∙ cuts-apart b (good-proper g) s k))
+
+  pub beside-x : (r : Bool) → r ≡ (ltZ (most (s .p0 .x) (s .p1 .x)) (b .«x_min») || ltZ (b .«x_max») (least (s .p0 .x) (s .p1 .x))) → r ≡ true → record { seg = s } ≡ clip b s
+  beside-x r e t = ⊎-elim
+      (λ h. let k = most-lt (s .p0 .x) (s .p1 .x) (b .«x_min») (lt-yes h) in stays (left (k .0) (k .1)))
+      (λ h. let k = lt-least (s .p0 .x) (s .p1 .x) (b .«x_max») (lt-yes h) in stays (right (k .0) (k .1)))
+      (or-cases (ltZ (most (s .p0 .x) (s .p1 .x)) (b .«x_min»)) (ltZ (b .«x_max») (least (s .p0 .x) (s .p1 .x))) (sym e ∙ t))
+
+  pub beside-y : (r : Bool) → r ≡ (ltZ (most (s .p0 .y) (s .p1 .y)) (b .«y_min») || ltZ (b .«y_max») (least (s .p0 .y) (s .p1 .y))) → r ≡ true → record { seg = s } ≡ clip b s
+  beside-y r e t = ⊎-elim
+      (λ h. let k = most-lt (s .p0 .y) (s .p1 .y) (b .«y_min») (lt-yes h) in stays (under (k .0) (k .1)))
+      (λ h. let k = lt-least (s .p0 .y) (s .p1 .y) (b .«y_max») (lt-yes h) in stays (over (k .0) (k .1)))
+      (or-cases (ltZ (most (s .p0 .y) (s .p1 .y)) (b .«y_min»)) (ltZ (b .«y_max») (least (s .p0 .y) (s .p1 .y))) (sym e ∙ t))
+
+  pub four-cuts : (s1 s2 s3 s4 : Seg) → s1 ≡ cutXMin b s → s2 ≡ cutXMax b s1 → s3 ≡ cutYMin b s2 → s4 ≡ cutYMax b s3 → record { seg = s4 } ≡ clip b s
+  unfolding cuts
+  four-cuts s1 s2 s3 s4 e1 e2 e3 e4 =
       let k : s4 ≡ cuts b s = e4 ∙ ap (cutYMax b) (e3 ∙ ap (cutYMin b) (e2 ∙ ap (cutXMax b) e1)) in
-      λ i. record { seg = is-yes (overlap b s) s4 (cuts b s) s (sym e ∙ not-false r n) k i }
+      ap (λ (t : Seg). record { seg = t }) (k ∙ sym (clip-cuts b (good-proper g) s))
+
+-- what `is_inside` tests
+abbrev pub insideTest : BBox → Pt → Bool
+insideTest b p = leZ (b .«x_min») (p .x) && leZ (p .x) (b .«x_max») && (leZ (b .«y_min») (p .y) && leZ (p .y) (b .«y_max»))
+
+inside-facts : (b : BBox) (p : Pt) → insideTest b p ≡ true → Inside b p
+inside-facts b p e =
+    let k = both (leZ (b .«x_min») (p .x) && leZ (p .x) (b .«x_max»)) (leZ (b .«y_min») (p .y) && leZ (p .y) (b .«y_max»)) e in
+    let h = both (leZ (b .«x_min») (p .x)) (leZ (p .x) (b .«x_max»)) (k .0) in
+    let v = both (leZ (b .«y_min») (p .y)) (leZ (p .y) (b .«y_max»)) (k .1) in
+    record { left = le-yes (h .0); right = le-yes (h .1); bottom = le-yes (v .0); top = le-yes (v .1) }
+
+lt-not : {x y : ℤ} → y ≤ℤ x → ltZ x y ≡ false
+lt-not {x} {y} h = go (ltZ x y) refl
+  where
+    go : (t : Bool) → ltZ x y ≡ t → ltZ x y ≡ false
+    go true e = absurd (let k : x <ℤ y = lt-yes e in omega zarith)
+    go false e = e
+
+kept : {b : BBox} {p : Pt} → Inside b p → Kept b p
+kept i = record { left = lt-not (i .left); right = lt-not (i .right); down = lt-not (i .bottom); up = lt-not (i .top) }
 
 -- ---- clip
 either-no : (t u : Bool) → (t ≡ false) ⊎ (u ≡ false) → (t && u) ≡ false
@@ -180,3 +284,34 @@ module _ (s : Seg) (b : BBox) where
 
         pub all-good : (c : ClippedSeg) → c ≡ clip b s → Owed (Done c)
         all-good c e = owed (Done c) (ap (λ (z : ClippedSeg). saidClipped (Done z)) e ∙ sym (not-refused s b good-box (both-is (good-ends .0) (good-ends .1))))
+
+-- ---- clip_at
+module _ (s : Seg) (b : BBox) (g : Bool) (eg : g ≡ isGood b) where
+  pub said-box : not g ≡ true → saidClipped (Refused Box) ≡ clipped s b
+  said-box n = bad-box s b g eg n .0
+
+  module _ (ng : not g ≡ false) where
+    pub good-edges : Good b
+    good-edges = good-facts (good-box s b g eg ng)
+
+    said-done : areCoords s ≡ true → (c : ClippedSeg) → c ≡ clip b s → saidClipped (Done c) ≡ clipped s b
+    said-done t c e = ap (λ (z : ClippedSeg). saidClipped (Done z)) e ∙ sym (not-refused s b (good-box s b g eg ng) t)
+
+    -- a segment inside a good box is within the limit
+    pub said-inside : (u v : Bool) → u ≡ insideTest b (s .p0) → v ≡ insideTest b (s .p1) → (u && v) ≡ true → saidClipped (Done (record { seg = s })) ≡ clipped s b
+    said-inside u v eu ev t =
+        let k = both u v t in
+        let i = inside-facts b (s .p0) (sym eu ∙ k .0) in
+        let j = inside-facts b (s .p1) (sym ev ∙ k .1) in
+        said-done (both-is (coord-is (inside-coord good-edges i)) (coord-is (inside-coord good-edges j))) (record { seg = s }) (sym (ap (λ (t : Seg). record { seg = t }) (clip-inside b s (kept i) (kept j))))
+
+    module _ (t : Bool) (et : t ≡ areCoords s) where
+      pub said-coord : not t ≡ true → saidClipped (Refused CoordRefusal) ≡ clipped s b
+      said-coord n = sym (coord-refused s b (good-box s b g eg ng) (sym et ∙ not-true t n))
+
+      module _ (nt : not t ≡ false) where
+        pub coords : Coord (s .p0) × Coord (s .p1)
+        coords = let k = both (isCoord (s .p0)) (isCoord (s .p1)) (sym et ∙ not-false t nt) in (coord-facts (k .0), coord-facts (k .1))
+
+        pub said-clip : (c : ClippedSeg) → c ≡ clip b s → saidClipped (Done c) ≡ clipped s b
+        said-clip = said-done (sym et ∙ not-false t nt)

@@ -5,3 +5,4 @@ pub mod Answer
 pub mod Demand3
 pub mod Samples
 pub mod Facts
+pub mod Numbers

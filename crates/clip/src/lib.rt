@@ -2,12 +2,14 @@
 // No loop; a division only for a cut whose line the segment reaches with one end strictly outside; for a segment inside the box nothing but comparisons.
 ghost use mathlib.Core.Path.{_≡_};
 ghost use lib.IntN.{pos};
-ghost use lib.Signed.{_<ℤ_};
+ghost use mathlib.Core.Bool.{_&&_, _||_};
+ghost use lib.Signed.{_<ℤ_, ltZ, leZ};
 ghost use Rattle.whole.specs.Floor.{floor};
 ghost use Rattle.clip.specs.Domain.{limit, within, isCoord, isGood};
 ghost use Rattle.clip.specs.Facts.{Coord, Good, Asked};
-ghost use Rattle.clip.specs.Cutting.{least, most, height, cutXMin, cutXMax, cutYMin, cutYMax, overlap, clip};
-ghost use Rattle.clip.specs.Answer.{saidClipped, clipped};
+ghost use Rattle.clip.specs.Cutting.{least, most, height, cutXMin, cutXMax, cutYMin, cutYMax, clip};
+ghost use Rattle.clip.specs.Answer.{saidClipped, areCoords, clipped};
+ghost use Rattle.clip.specs.Numbers.{segAt, boxAt};
 ghost use Rattle.clip.specs.Demand3.{Demand3};
 use refusal::Refusal;
 
@@ -79,11 +81,43 @@ impl BBox {
         let right = b.x_max;
         let bottom = b.y_min;
         let top = b.y_max;
-        (left < right)
-            & (bottom < top)
-            & (BBox::is_within(left) & BBox::is_within(right))
-            & (BBox::is_within(bottom) & BBox::is_within(top))
+        are_edges(left, right, bottom, top)
     }
+}
+
+// Whether four numbers are the edges of a good box. The lower edge lies below the upper one, so each is asked for one end of the limit.
+fn are_edges(left: i32, right: i32, bottom: i32, top: i32) -> bool
+    ensures { λ r. ⌜ r ≡ isGood (boxAt left right bottom top) ⌝ }
+{
+    let limit = BBox::LIMIT;
+    (left < right)
+        & (bottom < top)
+        & (-limit <= left)
+        & (right <= limit)
+        & (-limit <= bottom)
+        & (top <= limit)
+}
+
+// Whether four numbers are the ends of a segment within the limit: the lower ends of the limit first, for the compiler makes less of it so.
+fn are_coords(x0: i32, y0: i32, x1: i32, y1: i32) -> bool
+    ensures { λ r. ⌜ r ≡ areCoords (segAt x0 y0 x1 y1) ⌝ }
+{
+    let limit = BBox::LIMIT;
+    (-limit <= x0)
+        & (-limit <= y0)
+        & (-limit <= x1)
+        & (-limit <= y1)
+        & (x0 <= limit)
+        & (y0 <= limit)
+        & (x1 <= limit)
+        & (y1 <= limit)
+}
+
+// Whether a point lies in the closed box.
+fn is_inside(x: i32, y: i32, left: i32, right: i32, bottom: i32, top: i32) -> bool
+    ensures { λ r. ⌜ r ≡ (leZ left x && leZ x right && (leZ bottom y && leZ y top)) ⌝ }
+{
+    (left <= x) & (x <= right) & ((bottom <= y) & (y <= top))
 }
 
 // n / d rounded down, below zero too, for d above zero.
@@ -142,14 +176,20 @@ fn cut_x_min(bbox: BBox, seg: Seg) -> Seg
         }
         let y = height_at(x0, y0, x1, y1, x);
         if (a <= y) & (y <= b) {
-            return Seg { p0: Pt { x: x, y: y }, p1: p1 };
+            return Seg {
+                p0: Pt { x: x, y: y },
+                p1: p1,
+            };
         }
         return seg;
     }
     if x1 < x {
         let y = height_at(x1, y1, x0, y0, x);
         if (a <= y) & (y <= b) {
-            return Seg { p0: p0, p1: Pt { x: x, y: y } };
+            return Seg {
+                p0: p0,
+                p1: Pt { x: x, y: y },
+            };
         }
     }
     seg
@@ -175,14 +215,20 @@ fn cut_x_max(bbox: BBox, seg: Seg) -> Seg
         }
         let y = height_at(x1, y1, x0, y0, x);
         if (a <= y) & (y <= b) {
-            return Seg { p0: Pt { x: x, y: y }, p1: p1 };
+            return Seg {
+                p0: Pt { x: x, y: y },
+                p1: p1,
+            };
         }
         return seg;
     }
     if x < x1 {
         let y = height_at(x0, y0, x1, y1, x);
         if (a <= y) & (y <= b) {
-            return Seg { p0: p0, p1: Pt { x: x, y: y } };
+            return Seg {
+                p0: p0,
+                p1: Pt { x: x, y: y },
+            };
         }
     }
     seg
@@ -208,14 +254,20 @@ fn cut_y_min(bbox: BBox, seg: Seg) -> Seg
         }
         let x = height_at(y0, x0, y1, x1, y);
         if (a <= x) & (x <= b) {
-            return Seg { p0: Pt { x: x, y: y }, p1: p1 };
+            return Seg {
+                p0: Pt { x: x, y: y },
+                p1: p1,
+            };
         }
         return seg;
     }
     if y1 < y {
         let x = height_at(y1, x1, y0, x0, y);
         if (a <= x) & (x <= b) {
-            return Seg { p0: p0, p1: Pt { x: x, y: y } };
+            return Seg {
+                p0: p0,
+                p1: Pt { x: x, y: y },
+            };
         }
     }
     seg
@@ -241,22 +293,73 @@ fn cut_y_max(bbox: BBox, seg: Seg) -> Seg
         }
         let x = height_at(y1, x1, y0, x0, y);
         if (a <= x) & (x <= b) {
-            return Seg { p0: Pt { x: x, y: y }, p1: p1 };
+            return Seg {
+                p0: Pt { x: x, y: y },
+                p1: p1,
+            };
         }
         return seg;
     }
     if y < y1 {
         let x = height_at(y0, x0, y1, x1, y);
         if (a <= x) & (x <= b) {
-            return Seg { p0: p0, p1: Pt { x: x, y: y } };
+            return Seg {
+                p0: p0,
+                p1: Pt { x: x, y: y },
+            };
         }
     }
     seg
 }
 
-// Whether the segment's bounding rectangle and the box overlap, edges counted.
-fn bounded_by(bbox: BBox, seg: Seg) -> bool
-    ensures { λ r. ⌜ r ≡ overlap bbox seg ⌝ }
+// Whether two numbers lie both below a range or both above it.
+fn are_beside(m: i32, n: i32, low: i32, high: i32) -> bool
+    ensures { λ r. ⌜ r ≡ (ltZ (most m n) low || ltZ high (least m n)) ⌝ }
+{
+    if most_of(m, n) < low {
+        return true;
+    }
+    high < least_of(m, n)
+}
+
+// The four cuts, each on the segment as it then is.
+fn cut_all(
+    x0: i32,
+    y0: i32,
+    x1: i32,
+    y1: i32,
+    left: i32,
+    right: i32,
+    bottom: i32,
+    top: i32,
+) -> ClippedSeg
+    requires { ⌜ Good (boxAt left right bottom top) ⌝ }
+    requires { ⌜ Coord (segAt x0 y0 x1 y1 .p0) ⌝ }
+    requires { ⌜ Coord (segAt x0 y0 x1 y1 .p1) ⌝ }
+    ensures { λ r. ⌜ r ≡ clip (boxAt left right bottom top) (segAt x0 y0 x1 y1) ⌝ }
+{
+    let p0 = Pt { x: x0, y: y0 };
+    let p1 = Pt { x: x1, y: y1 };
+    let seg = Seg { p0: p0, p1: p1 };
+    let bbox = BBox {
+        x_min: left,
+        x_max: right,
+        y_min: bottom,
+        y_max: top,
+    };
+    let s1 = cut_x_min(bbox, seg);
+    let s2 = cut_x_max(bbox, s1);
+    let s3 = cut_y_min(bbox, s2);
+    let s4 = cut_y_max(bbox, s3);
+    ClippedSeg { seg: s4 }
+}
+
+// A segment beside the box as given, another by the four cuts.
+fn clip_good(bbox: BBox, seg: Seg) -> ClippedSeg
+    requires { ⌜ Good bbox ⌝ }
+    requires { ⌜ Coord (seg .p0) ⌝ }
+    requires { ⌜ Coord (seg .p1) ⌝ }
+    ensures { λ r. ⌜ r ≡ clip bbox seg ⌝ }
 {
     let p0 = seg.p0;
     let p1 = seg.p1;
@@ -268,28 +371,13 @@ fn bounded_by(bbox: BBox, seg: Seg) -> bool
     let right = bbox.x_max;
     let bottom = bbox.y_min;
     let top = bbox.y_max;
-    let x_most = most_of(x0, x1);
-    let x_least = least_of(x0, x1);
-    let y_most = most_of(y0, y1);
-    let y_least = least_of(y0, y1);
-    (left <= x_most) & (x_least <= right) & ((bottom <= y_most) & (y_least <= top))
-}
-
-// The four cuts, each on the segment as it then is; without overlap the segment as given.
-fn clip_good(bbox: BBox, seg: Seg) -> ClippedSeg
-    requires { ⌜ Good bbox ⌝ }
-    requires { ⌜ Coord (seg .p0) ⌝ }
-    requires { ⌜ Coord (seg .p1) ⌝ }
-    ensures { λ r. ⌜ r ≡ clip bbox seg ⌝ }
-{
-    if !bounded_by(bbox, seg) {
+    if are_beside(x0, x1, left, right) {
         return ClippedSeg { seg: seg };
     }
-    let s1 = cut_x_min(bbox, seg);
-    let s2 = cut_x_max(bbox, s1);
-    let s3 = cut_y_min(bbox, s2);
-    let s4 = cut_y_max(bbox, s3);
-    ClippedSeg { seg: s4 }
+    if are_beside(y0, y1, bottom, top) {
+        return ClippedSeg { seg: seg };
+    }
+    cut_all(x0, y0, x1, y1, left, right, bottom, top)
 }
 
 // The segment cut at the box: BOX, then COORD, else the clipped segment.
@@ -309,4 +397,40 @@ pub fn clip(seg: Seg, bbox: BBox) -> Clipped
         return Clipped::Refused(Refusal::Coord);
     }
     Clipped::Done(clip_good(bbox, seg))
+}
+
+// The same of plain numbers, for callers that have the segment and the box so. What is cheapest to see comes first: a segment inside a good box is within the limit, and stays.
+pub fn clip_at(
+    x0: i32,
+    y0: i32,
+    x1: i32,
+    y1: i32,
+    left: i32,
+    right: i32,
+    bottom: i32,
+    top: i32,
+) -> Clipped
+    ensures { λ r. ⌜ saidClipped r ≡ clipped (segAt x0 y0 x1 y1) (boxAt left right bottom top) ⌝ }
+{
+    if !are_edges(left, right, bottom, top) {
+        return Clipped::Refused(Refusal::Box);
+    }
+    let p0 = Pt { x: x0, y: y0 };
+    let p1 = Pt { x: x1, y: y1 };
+    let seg = Seg { p0: p0, p1: p1 };
+    let in0 = is_inside(x0, y0, left, right, bottom, top);
+    let in1 = is_inside(x1, y1, left, right, bottom, top);
+    if in0 & in1 {
+        return Clipped::Done(ClippedSeg { seg: seg });
+    }
+    if !are_coords(x0, y0, x1, y1) {
+        return Clipped::Refused(Refusal::Coord);
+    }
+    if are_beside(x0, x1, left, right) {
+        return Clipped::Done(ClippedSeg { seg: seg });
+    }
+    if are_beside(y0, y1, bottom, top) {
+        return Clipped::Done(ClippedSeg { seg: seg });
+    }
+    Clipped::Done(cut_all(x0, y0, x1, y1, left, right, bottom, top))
 }

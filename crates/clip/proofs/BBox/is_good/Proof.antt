@@ -1,24 +1,11 @@
--- `clip::BBox::is_good` meets its contract: the tests joined are the definition's.
-use mathlib.Core.Path.{refl}
+-- `clip::BBox::is_good` meets its contract: a box is its four edges.
 use borrow.Author.Needs.{needs}
 use mir.Syntax.{w32}
 use Rattle.whole.proofs.Machine.{Back, back}
-use Rattle.clip.specs.Domain.{isGood}
 use Rattle.clip.proofs.BBox.is_good.Statement.{statement}
 use Rattle.clip.proofs.BBox.is_good.Tie as tie
 
-is-within-requires : tie.Need-is-within-requires
-is-within-requires c κs = search needs
-
-is-within-requires-2 : tie.Need-is-within-requires-2
-is-within-requires-2 c κs = search needs
-
-is-within-requires-3 : tie.Need-is-within-requires-3
-is-within-requires-3 c κs = search needs
-
-is-within-requires-4 : tie.Need-is-within-requires-4
-is-within-requires-4 c κs = search needs
-
+-- what the machine reads back from the bits of each value
 module _ (s : tie.Start) where
   left : Back w32 (s .args .b .«x_min»)
   left = back (search needs depth 12)
@@ -34,22 +21,11 @@ module _ (s : tie.Start) where
 
 ruleset read = (left, right, bottom, top)
 
+are-edges-requires : tie.Need-are-edges-requires
+are-edges-requires c κs = search needs
+
 returns : tie.Need-returns
-unfolding isGood
-returns c =
-    simp read (rw (
-      simp read at (c .before .before .before .is-within .ensures),
-      simp read at (c .before .before .is-within2 .ensures),
-      simp read at (c .before .is-within3 .ensures),
-      simp read at (c .is-within4 .ensures),
-    ) refl)
+returns c = simp read at (c .are-edges .ensures)
 
 pub is-good-spec : {M : Type 1} → statement M
-is-good-spec =
-    tie.close
-    (tie.spec
-    is-within-requires
-    is-within-requires-2
-    is-within-requires-3
-    is-within-requires-4
-    returns)
+is-good-spec = tie.close (tie.spec are-edges-requires returns)

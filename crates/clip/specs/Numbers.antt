@@ -1,0 +1,10 @@
+-- A segment and a box by their numbers, in the order in which `clip_at` takes them.
+use lib.IntN.{ℤ}
+use Rattle.clip.specs.declared.Seg.{Seg}
+use Rattle.clip.specs.declared.BBox.{BBox}
+
+abbrev pub segAt : ℤ → ℤ → ℤ → ℤ → Seg
+segAt x0 y0 x1 y1 = record { p0 = record { x = x0; y = y0 }; p1 = record { x = x1; y = y1 } }
+
+abbrev pub boxAt : ℤ → ℤ → ℤ → ℤ → BBox
+boxAt left right bottom top = record { «x_min» = left; «x_max» = right; «y_min» = bottom; «y_max» = top }
