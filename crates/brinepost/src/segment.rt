@@ -2,10 +2,7 @@
 ghost use mathlib.Core.Path.{_≡_};
 ghost use Rattle.clip.specs.Answer.{saidClipped, clipped};
 ghost use Rattle.brinepost.specs.Segments.{segAt, boxAt, flatClip};
-use clip::BBox;
 use clip::Clipped;
-use clip::Pt;
-use clip::Seg;
 
 #[repr(C)]
 pub struct BpClipped {
@@ -60,13 +57,5 @@ pub extern "C" fn bp_clip(
 ) -> BpClipped
     ensures { λ r. ⌜ r ≡ flatClip (clipped (segAt x0 y0 x1 y1) (boxAt left right bottom top)) ⌝ }
 {
-    let p0 = Pt { x: x0, y: y0 };
-    let p1 = Pt { x: x1, y: y1 };
-    let bbox = BBox {
-        x_min: left,
-        x_max: right,
-        y_min: bottom,
-        y_max: top,
-    };
-    answered(clip::clip(Seg { p0: p0, p1: p1 }, bbox))
+    answered(clip::clip_at(x0, y0, x1, y1, left, right, bottom, top))
 }

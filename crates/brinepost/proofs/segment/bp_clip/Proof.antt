@@ -5,8 +5,8 @@ use borrow.Author.Needs.{needs}
 use Rattle.brinepost.proofs.segment.bp_clip.Statement.{statement}
 use Rattle.brinepost.proofs.segment.bp_clip.Tie as tie
 
-clip-requires : tie.Need-clip-requires
-clip-requires c κs = search needs
+clip-at-requires : tie.Need-clip-at-requires
+clip-at-requires c κs = search needs
 
 answered-requires : tie.Need-answered-requires
 answered-requires c κs = search needs
@@ -14,7 +14,7 @@ answered-requires c κs = search needs
 returns : tie.Need-returns
 returns c =
     let s = c .before .before in
-    clip-told (c .before .clip .result) _ _ _ (rw (toZ-ofZ (s .fits .x0), toZ-ofZ (s .fits .y0), toZ-ofZ (s .fits .x1), toZ-ofZ (s .fits .y1), toZ-ofZ (s .fits .left), toZ-ofZ (s .fits .right), toZ-ofZ (s .fits .bottom), toZ-ofZ (s .fits .top)) at (c .before .clip .ensures .0)) (c .answered .ensures)
+    clip-told (c .before .clip-at .result) _ _ _ (rw (toZ-ofZ (s .fits .x0), toZ-ofZ (s .fits .y0), toZ-ofZ (s .fits .x1), toZ-ofZ (s .fits .y1), toZ-ofZ (s .fits .left), toZ-ofZ (s .fits .right), toZ-ofZ (s .fits .bottom), toZ-ofZ (s .fits .top)) at (c .before .clip-at .ensures)) (c .answered .ensures)
 
 pub bp-clip-spec : {M : Type 1} → statement M
-bp-clip-spec = tie.close (tie.spec clip-requires answered-requires returns)
+bp-clip-spec = tie.close (tie.spec clip-at-requires answered-requires returns)
