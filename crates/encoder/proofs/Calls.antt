@@ -9,6 +9,7 @@ use lib.Dec.{leb, ltb, eqb}
 use lib.ListN.{length}
 use Rattle.promise.specs.Answers.{Gives}
 use Rattle.promise.specs.Laid.{lay}
+use Rattle.promise.proofs.Laying.{lay-nothing}
 use Rattle.promise.proofs.Cases.{gives-kept}
 use Rattle.refusal.specs.declared.Refusal.the-variants.{State, Coord, Empty, Room}
 use Rattle.refusal.specs.Said.{Said}
@@ -20,13 +21,12 @@ use Rattle.points.specs.declared.MaybePt.{MaybePt}
 use Rattle.points.specs.declared.MaybePt.the-variants.{Nowhere, At}
 use Rattle.points.specs.declared.boundary.Ends.{Ends}
 use Rattle.points.specs.Boundary.{bounds, endsOf}
-use Rattle.strokes.specs.declared.Run.the-variants.{Nothing}
-use Rattle.strokes.specs.declared.Stroke.{Stroke}
-use Rattle.strokes.specs.Pushed.{moveTo, lineTo, closePath, countWord}
-use Rattle.strokes.specs.Strokes.{layIf, layStroke, layStrokes, layEnd}
-use Rattle.strokes.proofs.Commands.{count-is}
-use Rattle.strokes.proofs.Stores.{lay-if-none, strokes-laid, Fitting, fitting-laid, fitting-long}
+use Rattle.commands.specs.Pushed.{moveTo, lineTo, closePath, countWord}
+use Rattle.commands.specs.Ends.{layIf, layEnd}
+use Rattle.commands.proofs.Commands.{count-is}
+use Rattle.commands.proofs.Stores.{Fitting, fitting-laid, fitting-long}
 use Rattle.encoder.specs.declared.GeomEncoder.{GeomEncoder}
+use Rattle.encoder.specs.declared.Run.the-variants.{Nothing}
 use Rattle.encoder.specs.declared.Plan.{Plan}
 use Rattle.encoder.specs.declared.Plans.{Plans}
 use Rattle.encoder.specs.States.{valid}
@@ -70,6 +70,9 @@ module _ (s : GeomEncoder) (p : Pt) (R : Ready maxWords s) (ends : Ends) (first 
           last = omega (arith, step3 .ends);
         };
       }
+
+pub all-laid : (plans : Plans) (out a b c : List ℕ) → a ≡ layAt (plans .first) out → b ≡ layAt (plans .second) a → c ≡ layAt (plans .last) b → c ≡ laid plans out
+all-laid plans out a b c e f g = g ∙ ap (layAt (plans .last)) (f ∙ ap (layAt (plans .second)) e)
 
 -- ---- the raw end
 module _ (s : GeomEncoder) (p : Pt) where
@@ -161,11 +164,10 @@ module _ (s : GeomEncoder) (p : Pt) (out : List ℕ) (plans : Plans) (P : Planne
         let g = room-length (length out) in
         record { first = omega (arith, u .first); second = omega (arith, u .second); last = omega (arith, u .last) }
 
-    pub cut-done : (o : List ℕ) → o ≡ layStrokes (plans .first) (plans .second) (plans .last) out → (r : GeomEncoder) → r ≡ ended (plans .next) p → Gives (fitting s out (drawn s p out)) (done r) o
+    pub cut-done : (o : List ℕ) → o ≡ laid plans out → (r : GeomEncoder) → r ≡ ended (plans .next) p → Gives (fitting s out (drawn s p out)) (done r) o
     cut-done o g r d =
         let b : leb (plans .next .used) (room (length out)) ≡ true = le-leb (plans .next .used) (room (length out)) (omega arith) in
-        let m : layStrokes (plans .first) (plans .second) (plans .last) out ≡ laid plans out = strokes-laid (plans .first) (plans .second) (plans .last) out (cut-under .first) (cut-under .second) (cut-under .last) in
-        rw (P .emits out, b) (record { answer = ap done d; memory = g ∙ m })
+        rw (P .emits out, b) (record { answer = ap done d; memory = g })
 
 -- ---- a point by itself: as one with two plans before it that lay nothing
 nothing-first : GeomEncoder → Plan
@@ -179,9 +181,9 @@ module _ (s : GeomEncoder) (p : Pt) (R : Ready maxWords s) (b : [] ≡ boundary 
   unfolding only nothing-first
   only-planned = point-planned s p R (record { first = Nowhere; second = Nowhere }) (nothing-first s) refl (nothing-first s) refl b plan i
 
-  only-laid : (out : List ℕ) → layStrokes (only .first) (only .second) (only .last) out ≡ layStroke (plan .stroke) out
+  only-laid : (out : List ℕ) → laid only out ≡ layAt (plan .stroke) out
   unfolding only nothing-first
-  only-laid out = rw (lay-if-none (s .used) out, lay-if-none (s .used) out)
+  only-laid out = rw (lay-nothing (s .used) out, lay-nothing (s .used) out)
 
   module _ (out : List ℕ) (m : ℕ) (q : m ≡ room (length out)) where
     pub alone-room : m < plan .next .used → Gives (fitting s out (drawn s p out)) (turned Room s) out
@@ -189,7 +191,11 @@ module _ (s : GeomEncoder) (p : Pt) (R : Ready maxWords s) (b : [] ≡ boundary 
     alone-room l = cut-room s p out only only-planned m q l
 
     module _ (l : plan .next .used ≤ m) where
-      pub alone-done : (o : List ℕ) → o ≡ layStroke (plan .stroke) out → (r : GeomEncoder) → r ≡ ended (plan .next) p → Gives (fitting s out (drawn s p out)) (done r) o
+      pub alone-under : endOf (plan .stroke) ≤ length out
+      unfolding only
+      alone-under = cut-under s p out only only-planned m q l .last
+
+      pub alone-done : (o : List ℕ) → o ≡ layAt (plan .stroke) out → (r : GeomEncoder) → r ≡ ended (plan .next) p → Gives (fitting s out (drawn s p out)) (done r) o
       unfolding only
       alone-done o g r d = cut-done s p out only only-planned m q l o (g ∙ sym (only-laid out)) r d
 

@@ -24,7 +24,7 @@ use Rattle.encoder.specs.States.{fresh, valid}
 use Rattle.encoder.specs.Answers.{done}
 use Rattle.points.specs.Points.{clamped, samePt, lastOf}
 use Rattle.points.specs.Boundary.{moved, movedEnds}
-use Rattle.strokes.specs.Pushed.{closePath}
+use Rattle.commands.specs.Pushed.{closePath}
 use Rattle.encoder.specs.Emitting.{Emission, emission, steps, placeOf, begun}
 use Rattle.encoder.specs.Adding.{cutFrom, boundary, emissions, emitted, added}
 use Rattle.encoder.specs.Completing.{closing, cleared, finished, completed}

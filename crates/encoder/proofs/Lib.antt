@@ -1,5 +1,6 @@
 pub mod States
 pub mod Differences
+pub mod Stores
 pub mod Pushing
 pub mod Boundaries
 pub mod Steps

@@ -11,12 +11,12 @@ use Rattle.words.specs.Params.{param}
 use Rattle.points.specs.declared.MaybePt.{MaybePt}
 use Rattle.points.specs.declared.MaybePt.the-variants.{Nowhere, At}
 use Rattle.encoder.specs.declared.GeomEncoder.{GeomEncoder}
-use Rattle.strokes.specs.declared.MaybeWord.{MaybeWord}
-use Rattle.strokes.specs.declared.MaybeWord.the-variants.{NoWord, Word}
-use Rattle.strokes.specs.declared.Run.the-variants.{Nothing, Two, Three}
+use Rattle.commands.specs.declared.MaybeWord.{MaybeWord}
+use Rattle.commands.specs.declared.MaybeWord.the-variants.{NoWord, Word}
+use Rattle.encoder.specs.declared.Run.the-variants.{Nothing, Two, Three}
 use Rattle.encoder.specs.declared.Plan.{Plan}
 use Rattle.points.specs.Points.{clamped, isLast, lastBetween, lastOf}
-use Rattle.strokes.specs.Pushed.{wordOf, command}
+use Rattle.commands.specs.Pushed.{wordOf, command}
 use Rattle.encoder.specs.Emitting.{takenOut, popped, advanced, pushed, skipped, emission}
 use Rattle.encoder.specs.Planning.{planned, emissionIf, Ready}
 use Rattle.encoder.proofs.States.{both}

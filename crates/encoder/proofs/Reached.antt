@@ -31,7 +31,7 @@ use Rattle.encoder.specs.declared.GeomEncoder.{GeomEncoder}
 use Rattle.encoder.specs.States.{fresh, valid}
 use Rattle.encoder.specs.Answers.{done, started}
 use Rattle.points.specs.Points.{inLimit, clamped, isLast, lastOf}
-use Rattle.strokes.specs.Pushed.{closePath}
+use Rattle.commands.specs.Pushed.{closePath}
 use Rattle.encoder.specs.Emitting.{Emission, emission, steps, placeOf}
 use Rattle.encoder.specs.Adding.{pointAt, boundary, emissions, emitted, ended, added}
 use Rattle.encoder.specs.Completing.{counting, closing, cleared, finished, completed}

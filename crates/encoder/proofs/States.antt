@@ -10,7 +10,7 @@ use Rattle.clip.specs.Domain.{isGood}
 use Rattle.words.specs.Geometries.{isKind, maxWords, room}
 use Rattle.encoder.specs.declared.GeomEncoder.{GeomEncoder}
 use Rattle.points.specs.Points.{inLimit, inLimits}
-use Rattle.strokes.specs.Figures.{figuresFit}
+use Rattle.commands.specs.Figures.{figuresFit}
 use Rattle.encoder.specs.States.{valid}
 use Rattle.encoder.specs.Planning.{Ready}
 

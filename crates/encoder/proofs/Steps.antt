@@ -23,7 +23,7 @@ use Rattle.encoder.specs.declared.GeomEncoder.{GeomEncoder}
 use Rattle.points.specs.Points.{clamped, isLast, lastOf}
 use Rattle.points.specs.Boundary.{listOf}
 use Rattle.points.proofs.Coords.{clamped-coord}
-use Rattle.strokes.specs.Pushed.{command, moveTo, lineTo}
+use Rattle.commands.specs.Pushed.{command, moveTo, lineTo}
 use Rattle.encoder.specs.Emitting.{takenOut, popped, steps, pushed, begun, skipped, emission, Emission}
 use Rattle.encoder.specs.Adding.{emitted}
 use Rattle.encoder.specs.Planning.{emissionIf, Ready}

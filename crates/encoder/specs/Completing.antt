@@ -10,7 +10,7 @@ use Rattle.refusal.specs.declared.Refusal.the-variants.{State, Empty}
 use Rattle.refusal.specs.Said.{Said}
 use Rattle.words.specs.Commands.{commandWord}
 use Rattle.points.specs.declared.MaybePt.the-variants.{Nowhere}
-use Rattle.strokes.specs.Pushed.{moveTo, lineTo, closeWord}
+use Rattle.commands.specs.Pushed.{moveTo, lineTo, closeWord}
 use Rattle.encoder.specs.declared.GeomEncoder.{GeomEncoder}
 use Rattle.encoder.specs.States.{valid}
 use Rattle.encoder.specs.Answers.{Counted, turned, fitting}

@@ -1,8 +1,8 @@
--- What the code's own values stand for: a plan is an emission; and what planning asks of a state.
+-- What the code's own values stand for: a run of at most three words is a list, a plan an emission; and what planning asks of a state.
 use Prim.Native.Nat.{ℕ, _+_, _/_, _≤_}
 use mathlib.Core.Path.{_≡_}
 use mathlib.Core.Bool.{true}
-use mathlib.Core.List.{List, []}
+use mathlib.Core.List.{List, [], _∷_}
 use lib.ListN.{length}
 use Rattle.promise.specs.Answers.{kept}
 use Rattle.promise.specs.Laid.{lay}
@@ -12,19 +12,22 @@ use Rattle.words.specs.Geometries.{maxWords}
 use Rattle.points.specs.declared.MaybePt.{MaybePt}
 use Rattle.points.specs.declared.MaybePt.the-variants.{Nowhere, At}
 use Rattle.points.specs.Points.{inLimit}
-use Rattle.strokes.specs.declared.Stroke.{Stroke}
-use Rattle.strokes.specs.Strokes.{wordsOf}
 use Rattle.encoder.specs.declared.GeomEncoder.{GeomEncoder}
+use Rattle.encoder.specs.declared.Run.{Run}
+use Rattle.encoder.specs.declared.Run.the-variants.{Nothing, Two, Three}
+use Rattle.encoder.specs.declared.Stroke.{Stroke}
 use Rattle.encoder.specs.declared.Plan.{Plan}
 use Rattle.encoder.specs.declared.Plans.{Plans}
 use Rattle.encoder.specs.Emitting.{Emission, emission}
 use Rattle.encoder.specs.Adding.{emitted, emissions}
 
-abbrev pub wordsAt : Stroke → GeomEncoder → Emission
-wordsAt r s = record { next = s; at = r .at; run = wordsOf (r .run) }
+abbrev pub wordsOf : Run → List ℕ
+wordsOf Nothing = []
+wordsOf (Two a b) = a ∷ b ∷ []
+wordsOf (Three a b c) = a ∷ b ∷ c ∷ []
 
 abbrev pub planned : Plan → Emission
-planned r = wordsAt (r .stroke) (r .next)
+planned r = record { next = r .next; at = r .stroke .at; run = wordsOf (r .stroke .run) }
 
 -- a point that may be there, emitted
 abbrev pub emissionIf : GeomEncoder → MaybePt → Emission

@@ -6,7 +6,7 @@ use Rattle.clip.specs.Domain.{isGood}
 use Rattle.words.specs.Geometries.{isKind}
 use Rattle.points.specs.declared.MaybePt.the-variants.{Nowhere}
 use Rattle.points.specs.Points.{inLimits}
-use Rattle.strokes.specs.Figures.{figuresFit}
+use Rattle.commands.specs.Figures.{figuresFit}
 use Rattle.encoder.specs.declared.GeomEncoder.{GeomEncoder}
 
 abbrev pub fresh : ℕ → BBox → GeomEncoder

@@ -2,29 +2,29 @@
 // What a point gives is planned first, as a pure function of the state: the next state, and a run of at most three words with its place. The (at most three) plans of a call are
 // made before the room is asked for, and only then is anything written; so a refused call has not written.
 ghost use mathlib.Core.Path.{_≡_};
-ghost use mathlib.Core.List.{[]};
-ghost use Prim.Native.Nat.{_≤_};
+ghost use mathlib.Core.List.{[], _∷_};
+ghost use Prim.Native.Nat.{_+_, _≤_};
+ghost use lib.ListN.{length};
 ghost use lib.IntN.{_-ℤ_};
 ghost use Rattle.promise.specs.Answers.{Gives};
+ghost use Rattle.promise.specs.Laid.{lay};
 ghost use Rattle.clip.specs.Facts.{Coord};
 ghost use Rattle.words.specs.Geometries.{maxWords};
 ghost use Rattle.words.specs.Params.{param};
 ghost use Rattle.points.specs.Boundary.{endsOf};
-ghost use Rattle.strokes.specs.Pushed.{wordOf};
+ghost use Rattle.commands.specs.Pushed.{wordOf};
 ghost use Rattle.encoder.specs.States.{valid};
 ghost use Rattle.encoder.specs.Answers.{saidStarted, started, saidDrawn, fitting};
 ghost use Rattle.encoder.specs.Emitting.{popped, advanced, pushed, skipped, emission};
 ghost use Rattle.encoder.specs.Adding.{boundary, drawn, ended, pointAt, added};
 ghost use Rattle.encoder.specs.Completing.{cleared, finished, completed};
-ghost use Rattle.encoder.specs.Planning.{planLimit, planned, Planned, emissionIf, Ready};
+ghost use Rattle.encoder.specs.Planning.{planLimit, planned, endOf, layAt, laid, Under, Planned, emissionIf, Ready};
 use clip::BBox;
 use clip::Pt;
+use commands::MaybeWord;
 use points::MaybePt;
 use points::boundary::Ends;
 use refusal::Refusal;
-use strokes::MaybeWord;
-use strokes::Run;
-use strokes::Stroke;
 use words::geometry::Geometry;
 use words::param::ParamInt;
 
@@ -48,6 +48,19 @@ pub enum Started {
 pub enum Drawn {
     Done(GeomEncoder),
     Refused(Refusal, GeomEncoder),
+}
+
+// The words of one emission: none, the two steps, or a command before them.
+enum Run {
+    Nothing,
+    Two(u32, u32),
+    Three(u32, u32, u32),
+}
+
+// A run that is laid at a place.
+struct Stroke {
+    at: usize,
+    run: Run,
 }
 
 // One emission: the state after it, and the run that is laid.
@@ -74,7 +87,7 @@ pub fn is_valid(s: GeomEncoder, length: usize) -> bool
     let xy_end = s.xy_end;
     let pt0 = s.pt0;
     let pt1 = s.pt1;
-    let fits = strokes::figures_fit(s.used, s.count, s.cmd_offset, length);
+    let fits = commands::figures_fit(s.used, s.count, s.cmd_offset, length);
     let kinds = kind.is_good();
     let boxes = BBox::is_good(bbox);
     let limits = points::are_in_limit(xy_end, pt0, pt1);
@@ -212,7 +225,7 @@ fn add_tile_point(s: GeomEncoder, p: Pt) -> Plan
     if points::is_last(pt1, q) {
         return skip_point(s);
     }
-    let command = strokes::push_command(s.kind, s.count);
+    let command = commands::push_command(s.kind, s.count);
     if points::should_simplify_point(s.kind, s.count, pt0, pt1, q) {
         return push_point(command, pop_point(s), q);
     }
@@ -284,6 +297,49 @@ fn set_end(s: GeomEncoder, p: Pt) -> GeomEncoder
     }
 }
 
+// ---- writing
+fn write_two(at: usize, a: u32, b: u32, words: &mut [u32])
+    requires { ⌜ at + 2 ≤ length (now words) ⌝ }
+    ensures { λ r. ⌜ now (words .exit) ≡ lay at (a ∷ b ∷ []) (now (words .entry)) ⌝ }
+{
+    words[at] = a;
+    words[at + 1] = b;
+}
+
+fn write_three(at: usize, a: u32, b: u32, c: u32, words: &mut [u32])
+    requires { ⌜ at + 3 ≤ length (now words) ⌝ }
+    ensures { λ r. ⌜ now (words .exit) ≡ lay at (a ∷ b ∷ c ∷ []) (now (words .entry)) ⌝ }
+{
+    words[at] = a;
+    words[at + 1] = b;
+    words[at + 2] = c;
+}
+
+fn write_stroke(stroke: Stroke, words: &mut [u32])
+    requires { ⌜ endOf stroke ≤ length (now words) ⌝ }
+    ensures { λ r. ⌜ now (words .exit) ≡ layAt stroke (now (words .entry)) ⌝ }
+{
+    let at = stroke.at;
+    let run = stroke.run;
+    match run {
+        Run::Nothing => {}
+        Run::Two(a, b) => write_two(at, a, b, words),
+        Run::Three(a, b, c) => write_three(at, a, b, c, words),
+    }
+}
+
+fn write_strokes(plans: Plans, words: &mut [u32])
+    requires { ⌜ Under plans (length (now words)) ⌝ }
+    ensures { λ r. ⌜ now (words .exit) ≡ laid plans (now (words .entry)) ⌝ }
+{
+    let first = plans.first;
+    let second = plans.second;
+    let last = plans.last;
+    write_stroke(first, words);
+    write_stroke(second, words);
+    write_stroke(last, words)
+}
+
 // ---- completing
 // The state after a part of a line or a polygon is completed, with the last command at that place and so many words used.
 fn clear(s: GeomEncoder, place: usize, used: usize) -> GeomEncoder
@@ -333,7 +389,7 @@ fn add_alone(s: GeomEncoder, p: Pt, words: &mut [u32]) -> Drawn
     if room < next.used {
         return Drawn::Refused(Refusal::Room, s);
     }
-    strokes::write_stroke(stroke, words);
+    write_stroke(stroke, words);
     Drawn::Done(set_end(next, p))
 }
 
@@ -345,14 +401,11 @@ fn add_cut(s: GeomEncoder, p: Pt, ends: Ends, words: &mut [u32]) -> Drawn
 {
     let plans = plan_point(s, p, ends);
     let next = plans.next;
-    let first = plans.first;
-    let second = plans.second;
-    let last = plans.last;
     let room = Geometry::room(words.len());
     if room < next.used {
         return Drawn::Refused(Refusal::Room, s);
     }
-    strokes::write_strokes(first, second, last, words);
+    write_strokes(plans, words);
     Drawn::Done(set_end(next, p))
 }
 
@@ -435,7 +488,7 @@ impl GeomEncoder {
         if room < next.used {
             return Drawn::Refused(Refusal::Room, self);
         }
-        strokes::write_end(self.kind, self.count, self.cmd_offset, self.used, words);
+        commands::write_end(self.kind, self.count, self.cmd_offset, self.used, words);
         Drawn::Done(next)
     }
 }

@@ -1,5 +1,5 @@
--- One plan gives the state and the list after the emission, and its run, which ends within the room, is laid.
-use Rattle.encoder.proofs.Calls.{alone-room, alone-done}
+-- One plan gives the state and the list after the emission, and its run ends within the room.
+use Rattle.encoder.proofs.Calls.{alone-room, alone-under, alone-done}
 use borrow.Author.Needs.{needs}
 use Rattle.encoder.proofs.add_alone.Statement.{statement}
 use Rattle.encoder.proofs.add_alone.Tie as tie
@@ -14,7 +14,7 @@ returns : tie.Need-returns
 returns c = search (needs, alone-room)
 
 write-stroke-requires : tie.Need-write-stroke-requires
-write-stroke-requires c κs = search needs
+write-stroke-requires c κs = search (needs, alone-under)
 
 set-end-requires : tie.Need-set-end-requires
 set-end-requires c κs = search needs

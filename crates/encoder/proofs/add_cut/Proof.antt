@@ -1,5 +1,5 @@
--- The plans give the state and the list after the emissions, and their runs, which end within the room, are laid.
-use Rattle.encoder.proofs.Calls.{cut-room, cut-done}
+-- The plans give the state and the list after the emissions, and their runs end within the room.
+use Rattle.encoder.proofs.Calls.{cut-room, cut-under, cut-done}
 use borrow.Author.Needs.{needs}
 use Rattle.encoder.proofs.add_cut.Statement.{statement}
 use Rattle.encoder.proofs.add_cut.Tie as tie
@@ -14,7 +14,7 @@ returns : tie.Need-returns
 returns c = search (needs, cut-room)
 
 write-strokes-requires : tie.Need-write-strokes-requires
-write-strokes-requires c κs = search needs
+write-strokes-requires c κs = search (needs, cut-under)
 
 set-end-requires : tie.Need-set-end-requires
 set-end-requires c κs = search needs

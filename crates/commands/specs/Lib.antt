@@ -1,0 +1,3 @@
+pub mod Figures
+pub mod Pushed
+pub mod Ends
