@@ -6,6 +6,7 @@
 --     answered was-good were-coords demand-clip     where r is `Done c`: c is the clip's, box and ends were good, and demand 3 holds of c
 --     clip-coord0 clip-coord1 clip-within           the clipped segment's ends lie within the limit
 --     clip-inside                                   a segment with no end outside an edge stays as it is
+--     kept-inside                                   what a call says of a segment with both ends in a good box
 use mathlib.Core.Path.{_≡_, refl, sym, _∙_, ap, subst}
 use mathlib.Core.Bool.{Bool, true, false, cond, _&&_}
 use mathlib.Core.List.{List, [], _∷_}
@@ -28,12 +29,12 @@ use Rattle.clip.specs.declared.Crossing.the-variants.{Missing, At}
 use Rattle.clip.specs.declared.ClippedSeg.{ClippedSeg}
 use Rattle.clip.specs.declared.Clipped.{Clipped}
 use Rattle.clip.specs.declared.Clipped.the-variants.{Done, Refused}
-use Rattle.clip.specs.Domain.{limit, within, isCoord, isGood}
+use Rattle.clip.specs.Domain.{limit, within, isCoord, isGood, isInside}
 use Rattle.clip.specs.Facts.{Within, Coord, Good}
 use Rattle.clip.specs.Cutting.{crossAtX, crossAtY, replace, cutXMin, cutXMax, cutYMin, cutYMax, cuts, overlap, clip}
 use Rattle.clip.specs.Answer.{saidClipped, areCoords, clipped}
 use Rattle.clip.specs.Demand3.{Demand3, Inside, Placed, Moved}
-use Rattle.clip.proofs.Tests.{le-is, lt-is, both, both-is}
+use Rattle.clip.proofs.Tests.{le-is, lt-is, lt-not, both, both-is}
 use Rattle.clip.proofs.Ends.{Proper}
 use Rattle.clip.proofs.Demands.{demand-3}
 
@@ -172,3 +173,22 @@ module _ (b : BBox) (s : Seg) (h : Kept b (s .p0)) (k : Kept b (s .p1)) where
   pub clip-inside : clip b s .seg ≡ s
   unfolding clip
   clip-inside = rw cuts-inside (either (overlap b s) s)
+
+-- ---- both ends in a good box: the call accepts the segment as given
+inside-facts : (b : BBox) (p : Pt) → isInside b p ≡ true → Inside b p
+unfolding isInside
+inside-facts b p e =
+    let k = both (leZ (b .«x_min») (p .x) && leZ (p .x) (b .«x_max»)) (leZ (b .«y_min») (p .y) && leZ (p .y) (b .«y_max»)) e in
+    let h = both (leZ (b .«x_min») (p .x)) (leZ (p .x) (b .«x_max»)) (k .0) in
+    let v = both (leZ (b .«y_min») (p .y)) (leZ (p .y) (b .«y_max»)) (k .1) in
+    record { left = le-yes (h .0); right = le-yes (h .1); bottom = le-yes (v .0); top = le-yes (v .1) }
+
+kept : {b : BBox} {p : Pt} → Inside b p → Kept b p
+kept i = record { left = lt-not (i .left); right = lt-not (i .right); down = lt-not (i .bottom); up = lt-not (i .top) }
+
+pub kept-inside : (s : Seg) (b : BBox) → isGood b ≡ true → isInside b (s .p0) ≡ true → isInside b (s .p1) ≡ true → clipped s b ≡ accepted (record { seg = s } ∷ [])
+kept-inside s b g e f =
+    let i = inside-facts b (s .p0) e in
+    let j = inside-facts b (s .p1) f in
+    let c = both-is (coord-is (inside-coord (good-facts g) i)) (coord-is (inside-coord (good-facts g) j)) in
+    not-refused s b g c ∙ ap (λ (t : Seg). accepted (record { seg = t } ∷ [])) (clip-inside b s (kept i) (kept j))

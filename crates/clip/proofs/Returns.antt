@@ -22,7 +22,7 @@ use Rattle.refusal.specs.declared.Refusal.the-variants.{Box, Coord as CoordRefu
 use Rattle.clip.specs.Domain.{limit, isCoord, isGood}
 use Rattle.clip.specs.Answer.{saidClipped, areCoords, clipped}
 use Rattle.clip.specs.Numbers.{segAt, boxAt}
-use Rattle.clip.specs.Demand3.{Demand3, Inside}
+use Rattle.clip.specs.Demand3.{Demand3}
 use Rattle.clip.specs.Facts.{Coord, Good, Asked}
 use Rattle.clip.specs.Cutting.{least, most, height, inRange, reaches, crossInOrder, crossAtX, swap, replace, cutXMin, cutXMax, cutYMin, cutYMax, cuts, clip}
 use Rattle.clip.proofs.Tests.{most-lt, lt-least, le-is, lt-is, both, both-is}
@@ -32,7 +32,7 @@ use Rattle.clip.proofs.Verdicts.{verdict}
 use Rattle.clip.proofs.Readings.{crossing-sym, out, at-x-min, at-x-max, at-y-min}
 use Rattle.clip.proofs.Fates.{Fate, clear, moved, stuck, fate, none-beyond}
 use Rattle.clip.proofs.Overlaps.{Apart, left, right, under, over, cuts-apart, clip-cuts}
-use Rattle.clip.proofs.Callers.{Kept, coord-facts, coord-is, good-facts, good-is, good-proper, inside-coord, box-refused, coord-refused, not-refused, demand-clip, clip-inside}
+use Rattle.clip.proofs.Callers.{coord-facts, good-facts, good-is, good-proper, inside-coord, box-refused, coord-refused, not-refused, demand-clip}
 
 -- ---- the crossing, with p left of q and the line between them
 module _ (p q : Pt) (c : ℤ) (cp : Coord p) (cq : Coord q) where
@@ -226,27 +226,6 @@ module _ (b : BBox) (s : Seg) (g : Good b) where
       let k : s4 ≡ cuts b s = e4 ∙ ap (cutYMax b) (e3 ∙ ap (cutYMin b) (e2 ∙ ap (cutXMax b) e1)) in
       ap (λ (t : Seg). record { seg = t }) (k ∙ sym (clip-cuts b (good-proper g) s))
 
--- what `is_inside` tests
-abbrev pub insideTest : BBox → Pt → Bool
-insideTest b p = leZ (b .«x_min») (p .x) && leZ (p .x) (b .«x_max») && (leZ (b .«y_min») (p .y) && leZ (p .y) (b .«y_max»))
-
-inside-facts : (b : BBox) (p : Pt) → insideTest b p ≡ true → Inside b p
-inside-facts b p e =
-    let k = both (leZ (b .«x_min») (p .x) && leZ (p .x) (b .«x_max»)) (leZ (b .«y_min») (p .y) && leZ (p .y) (b .«y_max»)) e in
-    let h = both (leZ (b .«x_min») (p .x)) (leZ (p .x) (b .«x_max»)) (k .0) in
-    let v = both (leZ (b .«y_min») (p .y)) (leZ (p .y) (b .«y_max»)) (k .1) in
-    record { left = le-yes (h .0); right = le-yes (h .1); bottom = le-yes (v .0); top = le-yes (v .1) }
-
-lt-not : {x y : ℤ} → y ≤ℤ x → ltZ x y ≡ false
-lt-not {x} {y} h = go (ltZ x y) refl
-  where
-    go : (t : Bool) → ltZ x y ≡ t → ltZ x y ≡ false
-    go true e = absurd (let k : x <ℤ y = lt-yes e in omega zarith)
-    go false e = e
-
-kept : {b : BBox} {p : Pt} → Inside b p → Kept b p
-kept i = record { left = lt-not (i .left); right = lt-not (i .right); down = lt-not (i .bottom); up = lt-not (i .top) }
-
 -- ---- clip
 either-no : (t u : Bool) → (t ≡ false) ⊎ (u ≡ false) → (t && u) ≡ false
 either-no true u (inl e) = absurd (let z : _≡_ {A = Prim.Native.Nat.ℕ} 0 1 = cc in omega arith)
@@ -296,14 +275,6 @@ module _ (s : Seg) (b : BBox) (g : Bool) (eg : g ≡ isGood b) where
 
     said-done : areCoords s ≡ true → (c : ClippedSeg) → c ≡ clip b s → saidClipped (Done c) ≡ clipped s b
     said-done t c e = ap (λ (z : ClippedSeg). saidClipped (Done z)) e ∙ sym (not-refused s b (good-box s b g eg ng) t)
-
-    -- a segment inside a good box is within the limit
-    pub said-inside : (u v : Bool) → u ≡ insideTest b (s .p0) → v ≡ insideTest b (s .p1) → (u && v) ≡ true → saidClipped (Done (record { seg = s })) ≡ clipped s b
-    said-inside u v eu ev t =
-        let k = both u v t in
-        let i = inside-facts b (s .p0) (sym eu ∙ k .0) in
-        let j = inside-facts b (s .p1) (sym ev ∙ k .1) in
-        said-done (both-is (coord-is (inside-coord good-edges i)) (coord-is (inside-coord good-edges j))) (record { seg = s }) (sym (ap (λ (t : Seg). record { seg = t }) (clip-inside b s (kept i) (kept j))))
 
     module _ (t : Bool) (et : t ≡ areCoords s) where
       pub said-coord : not t ≡ true → saidClipped (Refused CoordRefusal) ≡ clipped s b

@@ -2,6 +2,7 @@
 --     by-lt by-le           what holds in both cases holds of the whole
 --     most-lt lt-least      a bound on the larger and on the smaller of two numbers
 --     le-is lt-is           a fact makes its test true
+--     lt-not                and the opposite one makes it false
 --     both both-is          two tests joined
 --     by-both by-four       a definition that goes by two or by four joined tests
 use mathlib.Core.Path.{_≡_, refl}
@@ -46,6 +47,13 @@ lt-is {x} {y} h = go (ltZ x y) refl
     go : (t : Bool) → ltZ x y ≡ t → ltZ x y ≡ true
     go true e = e
     go false e = absurd (let k : y ≤ℤ x = lt-no e in omega zarith)
+
+pub lt-not : {x y : ℤ} → y ≤ℤ x → ltZ x y ≡ false
+lt-not {x} {y} h = go (ltZ x y) refl
+  where
+    go : (t : Bool) → ltZ x y ≡ t → ltZ x y ≡ false
+    go true e = absurd (let k : x <ℤ y = lt-yes e in omega zarith)
+    go false e = e
 
 pub both : (s t : Bool) → (s && t) ≡ true → (s ≡ true) × (t ≡ true)
 both true t e = (refl, e)

@@ -17,6 +17,10 @@ within z = leZ (negℤ limit) z && leZ z limit
 unfoldable pub isCoord : Pt → Bool
 isCoord p = within (p .x) && within (p .y)
 
+-- p lies in the closed box
+unfoldable pub isInside : BBox → Pt → Bool
+isInside b p = leZ (b .«x_min») (p .x) && leZ (p .x) (b .«x_max») && (leZ (b .«y_min») (p .y) && leZ (p .y) (b .«y_max»))
+
 -- BOX is refused exactly where this is false: x_min ≥ x_max, y_min ≥ y_max, or an edge beyond the limit
 unfoldable pub isGood : BBox → Bool
 isGood b =

@@ -2,10 +2,10 @@
 // No loop; a division only for a cut whose line the segment reaches with one end strictly outside; for a segment inside the box nothing but comparisons.
 ghost use mathlib.Core.Path.{_≡_};
 ghost use lib.IntN.{pos};
-ghost use mathlib.Core.Bool.{_&&_, _||_};
-ghost use lib.Signed.{_<ℤ_, ltZ, leZ};
+ghost use mathlib.Core.Bool.{_||_};
+ghost use lib.Signed.{_<ℤ_, ltZ};
 ghost use Rattle.whole.specs.Floor.{floor};
-ghost use Rattle.clip.specs.Domain.{limit, within, isCoord, isGood};
+ghost use Rattle.clip.specs.Domain.{limit, within, isCoord, isGood, isInside};
 ghost use Rattle.clip.specs.Facts.{Coord, Good, Asked};
 ghost use Rattle.clip.specs.Cutting.{least, most, height, cutXMin, cutXMax, cutYMin, cutYMax, clip};
 ghost use Rattle.clip.specs.Answer.{saidClipped, areCoords, clipped};
@@ -86,7 +86,7 @@ impl BBox {
 }
 
 // Whether four numbers are the edges of a good box. The lower edge lies below the upper one, so each is asked for one end of the limit.
-fn are_edges(left: i32, right: i32, bottom: i32, top: i32) -> bool
+pub fn are_edges(left: i32, right: i32, bottom: i32, top: i32) -> bool
     ensures { λ r. ⌜ r ≡ isGood (boxAt left right bottom top) ⌝ }
 {
     let limit = BBox::LIMIT;
@@ -113,9 +113,9 @@ fn are_coords(x0: i32, y0: i32, x1: i32, y1: i32) -> bool
         & (y1 <= limit)
 }
 
-// Whether a point lies in the closed box.
-fn is_inside(x: i32, y: i32, left: i32, right: i32, bottom: i32, top: i32) -> bool
-    ensures { λ r. ⌜ r ≡ (leZ left x && leZ x right && (leZ bottom y && leZ y top)) ⌝ }
+// Whether a point lies in the closed box. A segment with both ends in a good box is accepted and stays as given, and need not be clipped to see it.
+pub fn is_inside(x: i32, y: i32, left: i32, right: i32, bottom: i32, top: i32) -> bool
+    ensures { λ r. ⌜ r ≡ isInside (boxAt left right bottom top) (record { x = x; y = y }) ⌝ }
 {
     (left <= x) & (x <= right) & ((bottom <= y) & (y <= top))
 }
@@ -399,7 +399,7 @@ pub fn clip(seg: Seg, bbox: BBox) -> Clipped
     Clipped::Done(clip_good(bbox, seg))
 }
 
-// The same of plain numbers, for callers that have the segment and the box so. What is cheapest to see comes first: a segment inside a good box is within the limit, and stays.
+// The same of plain numbers, for callers that have the segment and the box so.
 pub fn clip_at(
     x0: i32,
     y0: i32,
@@ -415,17 +415,12 @@ pub fn clip_at(
     if !are_edges(left, right, bottom, top) {
         return Clipped::Refused(Refusal::Box);
     }
-    let p0 = Pt { x: x0, y: y0 };
-    let p1 = Pt { x: x1, y: y1 };
-    let seg = Seg { p0: p0, p1: p1 };
-    let in0 = is_inside(x0, y0, left, right, bottom, top);
-    let in1 = is_inside(x1, y1, left, right, bottom, top);
-    if in0 & in1 {
-        return Clipped::Done(ClippedSeg { seg: seg });
-    }
     if !are_coords(x0, y0, x1, y1) {
         return Clipped::Refused(Refusal::Coord);
     }
+    let p0 = Pt { x: x0, y: y0 };
+    let p1 = Pt { x: x1, y: y1 };
+    let seg = Seg { p0: p0, p1: p1 };
     if are_beside(x0, x1, left, right) {
         return Clipped::Done(ClippedSeg { seg: seg });
     }

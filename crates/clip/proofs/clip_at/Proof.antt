@@ -1,4 +1,4 @@
--- `clip::clip_at` meets its contract: BOX, then COORD, which no segment inside a good box is refused for, then the clip; a segment inside the box or beside it stays.
+-- `clip::clip_at` meets its contract: BOX, then COORD, then the clip; a segment beside the box stays.
 use borrow.Author.Needs.{needs}
 use mathlib.Core.Path.{_≡_}
 use mathlib.Core.Bool.{false, not}
@@ -10,7 +10,7 @@ use Rattle.clip.specs.Domain.{isGood}
 use Rattle.clip.specs.Answer.{areCoords}
 use Rattle.clip.specs.Numbers.{segAt, boxAt}
 use Rattle.clip.specs.Facts.{Good}
-use Rattle.clip.proofs.Returns.{beside-x, beside-y, said-box, good-edges, said-inside, said-coord, coords, said-clip}
+use Rattle.clip.proofs.Returns.{beside-x, beside-y, said-box, good-edges, said-coord, coords, said-clip}
 use Rattle.clip.proofs.clip_at.Statement.{statement}
 use Rattle.clip.proofs.clip_at.Tie as tie
 
@@ -56,7 +56,7 @@ abbrev start : tie.Else1 → tie.Start
 start c = c .before .before
 
 abbrev past : tie.After-are-coords → tie.Else1
-past c = c .before .before .before .before
+past c = c .before
 
 told : (c : tie.After-are-coords) → c .are-coords .result ≡ areCoords (seg (start (past c)))
 told c = simp read at (c .are-coords .ensures)
@@ -70,63 +70,50 @@ are-edges-requires c κs = search needs
 returns : tie.Need-returns
 returns c = let s = c .before .before in said-box (seg s) (box s) _ (boxed (c .before)) (c .if1 .taken)
 
-is-inside-requires : tie.Need-is-inside-requires
-is-inside-requires c κs = search needs
-
-is-inside-requires-2 : tie.Need-is-inside-requires-2
-is-inside-requires-2 c κs = search needs
-
-returns-2 : tie.Need-returns-2
-returns-2 c =
-    let k = c .before in
-    let e = k .before .before in
-    let s = start e in
-    simp read (said-inside (seg s) (box s) _ (boxed (e .before)) (e .if1 .left) _ _ (simp read at (k .before .is-inside .ensures)) (simp read at (k .is-inside2 .ensures)) (c .if2 .taken))
-
 are-coords-requires : tie.Need-are-coords-requires
 are-coords-requires c κs = search needs
 
-returns-3 : tie.Need-returns-3
-returns-3 c =
+returns-2 : tie.Need-returns-2
+returns-2 c =
     let e = past (c .before) in
     let s = start e in
-    said-coord (seg s) (box s) _ (boxed (e .before)) (e .if1 .left) _ (told (c .before)) (c .if3 .taken)
+    said-coord (seg s) (box s) _ (boxed (e .before)) (e .if1 .left) _ (told (c .before)) (c .if2 .taken)
 
 are-beside-requires : tie.Need-are-beside-requires
 are-beside-requires c κs = search needs
 
-returns-4 : tie.Need-returns-4
-returns-4 c =
+returns-3 : tie.Need-returns-3
+returns-3 c =
     let k = c .before in
     let f = k .before in
     let e = past (f .before) in
     let s = start e in
-    simp read (said-clip (seg s) (box s) _ (boxed (e .before)) (e .if1 .left) _ (told (f .before)) (f .if3 .left) _ (beside-x (box s) (seg s) (good e) _ (simp read at (k .are-beside .ensures)) (c .if4 .taken)))
+    simp read (said-clip (seg s) (box s) _ (boxed (e .before)) (e .if1 .left) _ (told (f .before)) (f .if2 .left) _ (beside-x (box s) (seg s) (good e) _ (simp read at (k .are-beside .ensures)) (c .if3 .taken)))
 
 are-beside-requires-2 : tie.Need-are-beside-requires-2
 are-beside-requires-2 c κs = search needs
 
-returns-5 : tie.Need-returns-5
-returns-5 c =
+returns-4 : tie.Need-returns-4
+returns-4 c =
     let k = c .before in
     let f = k .before .before .before in
     let e = past (f .before) in
     let s = start e in
-    simp read (said-clip (seg s) (box s) _ (boxed (e .before)) (e .if1 .left) _ (told (f .before)) (f .if3 .left) _ (beside-y (box s) (seg s) (good e) _ (simp read at (k .are-beside2 .ensures)) (c .if5 .taken)))
+    simp read (said-clip (seg s) (box s) _ (boxed (e .before)) (e .if1 .left) _ (told (f .before)) (f .if2 .left) _ (beside-y (box s) (seg s) (good e) _ (simp read at (k .are-beside2 .ensures)) (c .if4 .taken)))
 
 cut-all-requires : tie.Need-cut-all-requires
 cut-all-requires c κs =
     let f = c .before .before .before .before in
     let e = past (f .before) in
     let s = start e in
-    simp read (good e, coords (seg s) (box s) _ (boxed (e .before)) (e .if1 .left) _ (told (f .before)) (f .if3 .left))
+    simp read (good e, coords (seg s) (box s) _ (boxed (e .before)) (e .if1 .left) _ (told (f .before)) (f .if2 .left))
 
-returns-6 : tie.Need-returns-6
-returns-6 c =
+returns-5 : tie.Need-returns-5
+returns-5 c =
     let f = c .before .before .before .before .before in
     let e = past (f .before) in
     let s = start e in
-    said-clip (seg s) (box s) _ (boxed (e .before)) (e .if1 .left) _ (told (f .before)) (f .if3 .left) _ (simp read at (c .cut-all .ensures))
+    said-clip (seg s) (box s) _ (boxed (e .before)) (e .if1 .left) _ (told (f .before)) (f .if2 .left) _ (simp read at (c .cut-all .ensures))
 
 pub clip-at-spec : {M : Type 1} → statement M
 clip-at-spec =
@@ -134,14 +121,11 @@ clip-at-spec =
     (tie.spec
     are-edges-requires
     returns
-    is-inside-requires
-    is-inside-requires-2
-    returns-2
     are-coords-requires
-    returns-3
+    returns-2
     are-beside-requires
-    returns-4
+    returns-3
     are-beside-requires-2
-    returns-5
+    returns-4
     cut-all-requires
-    returns-6)
+    returns-5)
