@@ -1,7 +1,7 @@
 -- What C is told follows from what the proved function said, for a call that carries a state by its flags too.
 use Prim.Native.Nat.{ℕ}
 use mathlib.Core.Path.{_≡_, refl, sym, _∙_, ap}
-use mathlib.Core.Bool.{Bool, true, false, not}
+use mathlib.Core.Bool.{Bool, true, false, not, _&&_}
 use mathlib.Core.List.{List}
 use borrow.Author.Tests.{not-true, not-false}
 use lib.IntN.{ℤ}
@@ -12,7 +12,10 @@ use Rattle.telling.proofs.Tellings.{told-gives}
 use Rattle.clip.specs.declared.Seg.{Seg}
 use Rattle.clip.specs.declared.BBox.{BBox}
 use Rattle.clip.specs.declared.Clipped.{Clipped}
+use Rattle.clip.specs.Domain.{isGood, isInside}
 use Rattle.clip.specs.Answer.{saidClipped, clipped}
+use Rattle.clip.proofs.Tests.{both}
+use Rattle.clip.proofs.Callers.{kept-inside}
 use Rattle.encoder.specs.declared.GeomEncoder.{GeomEncoder}
 use Rattle.encoder.specs.declared.Started.{Started}
 use Rattle.encoder.specs.declared.Drawn.{Drawn}
@@ -29,6 +32,14 @@ use Rattle.brinepost.specs.Drawing.{flatStarted, flatDrawn, flagged, unl
 
 pub clip-told : (a : Clipped) (s : Seg) (b : BBox) (r : BpClipped) → saidClipped a ≡ clipped s b → r ≡ flatClip (saidClipped a) → r ≡ flatClip (clipped s b)
 clip-told a s b r e h = h ∙ ap flatClip e
+
+-- both ends in a good box, as the code's tests tell it
+pub clip-kept : (s : Seg) (b : BBox) (u v g : Bool) → u ≡ isInside b (s .p0) → v ≡ isInside b (s .p1) → not (u && v) ≡ false → g ≡ isGood b → not g ≡ false
+    → _≡_ {A = BpClipped} (record { refusal = 0; x0 = s .p0 .x; y0 = s .p0 .y; x1 = s .p1 .x; y1 = s .p1 .y }) (flatClip (clipped s b))
+unfolding flatClip
+clip-kept s b u v g eu ev t eg n =
+    let k = both u v (not-false (u && v) t) in
+    rw (kept-inside s b (sym eg ∙ not-false g n) (sym eu ∙ k .0) (sym ev ∙ k .1)) refl
 
 pub start-told : (a : Started) (kind : ℕ) (b : BBox) (r : BpStarted) → saidStarted a ≡ started kind b → r ≡ flatStarted (saidStarted a) → r ≡ flatStarted (started kind b)
 start-told a kind b r e h = h ∙ ap flatStarted e

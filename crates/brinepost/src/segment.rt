@@ -43,7 +43,24 @@ fn answered(r: Clipped) -> BpClipped
     }
 }
 
+// The whole answer, for a segment that may be cut or refused.
+fn clipped_at(
+    x0: i32,
+    y0: i32,
+    x1: i32,
+    y1: i32,
+    left: i32,
+    right: i32,
+    bottom: i32,
+    top: i32,
+) -> BpClipped
+    ensures { λ r. ⌜ r ≡ flatClip (clipped (segAt x0 y0 x1 y1) (boxAt left right bottom top)) ⌝ }
+{
+    answered(clip::clip_at(x0, y0, x1, y1, left, right, bottom, top))
+}
+
 // The segment from (x0, y0) to (x1, y1), cut at the box: BOX, then COORD, else the clipped segment.
+// A segment with both ends in a good box stays as given, and is answered at once.
 #[no_mangle]
 pub extern "C" fn bp_clip(
     x0: i32,
@@ -57,5 +74,19 @@ pub extern "C" fn bp_clip(
 ) -> BpClipped
     ensures { λ r. ⌜ r ≡ flatClip (clipped (segAt x0 y0 x1 y1) (boxAt left right bottom top)) ⌝ }
 {
-    answered(clip::clip_at(x0, y0, x1, y1, left, right, bottom, top))
+    let in0 = clip::is_inside(x0, y0, left, right, bottom, top);
+    let in1 = clip::is_inside(x1, y1, left, right, bottom, top);
+    if !(in0 & in1) {
+        return clipped_at(x0, y0, x1, y1, left, right, bottom, top);
+    }
+    if !clip::are_edges(left, right, bottom, top) {
+        return clipped_at(x0, y0, x1, y1, left, right, bottom, top);
+    }
+    BpClipped {
+        refusal: 0,
+        x0: x0,
+        y0: y0,
+        x1: x1,
+        y1: y1,
+    }
 }
