@@ -9,10 +9,6 @@ use lib.IntN.{pos}
 use Rattle.refusal.specs.declared.Refusal.{Refusal}
 use Rattle.refusal.specs.Refusals.{numberOf}
 use Rattle.refusal.proofs.Laws.{numbered}
-use Rattle.clip.specs.declared.ClippedSeg.{ClippedSeg}
-use Rattle.clip.specs.declared.Clipped.{Clipped}
-use Rattle.clip.specs.declared.Clipped.the-variants.{Done as Cut, Refused as NotCut}
-use Rattle.clip.specs.Answer.{saidClipped}
 use Rattle.decoder.specs.declared.Reading.{Reading}
 use Rattle.decoder.specs.declared.Reading.the-variants.{Read, Refused as NotRead}
 use Rattle.decoder.specs.ReadingWords.{saidReading}
@@ -25,13 +21,11 @@ use Rattle.encoder.specs.declared.Started.the-variants.{Fresh, Refused as NotSt
 use Rattle.encoder.specs.declared.Drawn.{Drawn}
 use Rattle.encoder.specs.declared.Drawn.the-variants.{Done, Refused as NotDrawn}
 use Rattle.encoder.specs.Answers.{saidStarted, saidDrawn}
-use Rattle.brinepost.specs.declared.segment.BpClipped.{BpClipped}
 use Rattle.brinepost.specs.declared.vertices.BpReading.{BpReading}
 use Rattle.brinepost.specs.declared.work.BpJob.{BpJob}
 use Rattle.brinepost.specs.declared.state.BpEncoder.{BpEncoder}
 use Rattle.brinepost.specs.declared.calls.BpStarted.{BpStarted}
 use Rattle.brinepost.specs.declared.calls.BpDrawn.{BpDrawn}
-use Rattle.brinepost.specs.Segments.{flatClip}
 use Rattle.brinepost.specs.Works.{flatJob}
 use Rattle.brinepost.specs.Readings.{flatReading}
 use Rattle.brinepost.specs.Carried.{stateTo, nothing}
@@ -40,15 +34,6 @@ use Rattle.brinepost.specs.Drawing.{flatStarted, flatDrawn, flagged}
 -- no refusal's number is the 0 of an accepted call
 never-zero : (k : Refusal) → eqb (numberOf k) 0 ≡ false
 never-zero k = ne-eqb (numberOf k) 0 (λ e. omega (arith, numbered k))
-
-module _ (r : Clipped) where
-  pub clip-done : (c : ClippedSeg) → r ≡ Cut c → _≡_ {A = BpClipped} (record { refusal = 0; x0 = c .seg .p0 .x; y0 = c .seg .p0 .y; x1 = c .seg .p1 .x; y1 = c .seg .p1 .y }) (flatClip (saidClipped r))
-  unfolding flatClip
-  clip-done c e = rw e
-
-  pub clip-not : (k : Refusal) (n : ℕ) → r ≡ NotCut k → n ≡ numberOf k → _≡_ {A = BpClipped} (record { refusal = n; x0 = pos 0; y0 = pos 0; x1 = pos 0; y1 = pos 0 }) (flatClip (saidClipped r))
-  unfolding flatClip
-  clip-not k n e h = rw (e, h)
 
 module _ (r : Reading) where
   pub read-done : (n : ℕ) → r ≡ Read n → _≡_ {A = BpReading} (record { refusal = 0; vertices = n }) (flatReading (saidReading r))

@@ -2,16 +2,20 @@
 use Prim.Native.Nat.{ℕ}
 use mathlib.Core.Path.{_≡_, refl, sym, _∙_, ap}
 use mathlib.Core.Bool.{Bool, true, false, not, _&&_}
-use mathlib.Core.List.{List}
+use mathlib.Core.List.{List, [], _∷_}
 use borrow.Author.Tests.{not-true, not-false}
 use lib.IntN.{ℤ}
 use Rattle.promise.specs.Answers.{Written, Gives}
+use Rattle.refusal.specs.declared.Refusal.{Refusal}
 use Rattle.refusal.specs.declared.Refusal.the-variants.{State}
+use Rattle.refusal.specs.Refusals.{numberOf}
 use Rattle.refusal.specs.Said.{Said}
 use Rattle.telling.proofs.Tellings.{told-gives}
 use Rattle.clip.specs.declared.Seg.{Seg}
 use Rattle.clip.specs.declared.BBox.{BBox}
+use Rattle.clip.specs.declared.ClippedSeg.{ClippedSeg}
 use Rattle.clip.specs.declared.Clipped.{Clipped}
+use Rattle.clip.specs.declared.Clipped.the-variants.{Done as Cut, Refused as NotCut}
 use Rattle.clip.specs.Domain.{isGood, isInside}
 use Rattle.clip.specs.Answer.{saidClipped, clipped}
 use Rattle.clip.proofs.Tests.{both}
@@ -26,20 +30,27 @@ use Rattle.brinepost.specs.declared.segment.BpClipped.{BpClipped}
 use Rattle.brinepost.specs.declared.state.BpEncoder.{BpEncoder}
 use Rattle.brinepost.specs.declared.calls.BpStarted.{BpStarted}
 use Rattle.brinepost.specs.declared.calls.BpDrawn.{BpDrawn}
-use Rattle.brinepost.specs.Segments.{flatClip}
+use Rattle.brinepost.specs.Segments.{ends, flatClip}
 use Rattle.brinepost.specs.Carried.{areFlags, stateOf}
 use Rattle.brinepost.specs.Drawing.{flatStarted, flatDrawn, flagged, unlessFlagged}
 
-pub clip-told : (a : Clipped) (s : Seg) (b : BBox) (r : BpClipped) → saidClipped a ≡ clipped s b → r ≡ flatClip (saidClipped a) → r ≡ flatClip (clipped s b)
-clip-told a s b r e h = h ∙ ap flatClip e
-
 -- both ends in a good box, as the code's tests tell it
-pub clip-kept : (s : Seg) (b : BBox) (u v g : Bool) → u ≡ isInside b (s .p0) → v ≡ isInside b (s .p1) → not (u && v) ≡ false → g ≡ isGood b → not g ≡ false
-    → _≡_ {A = BpClipped} (record { refusal = 0; x0 = s .p0 .x; y0 = s .p0 .y; x1 = s .p1 .x; y1 = s .p1 .y }) (flatClip (clipped s b))
+pub clip-kept : (s : Seg) (b : BBox) (u v g : Bool) → u ≡ isInside b (s .p0) → v ≡ isInside b (s .p1) → g ≡ isGood b → (u && v && g) ≡ true → (r : BpClipped) → r ≡ ends 0 (record { seg = s } ∷ []) → r ≡ flatClip (clipped s b)
 unfolding flatClip
-clip-kept s b u v g eu ev t eg n =
-    let k = both u v (not-false (u && v) t) in
-    rw (kept-inside s b (sym eg ∙ not-false g n) (sym eu ∙ k .0) (sym ev ∙ k .1)) refl
+clip-kept s b u v g eu ev eg t r e =
+    let k = both (u && v) g t in
+    let h = both u v (k .0) in
+    e ∙ sym (ap flatClip (kept-inside s b (sym eg ∙ k .1) (sym eu ∙ h .0) (sym ev ∙ h .1)))
+
+-- what the clip said, by its two cases
+module _ (a : Clipped) (s : Seg) (b : BBox) (e : saidClipped a ≡ clipped s b) (r : BpClipped) where
+  pub clip-done : (c : ClippedSeg) → a ≡ Cut c → r ≡ ends 0 (c ∷ []) → r ≡ flatClip (clipped s b)
+  unfolding flatClip
+  clip-done c f h = h ∙ ap flatClip (sym (ap saidClipped f) ∙ e)
+
+  pub clip-not : (k : Refusal) → a ≡ NotCut k → r ≡ ends (numberOf k) [] → r ≡ flatClip (clipped s b)
+  unfolding flatClip
+  clip-not k f h = h ∙ ap flatClip (sym (ap saidClipped f) ∙ e)
 
 pub start-told : (a : Started) (kind : ℕ) (b : BBox) (r : BpStarted) → saidStarted a ≡ started kind b → r ≡ flatStarted (saidStarted a) → r ≡ flatStarted (started kind b)
 start-told a kind b r e h = h ∙ ap flatStarted e

@@ -1,8 +1,11 @@
 // A segment cut at a box, from C: eight numbers go in, the refusal and four numbers come back.
 ghost use mathlib.Core.Path.{_≡_};
-ghost use Rattle.clip.specs.Answer.{saidClipped, clipped};
-ghost use Rattle.brinepost.specs.Segments.{segAt, boxAt, flatClip};
+ghost use mathlib.Core.List.{[], _∷_};
+ghost use Rattle.refusal.specs.Refusals.{numberOf};
+ghost use Rattle.clip.specs.Answer.{clipped};
+ghost use Rattle.brinepost.specs.Segments.{segAt, boxAt, ends, flatClip};
 use clip::Clipped;
+use refusal::Refusal;
 
 #[repr(C)]
 pub struct BpClipped {
@@ -13,54 +16,33 @@ pub struct BpClipped {
     pub y1: i32,
 }
 
-fn answered(r: Clipped) -> BpClipped
-    ensures { λ a. ⌜ a ≡ flatClip (saidClipped r) ⌝ }
+// The answer of a segment that is accepted, and that of a refused call.
+fn accepted(x0: i32, y0: i32, x1: i32, y1: i32) -> BpClipped
+    ensures { λ r. ⌜ r ≡ ends 0 (record { seg = segAt x0 y0 x1 y1 } ∷ []) ⌝ }
 {
-    match r {
-        Clipped::Done(c) => {
-            let seg = c.seg;
-            let p0 = seg.p0;
-            let p1 = seg.p1;
-            let x0 = p0.x;
-            let y0 = p0.y;
-            let x1 = p1.x;
-            let y1 = p1.y;
-            BpClipped {
-                refusal: 0,
-                x0: x0,
-                y0: y0,
-                x1: x1,
-                y1: y1,
-            }
-        }
-        Clipped::Refused(k) => BpClipped {
-            refusal: refusal::number(k),
-            x0: 0,
-            y0: 0,
-            x1: 0,
-            y1: 0,
-        },
+    BpClipped {
+        refusal: 0,
+        x0: x0,
+        y0: y0,
+        x1: x1,
+        y1: y1,
     }
 }
 
-// The whole answer, for a segment that may be cut or refused.
-fn clipped_at(
-    x0: i32,
-    y0: i32,
-    x1: i32,
-    y1: i32,
-    left: i32,
-    right: i32,
-    bottom: i32,
-    top: i32,
-) -> BpClipped
-    ensures { λ r. ⌜ r ≡ flatClip (clipped (segAt x0 y0 x1 y1) (boxAt left right bottom top)) ⌝ }
+fn refused(k: Refusal) -> BpClipped
+    ensures { λ r. ⌜ r ≡ ends (numberOf k) [] ⌝ }
 {
-    answered(clip::clip_at(x0, y0, x1, y1, left, right, bottom, top))
+    BpClipped {
+        refusal: refusal::number(k),
+        x0: 0,
+        y0: 0,
+        x1: 0,
+        y1: 0,
+    }
 }
 
 // The segment from (x0, y0) to (x1, y1), cut at the box: BOX, then COORD, else the clipped segment.
-// A segment with both ends in a good box stays as given, and is answered at once.
+// A segment with both ends in a good box stays as given, and is answered at once. Each answer returns by itself, so that the compiler keeps the numbers where they came in.
 #[no_mangle]
 pub extern "C" fn bp_clip(
     x0: i32,
@@ -76,17 +58,19 @@ pub extern "C" fn bp_clip(
 {
     let in0 = clip::is_inside(x0, y0, left, right, bottom, top);
     let in1 = clip::is_inside(x1, y1, left, right, bottom, top);
-    if !(in0 & in1) {
-        return clipped_at(x0, y0, x1, y1, left, right, bottom, top);
+    let good = clip::are_edges(left, right, bottom, top);
+    if in0 & in1 & good {
+        return accepted(x0, y0, x1, y1);
     }
-    if !clip::are_edges(left, right, bottom, top) {
-        return clipped_at(x0, y0, x1, y1, left, right, bottom, top);
-    }
-    BpClipped {
-        refusal: 0,
-        x0: x0,
-        y0: y0,
-        x1: x1,
-        y1: y1,
+    match clip::clip_at(x0, y0, x1, y1, left, right, bottom, top) {
+        Clipped::Done(c) => {
+            let seg = c.seg;
+            let p0 = seg.p0;
+            let p1 = seg.p1;
+            return accepted(p0.x, p0.y, p1.x, p1.y);
+        }
+        Clipped::Refused(k) => {
+            return refused(k);
+        }
     }
 }

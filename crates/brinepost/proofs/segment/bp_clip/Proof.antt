@@ -1,13 +1,13 @@
--- Both ends in a good box: the segment as given; else what the whole clip says.
+-- Both ends in a good box: the segment as given; else what the clip said, by its two cases.
 use mathlib.Core.Path.{_≡_}
-use mathlib.Core.Bool.{_&&_}
 use mir.Syntax.{w32}
 use Rattle.whole.proofs.Machine.{Back, back}
 use Rattle.clip.specs.declared.Seg.{Seg}
 use Rattle.clip.specs.declared.BBox.{BBox}
-use Rattle.clip.specs.Domain.{isGood, isInside}
+use Rattle.clip.specs.declared.ClippedSeg.{ClippedSeg}
+use Rattle.clip.specs.Answer.{saidClipped, clipped}
 use Rattle.brinepost.specs.Segments.{segAt, boxAt}
-use Rattle.brinepost.proofs.Tellings.{clip-kept}
+use Rattle.brinepost.proofs.Tellings.{clip-kept, clip-done, clip-not}
 use borrow.Author.Needs.{needs}
 use Rattle.brinepost.proofs.segment.bp_clip.Statement.{statement}
 use Rattle.brinepost.proofs.segment.bp_clip.Tie as tie
@@ -46,34 +46,92 @@ module _ (s : tie.Start) where
 
 ruleset read = (x0, y0, x1, y1, left, right, bottom, top)
 
+abbrev start : tie.After-clip-at → tie.Start
+start c = c .before .before .before .before .before
+
+said : (c : tie.After-clip-at) → saidClipped (c .clip-at .result) ≡ clipped (seg (start c)) (box (start c))
+said c = simp read at (c .clip-at .ensures)
+
+-- the clipped segment, and its numbers
+abbrev cut : tie.After-c → ClippedSeg
+cut c = c .c .given .0 .0
+
+module _ (k : tie.After-known-told) where
+  cx0 : Back w32 (cut (k .before) .seg .p0 .x)
+  cx0 = back (search needs depth 12)
+
+  cy0 : Back w32 (cut (k .before) .seg .p0 .y)
+  cy0 = back (search needs depth 12)
+
+  cx1 : Back w32 (cut (k .before) .seg .p1 .x)
+  cx1 = back (search needs depth 12)
+
+  cy1 : Back w32 (cut (k .before) .seg .p1 .y)
+  cy1 = back (search needs depth 12)
+
+ruleset cuts = (cx0, cy0, cx1, cy1)
+
 is-inside-requires : tie.Need-is-inside-requires
 is-inside-requires c κs = search needs
 
 is-inside-requires-2 : tie.Need-is-inside-requires-2
 is-inside-requires-2 c κs = search needs
 
-clipped-at-requires : tie.Need-clipped-at-requires
-clipped-at-requires c κs = search needs
-
-returns : tie.Need-returns
-returns c = simp read at (c .clipped-at .ensures)
-
 are-edges-requires : tie.Need-are-edges-requires
 are-edges-requires c κs = search needs
 
-clipped-at-requires-2 : tie.Need-clipped-at-requires-2
-clipped-at-requires-2 c κs = search needs
+accepted-requires : tie.Need-accepted-requires
+accepted-requires c κs = search needs
+
+returns : tie.Need-returns
+returns c =
+    let t = c .before in
+    let g = t .before in
+    let i = g .before in
+    let s = i .before .before in
+    clip-kept (seg s) (box s) _ _ _ (simp read at (i .before .is-inside .ensures)) (simp read at (i .is-inside2 .ensures)) (simp read at (g .are-edges .ensures)) (t .if1 .taken) _ (simp read at (c .accepted .ensures))
+
+clip-at-requires : tie.Need-clip-at-requires
+clip-at-requires c κs = search needs
+
+enum-known-c : tie.Need-enum-known-c
+enum-known-c c = search needs
+
+accepted-requires-2 : tie.Need-accepted-requires-2
+accepted-requires-2 c κs = search needs
 
 returns-2 : tie.Need-returns-2
-returns-2 c = simp read at (c .clipped-at2 .ensures)
+returns-2 c =
+    let k : tie.After-known-told = c .before .before .before .before .before .before .before .before in
+    let m = k .before in
+    let a = m .before .before in
+    clip-done _ (seg (start a)) (box (start a)) (said a) _ (cut m) (m .c .given .1) (simp cuts at (c .accepted2 .ensures))
+
+enum-known-k : tie.Need-enum-known-k
+enum-known-k c = search needs
+
+refused-requires : tie.Need-refused-requires
+refused-requires c κs = search needs
 
 returns-3 : tie.Need-returns-3
 returns-3 c =
-    let k = c .before in
-    let e = k .before in
-    let i = e .before in
-    let s = i .before .before in
-    simp read (clip-kept (seg s) (box s) _ _ _ (simp read at (i .before .is-inside .ensures)) (simp read at (i .is-inside2 .ensures)) (e .if1 .left) (simp read at (k .are-edges .ensures)) (c .if2 .left))
+    let m = c .before .before in
+    let a = m .before .before in
+    clip-not _ (seg (start a)) (box (start a)) (said a) _ (m .k .given .0 .0) (m .k .given .1) (c .refused .ensures)
 
 pub bp-clip-spec : {M : Type 1} → statement M
-bp-clip-spec = tie.close (tie.spec is-inside-requires is-inside-requires-2 clipped-at-requires returns are-edges-requires clipped-at-requires-2 returns-2 returns-3)
+bp-clip-spec =
+    tie.close
+    (tie.spec
+    is-inside-requires
+    is-inside-requires-2
+    are-edges-requires
+    accepted-requires
+    returns
+    clip-at-requires
+    enum-known-c
+    accepted-requires-2
+    returns-2
+    enum-known-k
+    refused-requires
+    returns-3)
