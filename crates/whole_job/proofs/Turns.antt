@@ -14,16 +14,19 @@ use lib.Seq.{drop-cons}
 use mir.Syntax.{w32}
 use mir.Val.{ofZ, toZ}
 use mir.Facts.{toZ-ofZ}
-use Rattle.promise.specs.Answers.{Gives}
+use Rattle.promise.specs.Answers.{Gives, kept}
 use Rattle.refusal.specs.declared.Refusal.{Refusal}
 use Rattle.clip.specs.declared.Pt.{Pt}
 use Rattle.encoder.specs.declared.GeomEncoder.{GeomEncoder}
 use Rattle.encoder.specs.declared.Drawn.{Drawn}
 use Rattle.encoder.specs.declared.Drawn.the-variants.{Done, Refused as NotDrawn}
-use Rattle.encoder.specs.Answers.{saidDrawn, turned}
+use Rattle.encoder.specs.Answers.{saidDrawn, done, turned}
 use Rattle.encoder.specs.Adding.{pointAt, added}
 use Rattle.encoder.specs.Completing.{completed}
 use Rattle.encoder.specs.Calls.{add, complete, call, partCalls}
+use Rattle.stretch.specs.declared.Stretch.{Stretch}
+use Rattle.stretch.specs.Stretches.{pointIn, stretched}
+use Rattle.stretch.proofs.Callers.{stretch-keeps}
 use Rattle.whole_job.specs.declared.Course.{Course}
 use Rattle.whole_job.specs.declared.Course.the-variants.{On, Off}
 use Rattle.whole_job.specs.Jobs.{pointsOf, endsAt, isJob, part, jobCalls, on, go, outcomeOf}
@@ -67,11 +70,7 @@ module _ (points : List ℤ) (ends : List ℕ) where
       ends-turn d = record { at = omega arith; rest = I .rest ∙ rw (split, le-leb from (getD ends j 0) d) }
 
 -- ---- the points of a part: `add_part`
--- the point at i
-abbrev pub pointOf : List ℤ → ℕ → Pt
-pointOf l i = pointAt (getD l (2 * i) (pos 0)) (getD l (2 * i + 1) (pos 0))
-
-points-at : (l : List ℤ) (i : ℕ) → i < length l / 2 → drop i (pointsOf l) ≡ pointAt (getD l (2 * i) (pos 0)) (getD l (2 * i + 1) (pos 0)) ∷ drop (i + 1) (pointsOf l)
+points-at : (l : List ℤ) (i : ℕ) → i < length l / 2 → drop i (pointsOf l) ≡ pointIn l i ∷ drop (i + 1) (pointsOf l)
 points-at [] i h = absurd (omega arith)
 points-at (x ∷ []) i h = absurd (omega arith)
 points-at (x ∷ y ∷ l) zero h = refl
@@ -81,7 +80,7 @@ points-at (x ∷ y ∷ l) (suc i) h =
     let c : suc i + 1 ≡ suc (i + 1) = omega arith in
     rw (b, a, c) (points-at l i (omega arith))
 
-part-more : (l : List ℤ) (i to : ℕ) → i < to → to ≤ length l / 2 → part (pointsOf l) i to ≡ pointAt (getD l (2 * i) (pos 0)) (getD l (2 * i + 1) (pos 0)) ∷ part (pointsOf l) (i + 1) to
+part-more : (l : List ℤ) (i to : ℕ) → i < to → to ≤ length l / 2 → part (pointsOf l) i to ≡ pointIn l i ∷ part (pointsOf l) (i + 1) to
 part-more l i to h k = let e : to - i ≡ suc (to - (i + 1)) = omega arith in rw (points-at l i (omega arith), e)
 
 part-over : (ps : List Pt) (i to : ℕ) → i ≡ to → part ps i to ≡ []
@@ -95,23 +94,47 @@ pub record Adding (l : List ℤ) (from to : ℕ) (out₀ : List ℕ) (s : GeomEn
 pub add-start : (l : List ℤ) (from to : ℕ) (out : List ℕ) (s : GeomEncoder) → from ≤ to → Adding l from to out s out s from
 add-start l from to out s h = record { upto = h; long = refl; rest = refl }
 
+-- one more accepted point
+one-more : (l : List ℤ) (from to : ℕ) (out₀ : List ℕ) (s : GeomEncoder) → to ≤ length l / 2 → (i : ℕ) (q t : GeomEncoder) (out o : List ℕ) →
+    i < to → Gives (call (add (pointIn l i)) q out) (done t) o → length o ≡ length out → Adding l from to out₀ s out q i → Adding l from to out₀ s o t (i + 1)
+one-more l from to out₀ s k i q t out o h g f I = record {
+  upto = omega arith;
+  long = f ∙ I .long;
+  rest = I .rest ∙ rw (part-more l i to h k) (go-on (add (pointIn l i)) (partCalls (part (pointsOf l) (i + 1) to)) i q t out o g);
+}
+
+-- a stretch of them
+stretch-turn : (l : List ℤ) (from to : ℕ) (out₀ : List ℕ) (s : GeomEncoder) (out : List ℕ) (q : GeomEncoder) (i : ℕ) → to ≤ length l / 2 → Adding l from to out₀ s out q i →
+    (x : Stretch) (y : List ℕ) → Gives (stretched q l i to out) x y → Adding l from to out₀ s y (x .state) (x .reached) × (i ≤ x .reached)
+stretch-turn l from to out₀ s out q i k I x y g = rw (g .answer, g .memory) (stretch-keeps l to Holds step q i out (I, omega arith))
+  where
+    Holds : ℕ → GeomEncoder → List ℕ → Type 0
+    Holds j p m = Adding l from to out₀ s m p j × (i ≤ j)
+
+    step : (j : ℕ) (p t : GeomEncoder) (m o : List ℕ) → j < to → added p (pointIn l j) m ≡ kept (done t) o → length o ≡ length m → Holds j p m → Holds (j + 1) t o
+    step j p t m o h a f J = (one-more l from to out₀ s k j p t m o h (rw a (record { answer = refl; memory = refl })) f (J .0), let b = J .1 in omega arith)
+
 module _ (l : List ℤ) (from to : ℕ) (out₀ : List ℕ) (s : GeomEncoder) (out : List ℕ) (q : GeomEncoder) (i : ℕ) (I : Adding l from to out₀ s out q i) where
   module _ (h : i < to) (k : to ≤ length l / 2) (r : Drawn) (o : List ℕ)
       (m : mag (getD l (2 * i) (pos 0)) < 2 ^ 31) (n : mag (getD l (2 * i + 1) (pos 0)) < 2 ^ 31)
       (g : Gives (added q (pointAt (toZ w32 (ofZ w32 (getD l (2 * i) (pos 0)))) (toZ w32 (ofZ w32 (getD l (2 * i + 1) (pos 0))))) out) (saidDrawn r) o) where
-    given : Gives (call (add (pointOf l i)) q out) (saidDrawn r) o
+    given : Gives (call (add (pointIn l i)) q out) (saidDrawn r) o
     given = rw (toZ-ofZ (sfits-of m), toZ-ofZ (sfits-of n)) at g
 
-    opened : go (partCalls (part (pointsOf l) from to)) from s out₀ ≡ go (add (pointOf l i) ∷ partCalls (part (pointsOf l) (i + 1) to)) i q out
+    opened : go (partCalls (part (pointsOf l) from to)) from s out₀ ≡ go (add (pointIn l i) ∷ partCalls (part (pointsOf l) (i + 1) to)) i q out
     opened = I .rest ∙ rw (part-more l i to h k)
 
-    pub add-turn : (t : GeomEncoder) → r ≡ Done t → length o ≡ length out → Adding l from to out₀ s o t (i + 1)
-    add-turn t e f = record { upto = omega arith; long = f ∙ I .long; rest = opened ∙ go-on (add (pointOf l i)) (partCalls (part (pointsOf l) (i + 1) to)) i q t out o (rw e at given) }
+    add-turn : (t : GeomEncoder) → r ≡ Done t → length o ≡ length out → Adding l from to out₀ s o t (i + 1)
+    add-turn t e f = one-more l from to out₀ s k i q t out o h (rw e at given) f I
+
+    pub add-more : (t : GeomEncoder) → r ≡ Done t → length o ≡ length out → (x : Stretch) (y : List ℕ) → Gives (stretched t l (i + 1) to o) x y →
+        Adding l from to out₀ s y (x .state) (x .reached) × (i + 1 ≤ x .reached)
+    add-more t e f x y z = stretch-turn l from to out₀ s o t (i + 1) k (add-turn t e f) x y z
 
     pub add-stop : (x : Refusal) (t : GeomEncoder) → r ≡ NotDrawn x t → Gives (go (partCalls (part (pointsOf l) from to)) from s out₀) (outcomeOf to (Off x i)) o
     add-stop x t e =
-        let g′ : Gives (call (add (pointOf l i)) q out) (turned x t) o = rw e at given in
-        rw (opened ∙ go-off (add (pointOf l i)) (partCalls (part (pointsOf l) (i + 1) to)) i q t out o x g′) (record { answer = refl; memory = off-list (add (pointOf l i)) (partCalls (part (pointsOf l) (i + 1) to)) i q t out o x g′ })
+        let g′ : Gives (call (add (pointIn l i)) q out) (turned x t) o = rw e at given in
+        rw (opened ∙ go-off (add (pointIn l i)) (partCalls (part (pointsOf l) (i + 1) to)) i q t out o x g′) (record { answer = refl; memory = off-list (add (pointIn l i)) (partCalls (part (pointsOf l) (i + 1) to)) i q t out o x g′ })
 
   module _ (h : to ≤ i) (r : Drawn) (o : List ℕ) (g : Gives (completed q out) (saidDrawn r) o) where
     over : go (partCalls (part (pointsOf l) from to)) from s out₀ ≡ go (complete ∷ []) to q out

@@ -45,7 +45,7 @@ fn is_job(points: &[i32], ends: &[u32]) -> bool
     from == points.len() / 2
 }
 
-// Adds the points of one part and completes it.
+// Adds the points of one part and completes it: one point by itself, which may be any, then a stretch of those that are plain.
 fn add_part(s: GeomEncoder, points: &[i32], from: usize, to: usize, words: &mut [u32]) -> Course
     requires { ⌜ from ≤ to ⌝ }
     requires { ⌜ to ≤ length (now points) / 2 ⌝ }
@@ -60,7 +60,9 @@ fn add_part(s: GeomEncoder, points: &[i32], from: usize, to: usize, words: &mut 
             Drawn::Done(t) => q = t,
             Drawn::Refused(r, _) => return Course::Off(r, i),
         }
-        i += 1;
+        let plain = stretch::add_stretch(q, points, i + 1, to, words);
+        q = plain.state;
+        i = plain.reached;
     }
     match q.complete_geom(words) {
         Drawn::Done(t) => Course::On(t),

@@ -1,6 +1,7 @@
--- What is left of the part, from the state and the list that there are, gives the rest of the answer; then completing.
+-- What is left of the part, from the state and the list that there are, gives the rest of the answer, after a point and after a stretch; then completing.
+use native.Mathlib.Omega.{arith}
 use Prim.Native.Nat.{_-_}
-use Rattle.whole_job.proofs.Turns.{Adding, add-start, add-turn, add-stop, part-done, part-stop}
+use Rattle.whole_job.proofs.Turns.{Adding, add-start, add-more, add-stop, part-done, part-stop}
 use borrow.Author.Needs.{needs}
 use Rattle.whole_job.proofs.add_part.Statement.{statement}
 use Rattle.whole_job.proofs.add_part.Tie as tie
@@ -55,19 +56,31 @@ returns c =
     add-stop _ _ _ _ _ _ _ _ (turn .before .loop .inv) (turn .loop-test .taken) (turn .before .before .before .pre .1) (added .add-point .result) _ (x .x .given) (added .before .before .y .given)
     (added .add-point .ensures) _ _ (c .before .r .given .1)
 
-add-i : tie.Need-add-i Inv-loop μ-loop
-add-i c = search needs
+add-add-stretch : tie.Need-add-add-stretch Inv-loop μ-loop
+add-add-stretch c = search needs
+
+add-stretch-requires : tie.Need-add-stretch-requires Inv-loop μ-loop
+add-stretch-requires c κs = search needs
 
 loop-less : tie.Need-loop-less Inv-loop μ-loop
-loop-less c = search needs
+loop-less c =
+    let point = c .before .before .before .before .before .before .before .before .before .before in
+    let x = point .before .before .before in
+    let turn = x .before in
+    let more =
+    add-more _ _ _ _ _ _ _ _ (turn .before .loop .inv) (turn .loop-test .taken) (turn .before .before .before .pre .1) (point .add-point .result) _ (x .x .given) (point .before .before .y .given)
+    (point .add-point .ensures) _ (c .before .before .before .before .before .before .t .given .1) (search needs) _ _ (c .before .before .before .add-stretch .ensures) in
+    omega (arith, more .1, turn .loop-test .taken)
 
 loop-again : tie.Need-loop-again Inv-loop μ-loop
 loop-again c =
-    let added = c .before .before .before .before .before in
-    let x = added .before .before .before in
+    let point = c .before .before .before .before .before .before .before .before .before .before in
+    let x = point .before .before .before in
     let turn = x .before in
-    add-turn _ _ _ _ _ _ _ _ (turn .before .loop .inv) (turn .loop-test .taken) (turn .before .before .before .pre .1) (added .add-point .result) _ (x .x .given) (added .before .before .y .given)
-    (added .add-point .ensures) _ (c .before .t .given .1) (search needs)
+    let more =
+    add-more _ _ _ _ _ _ _ _ (turn .before .loop .inv) (turn .loop-test .taken) (turn .before .before .before .pre .1) (point .add-point .result) _ (x .x .given) (point .before .before .y .given)
+    (point .add-point .ensures) _ (c .before .before .before .before .before .before .t .given .1) (search needs) _ _ (c .before .before .before .add-stretch .ensures) in
+    more .0
 
 complete-geom-requires : tie.Need-complete-geom-requires Inv-loop μ-loop
 complete-geom-requires c κs = search needs
@@ -109,7 +122,8 @@ add-part-spec =
     enum-known-r
     same-length
     returns
-    add-i
+    add-add-stretch
+    add-stretch-requires
     loop-less
     loop-again
     complete-geom-requires

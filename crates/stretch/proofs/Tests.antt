@@ -1,0 +1,114 @@
+-- Laws of the tests: a point of the box, a point that is taken, a state that a stretch starts from.
+use mathlib.Core.Path.{_≡_, refl, sym, _∙_, ap, subst}
+use mathlib.Core.Bool.{Bool, true, false, cond, not, _&&_, _||_}
+use Prim.Native.Nat.{ℕ, _+_, _/_, _≤_, _<_}
+use native.Mathlib.Omega.{arith}
+use borrow.Author.Tests.{eq-eqb, ne-eqb, le-leb, lt-leb, lt-ltb, le-ltb, eqb-false, ltb-false, not-true, not-false}
+use lib.Dec.{leb, ltb, eqb}
+use lib.Signed.{ltZ}
+use Rattle.clip.specs.declared.Pt.{Pt}
+use Rattle.clip.specs.declared.BBox.{BBox}
+use Rattle.clip.specs.Domain.{isCoord, isGood}
+use Rattle.clip.specs.Facts.{Coord}
+use Rattle.clip.proofs.Callers.{Kept, coord-is}
+use Rattle.encoder.specs.declared.MaybePt.{MaybePt}
+use Rattle.encoder.specs.declared.MaybePt.the-variants.{Nowhere, At}
+use Rattle.encoder.specs.declared.GeomEncoder.{GeomEncoder}
+use Rattle.encoder.specs.States.{valid}
+use Rattle.encoder.specs.Emitting.{clamped, lastOf}
+use Rattle.encoder.specs.Planning.{outside, missing}
+use Rattle.encoder.proofs.States.{both, Valid, valid-facts}
+use Rattle.encoder.proofs.Pushing.{clamped-coord}
+use Rattle.stretch.specs.Stretches.{isStart}
+use Rattle.stretch.specs.Pens.{penOf, stateOf}
+
+-- ---- a point of the box
+pub kept-in : (b : BBox) (p : Pt) → outside b p ≡ false → Kept b p
+kept-in b p e = by (ltZ (p .x) (b .«x_min»)) (ltZ (b .«x_max») (p .x)) (ltZ (p .y) (b .«y_min»)) (ltZ (b .«y_max») (p .y)) e refl refl refl refl
+  where
+    by : (m n o q : Bool) → (m || n || o || q) ≡ false → ltZ (p .x) (b .«x_min») ≡ m → ltZ (b .«x_max») (p .x) ≡ n → ltZ (p .y) (b .«y_min») ≡ o → ltZ (b .«y_max») (p .y) ≡ q → Kept b p
+    by false false false false f g h i j = record { left = g; right = h; down = i; up = j }
+    by true n o q f g h i j = absurd (let z : _≡_ {A = ℕ} 0 1 = cc in omega arith)
+    by false true o q f g h i j = absurd (let z : _≡_ {A = ℕ} 0 1 = cc in omega arith)
+    by false false true q f g h i j = absurd (let z : _≡_ {A = ℕ} 0 1 = cc in omega arith)
+    by false false false true f g h i j = absurd (let z : _≡_ {A = ℕ} 0 1 = cc in omega arith)
+
+pub clamped-inside : (b : BBox) (p : Pt) → outside b p ≡ false → clamped b p ≡ p
+clamped-inside b p e = let k = kept-in b p e in rw (k .left, k .right, k .down, k .up)
+
+pub inside-coord : (b : BBox) (p : Pt) → isGood b ≡ true → outside b p ≡ false → Coord p
+inside-coord b p g e = subst Coord (clamped-inside b p e) (clamped-coord b p g)
+
+pub made-coord : (b : BBox) (p q : Pt) → isGood b ≡ true → q ≡ clamped b p → Coord q
+made-coord b p q g e = subst Coord (sym e) (clamped-coord b p g)
+
+-- neither end of a segment is outside
+pub neither : (t u : Bool) → (t || u) ≡ false → (t ≡ false) × (u ≡ false)
+neither false false e = (refl, refl)
+neither true u e = absurd (let z : _≡_ {A = ℕ} 0 1 = cc in omega arith)
+neither false true e = absurd (let z : _≡_ {A = ℕ} 0 1 = cc in omega arith)
+
+-- ---- the returns of `is_taken_out`
+module _ (ring b : Bool) where
+  pub no-ring : not ring ≡ true → false ≡ (ring && b)
+  no-ring h = rw (not-true ring h)
+
+  pub a-ring : not ring ≡ false → (r : Bool) → r ≡ b → r ≡ (ring && b)
+  a-ring h r e = rw (not-false ring h) e
+
+-- ---- the returns of `is_plain`
+module _ (used room : ℕ) (p : Pt) where
+  pub plain-room : room < used + 6 → false ≡ (leb (used + 6) room && isCoord p)
+  plain-room h = rw (lt-leb (used + 6) room h)
+
+  module _ (h : used + 6 ≤ room) where
+    pub plain-coord : (r : Bool) → r ≡ isCoord p → r ≡ (leb (used + 6) room && isCoord p)
+    plain-coord r e = rw (le-leb (used + 6) room h) e
+
+    pub plain-inside : (b : BBox) → isGood b ≡ true → (t : Bool) → t ≡ outside b p → t ≡ false → true ≡ (leb (used + 6) room && isCoord p)
+    plain-inside b g t e f = rw (le-leb (used + 6) room h, coord-is (inside-coord b p g (sym e ∙ f)))
+
+-- ---- a state to start from
+module _ (s : GeomEncoder) (n : ℕ) where
+  pub start-point : s .kind ≡ 1 → false ≡ isStart s n
+  unfolding isStart
+  start-point e = rw (eq-eqb (s .kind) 1 e)
+
+  module _ (e : s .kind ≡ 1 → ⊥) where
+    pub start-few : s .count < 2 → false ≡ isStart s n
+    unfolding isStart
+    start-few h = rw (ne-eqb (s .kind) 1 e, lt-ltb (s .count) 2 h)
+
+    pub start-is : 2 ≤ s .count → (a b c v : Bool) → a ≡ missing (s .«xy_end») → b ≡ missing (s .pt0) → c ≡ missing (s .pt1) → v ≡ valid s n → (v && not a && not b && not c) ≡ isStart s n
+    unfolding isStart
+    start-is h a b c v i j k l = rw (ne-eqb (s .kind) 1 e, le-ltb (s .count) 2 h, i, j, k, l)
+
+pub record Start (s : GeomEncoder) (n : ℕ) : Type 0 where
+  pub kind : s .kind ≡ 1 → ⊥
+  pub two : 2 ≤ s .count
+  pub valid : Valid s n
+  pub end : not (missing (s .«xy_end»)) ≡ true
+  pub at0 : not (missing (s .pt0)) ≡ true
+  pub at1 : not (missing (s .pt1)) ≡ true
+
+pub start-facts : (s : GeomEncoder) (n : ℕ) → isStart s n ≡ true → Start s n
+unfolding isStart
+start-facts s n = by (eqb (s .kind) 1) (ltb (s .count) 2) refl refl
+  where
+    by : (k c : Bool) → eqb (s .kind) 1 ≡ k → ltb (s .count) 2 ≡ c
+        → cond k false (cond c false (valid s n && not (missing (s .«xy_end»)) && not (missing (s .pt0)) && not (missing (s .pt1)))) ≡ true → Start s n
+    by true c f g e = absurd (let z : _≡_ {A = ℕ} 0 1 = cc in omega arith)
+    by false true f g e = absurd (let z : _≡_ {A = ℕ} 0 1 = cc in omega arith)
+    by false false f g e =
+        let (h, at1) = both (valid s n && not (missing (s .«xy_end»)) && not (missing (s .pt0))) (not (missing (s .pt1))) e in
+        let (i, at0) = both (valid s n && not (missing (s .«xy_end»))) (not (missing (s .pt0))) h in
+        let (v, end) = both (valid s n) (not (missing (s .«xy_end»))) i in
+        record { kind = eqb-false (s .kind) 1 f; two = let l = ltb-false (s .count) 2 g in omega arith; valid = valid-facts s n v; end = end; at0 = at0; at1 = at1 }
+
+-- its pen loses nothing
+there : (m : MaybePt) → not (missing m) ≡ true → At (lastOf m) ≡ m
+there Nowhere e = absurd (let z : _≡_ {A = ℕ} 0 1 = cc in omega arith)
+there (At p) e = refl
+
+pub pen-whole : (s : GeomEncoder) (n : ℕ) → isStart s n ≡ true → stateOf s (penOf s) ≡ s
+pen-whole s n e = let S = start-facts s n e in rw (there (s .«xy_end») (S .end), there (s .pt0) (S .at0), there (s .pt1) (S .at1))

@@ -1,0 +1,443 @@
+// A stretch: many points of a part in one loop (document 01, "Adding a point", for lines and polygons that have begun).
+// What an accepted point changes of the state stands in a few plain numbers (`Pen`); STATE is asked once, and a point with room for all that it can bring is written without a plan.
+ghost use mathlib.Core.Path.{_≡_};
+ghost use mathlib.Core.Bool.{Bool, true, not, _&&_};
+ghost use Prim.Native.Nat.{_+_, _-_, _/_, _≤_};
+ghost use lib.Dec.{leb, eqb};
+ghost use lib.IntN.{_-ℤ_};
+ghost use lib.ListN.{length};
+ghost use Rattle.promise.specs.Answers.{Gives};
+ghost use Rattle.promise.specs.Laid.{lay};
+ghost use Rattle.clip.specs.Domain.{isCoord, isGood};
+ghost use Rattle.clip.specs.Facts.{Coord};
+ghost use Rattle.clip.specs.Cutting.{clip};
+ghost use Rattle.clip.specs.Answer.{areCoords};
+ghost use Rattle.words.specs.Geometries.{maxWords};
+ghost use Rattle.words.specs.Params.{param};
+ghost use Rattle.encoder.specs.Emitting.{clampTo, clamped, samePt, strictly, between, lastOf, steps};
+ghost use Rattle.encoder.specs.Adding.{moved, movedEnds};
+ghost use Rattle.encoder.specs.Planning.{outside, missing};
+ghost use Rattle.stretch.specs.Stretches.{isStart, run, lastPoint, stretched};
+ghost use Rattle.stretch.specs.Pens.{penOf, stateOf, withRaw, onward, over, laid, mark, marked, marks, drawnBy, Able, Steady};
+use clip::BBox;
+use clip::Clipped;
+use clip::Pt;
+use clip::Seg;
+use encoder::GeomEncoder;
+use encoder::MaybePt;
+use words::geometry::Geometry;
+use words::param::ParamInt;
+
+pub struct Stretch {
+    pub state: GeomEncoder,
+    pub reached: usize, // the first point that is not taken
+}
+
+// What an accepted point changes: the last raw point, the emitted one before the last, the last one, and the two figures.
+struct Pen {
+    raw: Pt,
+    pt0: Pt,
+    pt1: Pt,
+    count: u32,
+    used: usize,
+}
+
+// ---- points
+fn clamp(z: i32, lo: i32, hi: i32) -> i32
+    ensures { λ r. ⌜ r ≡ clampTo lo hi z ⌝ }
+{
+    if z < lo {
+        return lo;
+    }
+    if hi < z {
+        return hi;
+    }
+    z
+}
+
+fn make_point(p: Pt, b: BBox) -> Pt
+    ensures { λ r. ⌜ r ≡ clamped b p ⌝ }
+{
+    let x = clamp(p.x, b.x_min, b.x_max);
+    let y = clamp(p.y, b.y_min, b.y_max);
+    Pt { x: x, y: y }
+}
+
+fn is_same(p: Pt, q: Pt) -> bool
+    ensures { λ r. ⌜ r ≡ samePt p q ⌝ }
+{
+    let px = p.x;
+    let py = p.y;
+    let qx = q.x;
+    let qy = q.y;
+    (px == qx) & (py == qy)
+}
+
+fn is_strictly(a: i32, m: i32, b: i32) -> bool
+    ensures { λ r. ⌜ r ≡ strictly a m b ⌝ }
+{
+    ((a < m) & (m < b)) | ((b < m) & (m < a))
+}
+
+fn is_between(a: Pt, m: Pt, b: Pt) -> bool
+    ensures { λ r. ⌜ r ≡ between a m b ⌝ }
+{
+    let ax = a.x;
+    let ay = a.y;
+    let mx = m.x;
+    let my = m.y;
+    let bx = b.x;
+    let by = b.y;
+    let up = is_strictly(ay, my, by);
+    let along = is_strictly(ax, mx, bx);
+    ((ax == mx) & (mx == bx) & up) | ((ay == my) & (my == by) & along)
+}
+
+// Whether a point lies strictly outside an edge.
+fn is_outside(p: Pt, b: BBox) -> bool
+    ensures { λ r. ⌜ r ≡ outside b p ⌝ }
+{
+    let x = p.x;
+    let y = p.y;
+    let left = b.x_min;
+    let right = b.x_max;
+    let bottom = b.y_min;
+    let top = b.y_max;
+    (x < left) | (right < x) | (y < bottom) | (top < y)
+}
+
+// ---- writing
+// The parameter word of a step along x, and of one along y. Two points within the limit are less than 2^31 apart.
+fn step_x(from: Pt, to: Pt) -> u32
+    requires { ⌜ Coord from ⌝ }
+    requires { ⌜ Coord to ⌝ }
+    ensures { λ r. ⌜ r ≡ param (to .x -ℤ from .x) ⌝ }
+{
+    let d = ParamInt {
+        value: to.x - from.x,
+    };
+    d.encode()
+}
+
+fn step_y(from: Pt, to: Pt) -> u32
+    requires { ⌜ Coord from ⌝ }
+    requires { ⌜ Coord to ⌝ }
+    ensures { λ r. ⌜ r ≡ param (to .y -ℤ from .y) ⌝ }
+{
+    let d = ParamInt {
+        value: to.y - from.y,
+    };
+    d.encode()
+}
+
+fn write_steps(at: usize, from: Pt, to: Pt, words: &mut [u32])
+    requires { ⌜ at + 2 ≤ length (now words) ⌝ }
+    requires { ⌜ Coord from ⌝ }
+    requires { ⌜ Coord to ⌝ }
+    ensures { λ r. ⌜ now (words .exit) ≡ lay at (steps from to) (now (words .entry)) ⌝ }
+{
+    let dx = step_x(from, to);
+    let dy = step_y(from, to);
+    words[at] = dx;
+    words[at + 1] = dy;
+}
+
+// ---- one emission
+// The point is laid behind the last one.
+fn emit_onward(pen: Pen, q: Pt, words: &mut [u32]) -> Pen
+    requires { ⌜ Able 2 pen (length (now words)) ⌝ }
+    requires { ⌜ Coord q ⌝ }
+    ensures { λ r. ⌜ Gives (laid (onward pen q) (now (words .entry))) r (now (words .exit)) ⌝ }
+{
+    let raw = pen.raw;
+    let pt1 = pen.pt1;
+    let used = pen.used;
+    let count = pen.count;
+    write_steps(used, pt1, q, words);
+    Pen {
+        raw: raw,
+        pt0: pt1,
+        pt1: q,
+        count: count + 1,
+        used: used + 2,
+    }
+}
+
+// The last point is taken out: the new one is laid over it, from the one before.
+fn emit_over(pen: Pen, q: Pt, words: &mut [u32]) -> Pen
+    requires { ⌜ Able 2 pen (length (now words)) ⌝ }
+    requires { ⌜ Coord q ⌝ }
+    ensures { λ r. ⌜ Gives (laid (over pen q) (now (words .entry))) r (now (words .exit)) ⌝ }
+{
+    let raw = pen.raw;
+    let pt0 = pen.pt0;
+    let used = pen.used;
+    let count = pen.count;
+    write_steps(used - 2, pt0, q, words);
+    Pen {
+        raw: raw,
+        pt0: pt0,
+        pt1: q,
+        count: count,
+        used: used,
+    }
+}
+
+// Whether the last emitted point is taken out before b; only a ring asks.
+fn is_taken_out(ring: bool, a: Pt, m: Pt, b: Pt) -> bool
+    ensures { λ r. ⌜ r ≡ (ring && between a m b) ⌝ }
+{
+    if !ring {
+        return false;
+    }
+    is_between(a, m, b)
+}
+
+// A point of the box.
+fn emit(ring: bool, pen: Pen, q: Pt, words: &mut [u32]) -> Pen
+    requires { ⌜ Able 2 pen (length (now words)) ⌝ }
+    requires { ⌜ Coord q ⌝ }
+    ensures { λ r. ⌜ Gives (marked ring pen q (now (words .entry))) r (now (words .exit)) ⌝ }
+{
+    let pt0 = pen.pt0;
+    let pt1 = pen.pt1;
+    if is_same(pt1, q) {
+        return pen;
+    }
+    if is_taken_out(ring, pt0, pt1, q) {
+        return emit_over(pen, q, words);
+    }
+    emit_onward(pen, q, words)
+}
+
+// ---- a point and what it brings
+// The raw segment cut at the box. A good box and two coordinates are never refused.
+fn clip_raw(raw: Seg, bbox: BBox) -> Seg
+    requires { ⌜ isGood bbox ≡ true ⌝ }
+    requires { ⌜ areCoords raw ≡ true ⌝ }
+    ensures { λ r. ⌜ r ≡ clip bbox raw .seg ⌝ }
+{
+    match clip::clip(raw, bbox) {
+        Clipped::Done(c) => c.seg,
+        Clipped::Refused(_) => raw,
+    }
+}
+
+// An end of the segment, if the clip moved it.
+fn emit_moved(b: BBox, ring: bool, pen: Pen, raw: Pt, end: Pt, words: &mut [u32]) -> Pen
+    requires { ⌜ isGood b ≡ true ⌝ }
+    requires { ⌜ Able 2 pen (length (now words)) ⌝ }
+    ensures { λ r. ⌜ Gives (marks b ring pen (moved raw end) (now (words .entry))) r (now (words .exit)) ⌝ }
+{
+    if is_same(raw, end) {
+        return pen;
+    }
+    let q = make_point(end, b);
+    emit(ring, pen, q, words)
+}
+
+fn set_raw(pen: Pen, p: Pt) -> Pen
+    ensures { λ r. ⌜ r ≡ withRaw pen p ⌝ }
+{
+    let pt0 = pen.pt0;
+    let pt1 = pen.pt1;
+    Pen {
+        raw: p,
+        pt0: pt0,
+        pt1: pt1,
+        count: pen.count,
+        used: pen.used,
+    }
+}
+
+// Each end that the clip moved, in order.
+fn emit_ends(b: BBox, ring: bool, pen: Pen, raw: Seg, cut: Seg, words: &mut [u32]) -> Pen
+    requires { ⌜ isGood b ≡ true ⌝ }
+    requires { ⌜ Able 4 pen (length (now words)) ⌝ }
+    ensures { λ r. ⌜ Gives (marks b ring pen (movedEnds raw cut) (now (words .entry))) r (now (words .exit)) ⌝ }
+{
+    let p0 = raw.p0;
+    let p1 = raw.p1;
+    let c0 = cut.p0;
+    let c1 = cut.p1;
+    let first = emit_moved(b, ring, pen, p0, c0, words);
+    emit_moved(b, ring, first, p1, c1, words)
+}
+
+// A segment that has an end outside: each moved end, then the point itself.
+fn cross(b: BBox, ring: bool, pen: Pen, p: Pt, words: &mut [u32]) -> Pen
+    requires { ⌜ isGood b ≡ true ⌝ }
+    requires { ⌜ Steady pen (length (now words)) ⌝ }
+    requires { ⌜ isCoord p ≡ true ⌝ }
+    ensures { λ r. ⌜ Gives (drawnBy b ring pen p (now (words .entry))) r (now (words .exit)) ⌝ }
+{
+    let raw = pen.raw;
+    let seg = Seg { p0: raw, p1: p };
+    let cut = clip_raw(seg, b);
+    let ends = emit_ends(b, ring, pen, seg, cut, words);
+    let q = make_point(p, b);
+    let last = emit(ring, ends, q, words);
+    set_raw(last, p)
+}
+
+// A point, with what it brings. Most segments lie inside the box and bring nothing, so they are not clipped.
+fn draw(b: BBox, ring: bool, pen: Pen, p: Pt, words: &mut [u32]) -> Pen
+    requires { ⌜ isGood b ≡ true ⌝ }
+    requires { ⌜ Steady pen (length (now words)) ⌝ }
+    requires { ⌜ isCoord p ≡ true ⌝ }
+    ensures { λ r. ⌜ Gives (drawnBy b ring pen p (now (words .entry))) r (now (words .exit)) ⌝ }
+{
+    let raw = pen.raw;
+    let out0 = is_outside(raw, b);
+    let out1 = is_outside(p, b);
+    if out0 | out1 {
+        return cross(b, ring, pen, p, words);
+    }
+    let last = emit(ring, pen, p, words);
+    set_raw(last, p)
+}
+
+// ---- the state
+fn is_missing(m: MaybePt) -> bool
+    ensures { λ r. ⌜ r ≡ missing m ⌝ }
+{
+    match m {
+        MaybePt::Nowhere => true,
+        MaybePt::At(_) => false,
+    }
+}
+
+fn last_of(m: MaybePt) -> Pt
+    ensures { λ r. ⌜ r ≡ lastOf m ⌝ }
+{
+    match m {
+        MaybePt::Nowhere => Pt { x: 0, y: 0 },
+        MaybePt::At(p) => p,
+    }
+}
+
+// Whether a stretch starts from this state; what is cheap is asked first.
+fn is_start(s: GeomEncoder, length: usize) -> bool
+    ensures { λ r. ⌜ r ≡ isStart s length ⌝ }
+{
+    if s.kind == Geometry::POINT {
+        return false;
+    }
+    if s.count < 2 {
+        return false;
+    }
+    let xy_end = s.xy_end;
+    let pt0 = s.pt0;
+    let pt1 = s.pt1;
+    let a = is_missing(xy_end);
+    let b = is_missing(pt0);
+    let c = is_missing(pt1);
+    let valid = encoder::is_valid(s, length);
+    valid & !a & !b & !c
+}
+
+fn pen_of(s: GeomEncoder) -> Pen
+    ensures { λ r. ⌜ r ≡ penOf s ⌝ }
+{
+    let xy_end = s.xy_end;
+    let pt0 = s.pt0;
+    let pt1 = s.pt1;
+    let raw = last_of(xy_end);
+    let a = last_of(pt0);
+    let b = last_of(pt1);
+    Pen {
+        raw: raw,
+        pt0: a,
+        pt1: b,
+        count: s.count,
+        used: s.used,
+    }
+}
+
+fn state_of(s: GeomEncoder, pen: Pen) -> GeomEncoder
+    ensures { λ r. ⌜ r ≡ stateOf s pen ⌝ }
+{
+    let bbox = s.bbox;
+    let raw = pen.raw;
+    let pt0 = pen.pt0;
+    let pt1 = pen.pt1;
+    GeomEncoder {
+        kind: s.kind,
+        bbox: bbox,
+        xy_end: MaybePt::At(raw),
+        pt0: MaybePt::At(pt0),
+        pt1: MaybePt::At(pt1),
+        cmd_offset: s.cmd_offset,
+        count: pen.count,
+        used: pen.used,
+    }
+}
+
+// ---- the loop
+// Whether a point is taken: room for three emissions, and COORD, which no point of the box is refused for.
+fn is_plain(used: usize, room: usize, p: Pt, b: BBox) -> bool
+    requires { ⌜ isGood b ≡ true ⌝ }
+    requires { ⌜ used ≤ maxWords ⌝ }
+    ensures { λ r. ⌜ r ≡ (leb (used + 6) room && isCoord p) ⌝ }
+{
+    if room < used + 6 {
+        return false;
+    }
+    if is_outside(p, b) {
+        return BBox::is_coord(p);
+    }
+    true
+}
+
+fn draw_all(s: GeomEncoder, start: Pen, points: &[i32], from: usize, end: usize, words: &mut [u32]) -> Stretch
+    requires { ⌜ end ≤ length (now points) / 2 ⌝ }
+    requires { ⌜ isStart (stateOf s start) (length (now words)) ≡ true ⌝ }
+    ensures { λ r. ⌜ Gives (run (end - from) (now (points .entry)) from (stateOf s start) (now (words .entry))) r (now (words .exit)) ⌝ }
+{
+    let bbox = s.bbox;
+    let ring = s.kind == Geometry::POLYGON;
+    let room = Geometry::room(words.len());
+    let mut pen = start;
+    let mut i = from;
+    while i < end {
+        let x = points[2 * i];
+        let y = points[2 * i + 1];
+        let p = Pt { x: x, y: y };
+        if !is_plain(pen.used, room, p, bbox) {
+            return Stretch {
+                state: state_of(s, pen),
+                reached: i,
+            };
+        }
+        pen = draw(bbox, ring, pen, p, words);
+        i += 1;
+    }
+    Stretch {
+        state: state_of(s, pen),
+        reached: i,
+    }
+}
+
+fn last_point(length: usize, to: usize) -> usize
+    ensures { λ r. ⌜ r ≡ lastPoint length to ⌝ }
+{
+    if to <= length / 2 {
+        return to;
+    }
+    length / 2
+}
+
+// Adds the points from `from` on, up to the first that is not plain, or to `to`.
+pub fn add_stretch(s: GeomEncoder, points: &[i32], from: usize, to: usize, words: &mut [u32]) -> Stretch
+    ensures { λ r. ⌜ Gives (stretched s (now (points .entry)) from to (now (words .entry))) r (now (words .exit)) ⌝ }
+{
+    if !is_start(s, words.len()) {
+        return Stretch {
+            state: s,
+            reached: from,
+        };
+    }
+    let end = last_point(points.len(), to);
+    let pen = pen_of(s);
+    draw_all(s, pen, points, from, end, words)
+}
