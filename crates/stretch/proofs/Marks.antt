@@ -8,7 +8,7 @@ use mathlib.Core.Bool.{Bool, true, false, cond, not, _&&_, _||_}
 use mathlib.Core.List.{List, [], _∷_, _++_}
 use Prim.Native.Nat.{ℕ, _+_, _-_, _*_, _/_, _≤_}
 use native.Mathlib.Omega.{arith}
-use borrow.Author.Tests.{le-leb, ne-eqb}
+use borrow.Author.Tests.{le-leb, ne-eqb, not-true}
 use lib.Dec.{leb, eqb}
 use lib.ListN.{length, set, length-append}
 use lib.IntN.{_-ℤ_}
@@ -30,7 +30,8 @@ use Rattle.words.specs.Params.{param}
 use Rattle.encoder.proofs.Stores.{two-stores}
 use Rattle.encoder.proofs.Pushing.{clamped-coord}
 use Rattle.stretch.specs.declared.Pen.{Pen}
-use Rattle.stretch.specs.Pens.{stateOf, withRaw, Mark, still, onward, over, mark, laid, marked, marks, ends, drawnBy, Able}
+use Rattle.stretch.specs.declared.Brought.{Brought}
+use Rattle.stretch.specs.Pens.{stateOf, withRaw, Mark, still, onward, over, mark, laid, marked, marks, ends, brought, drawnBy, Able}
 use Rattle.stretch.proofs.Tests.{clamped-inside, made-coord, neither}
 
 -- ---- the returns of `emit`
@@ -107,31 +108,35 @@ ends-able m n ring pen a b g raw cut out =
     let w = marks b ring pen (moved (raw .p0) (cut .p0)) out in
     rw (marks-then b ring (moved (raw .p0) (cut .p0)) (moved (raw .p1) (cut .p1)) pen out) (moved-able m n ring (w .answer) f b g (raw .p1) (cut .p1) (w .memory))
 
--- ---- the returns of `draw` and `cross`
+-- ---- the returns of `bring`, and what `draw` asks and gives
 module _ (b : BBox) (ring : Bool) (pen : Pen) (p : Pt) (out : List ℕ) where
-  pub draw-inside : (t u : Bool) → t ≡ outside b (pen .raw) → u ≡ outside b p → (t || u) ≡ false → (last : Pen) (o : List ℕ) → Gives (marked ring pen p out) last o →
-      (r : Pen) → r ≡ withRaw last p → Gives (drawnBy b ring pen p out) r o
-  unfolding drawnBy
-  draw-inside t u e f h last o g r k =
-      let n : ends b (pen .raw) p ≡ [] = sym (inside-none (record { p0 = pen .raw; p1 = p }) b t u e f (ap not h)) in
-      let g′ : Gives (marked ring pen (clamped b p) out) last o = subst (λ (x : Pt). Gives (marked ring pen x out) last o) (sym (clamped-inside b p (sym f ∙ neither t u h .1))) g in
-      rw n (record { answer = k ∙ ap (λ (x : Pen). withRaw x p) (g′ .answer); memory = g′ .memory })
+  pub bring-none : (t u : Bool) → t ≡ outside b (pen .raw) → u ≡ outside b p → not (t || u) ≡ true → Gives (brought b ring pen p out) (record { pen = pen; at = p }) out
+  unfolding brought
+  bring-none t u e f h =
+      let n : ends b (pen .raw) p ≡ [] = sym (inside-none (record { p0 = pen .raw; p1 = p }) b t u e f h) in
+      let c = clamped-inside b p (sym f ∙ neither t u (not-true (t || u) h) .1) in
+      rw n (record { answer = λ i. record { pen = pen; at = sym c i }; memory = refl })
 
-  module _ (cut : Seg) (c : cut ≡ clip b (record { p0 = pen .raw; p1 = p }) .seg) (after : Pen) (o : List ℕ) (g : Gives (marks b ring pen (movedEnds (record { p0 = pen .raw; p1 = p }) cut) out) after o) where
-    pub cut-asked : isGood b ≡ true → Able 6 pen (length out) → length o ≡ length out → (q : Pt) → q ≡ clamped b p → Able 2 after (length o) × Coord q
-    cut-asked h a e q f =
-        let r : Able 2 after (length out) = subst (λ (x : Pen). Able 2 x (length out)) (sym (g .answer)) (ends-able 2 (length out) ring pen a b h (record { p0 = pen .raw; p1 = p }) cut out) in
-        (rw e r, made-coord b p q h f)
+  pub bring-ends : (cut : Seg) → cut ≡ clip b (record { p0 = pen .raw; p1 = p }) .seg → (after : Pen) (o : List ℕ) → Gives (marks b ring pen (movedEnds (record { p0 = pen .raw; p1 = p }) cut) out) after o →
+      (q : Pt) → q ≡ clamped b p → Gives (brought b ring pen p out) (record { pen = after; at = q }) o
+  unfolding brought
+  bring-ends cut c after o g q f =
+      let g′ : Gives (marks b ring pen (ends b (pen .raw) p) out) after o = subst (λ (x : Seg). Gives (marks b ring pen (movedEnds (record { p0 = pen .raw; p1 = p }) x) out) after o) c g in
+      record { answer = λ i. record { pen = g′ .answer i; at = f i }; memory = g′ .memory }
 
-    pub draw-cut : (q : Pt) → q ≡ clamped b p → (last : Pen) (m : List ℕ) → Gives (marked ring after q o) last m → (r : Pen) → r ≡ withRaw last p → Gives (drawnBy b ring pen p out) r m
-    unfolding drawnBy
-    draw-cut q f last m d r k =
-        let d′ : Gives (marked ring after (clamped b p) o) last m = subst (λ (x : Pt). Gives (marked ring after x o) last m) f d in
-        let w : marks b ring pen (ends b (pen .raw) p ++ (p ∷ [])) out ≡ marked ring after (clamped b p) o =
-        marks-then b ring (ends b (pen .raw) p) (p ∷ []) pen out ∙
-        ap (λ (x : Written Pen (List ℕ)). marks b ring (x .answer) (p ∷ []) (x .memory))
-        (ap (λ (x : Seg). marks b ring pen (movedEnds (record { p0 = pen .raw; p1 = p }) x) out) (sym c) ∙ (λ i. kept (sym (g .answer) i) (sym (g .memory) i))) in
-        rw w (record { answer = k ∙ ap (λ (x : Pen). withRaw x p) (d′ .answer); memory = d′ .memory })
+  module _ (r : Brought) (o : List ℕ) (g : Gives (brought b ring pen p out) r o) where
+    pub draw-asks : isGood b ≡ true → Able 6 pen (length out) → length o ≡ length out → Able 2 (r .pen) (length o) × Coord (r .at)
+    unfolding brought
+    draw-asks h a e =
+        let x : Able 2 (r .pen) (length out) = subst (λ (x : Brought). Able 2 (x .pen) (length out)) (sym (g .answer)) (ends-able 2 (length out) ring pen a b h (record { p0 = pen .raw; p1 = p }) (clip b (record { p0 = pen .raw; p1 = p }) .seg) out) in
+        (rw e x, made-coord b p (r .at) h (ap (λ (x : Brought). x .at) (g .answer)))
+
+    pub draw-gives : (last : Pen) (m : List ℕ) → Gives (marked ring (r .pen) (r .at) o) last m → (s : Pen) → s ≡ withRaw last p → Gives (drawnBy b ring pen p out) s m
+    unfolding drawnBy brought
+    draw-gives last m d s k =
+        let w : marks b ring pen (ends b (pen .raw) p ++ (p ∷ [])) out ≡ marked ring (r .pen) (r .at) o =
+        marks-then b ring (ends b (pen .raw) p) (p ∷ []) pen out ∙ (λ i. marked ring (sym (g .answer) i .pen) (sym (g .answer) i .at) (sym (g .memory) i)) in
+        rw w (record { answer = k ∙ ap (λ (x : Pen). withRaw x p) (d .answer); memory = d .memory })
 
 -- ---- a pen's emission is the state's
 abbrev emissionOf : GeomEncoder → Mark → Emission

@@ -17,6 +17,7 @@ use Rattle.encoder.specs.declared.GeomEncoder.{GeomEncoder}
 use Rattle.encoder.specs.Emitting.{clamped, samePt, between, lastOf, steps}
 use Rattle.encoder.specs.Adding.{movedEnds}
 use Rattle.stretch.specs.declared.Pen.{Pen}
+use Rattle.stretch.specs.declared.Brought.{Brought}
 
 abbrev pub penOf : GeomEncoder → Pen
 penOf s = record { raw = lastOf (s .«xy_end»); pt0 = lastOf (s .pt0); pt1 = lastOf (s .pt1); count = s .count; used = s .used }
@@ -61,6 +62,12 @@ marks b ring pen (p ∷ ps) out = marks b ring (marked ring pen (clamped b p) ou
 
 abbrev pub ends : BBox → Pt → Pt → List Pt
 ends b raw p = movedEnds (record { p0 = raw; p1 = p }) (clip b (record { p0 = raw; p1 = p }) .seg)
+
+-- what a point brings before itself, and where it is emitted
+unfoldable pub brought : BBox → Bool → Pen → Pt → List ℕ → Written Brought (List ℕ)
+brought b ring pen p out =
+    let w : Written Pen (List ℕ) = marks b ring pen (ends b (pen .raw) p) out in
+    record { answer = record { pen = w .answer; at = clamped b p }; memory = w .memory }
 
 unfoldable pub drawnBy : BBox → Bool → Pen → Pt → List ℕ → Written Pen (List ℕ)
 drawnBy b ring pen p out =

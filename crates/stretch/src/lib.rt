@@ -18,7 +18,7 @@ ghost use Rattle.encoder.specs.Emitting.{clampTo, clamped, samePt, strictly, be
 ghost use Rattle.encoder.specs.Adding.{moved, movedEnds};
 ghost use Rattle.encoder.specs.Planning.{outside, missing};
 ghost use Rattle.stretch.specs.Stretches.{isStart, run, lastPoint, stretched};
-ghost use Rattle.stretch.specs.Pens.{penOf, stateOf, withRaw, onward, over, laid, mark, marked, marks, drawnBy, Able, Steady};
+ghost use Rattle.stretch.specs.Pens.{penOf, stateOf, withRaw, onward, over, laid, mark, marked, marks, brought, drawnBy, Able, Steady};
 use clip::BBox;
 use clip::Clipped;
 use clip::Pt;
@@ -40,6 +40,12 @@ struct Pen {
     pt1: Pt,
     count: u32,
     used: usize,
+}
+
+// The pen before a point is emitted, and the place that it is emitted at.
+struct Brought {
+    pen: Pen,
+    at: Pt,
 }
 
 // ---- points
@@ -264,36 +270,37 @@ fn emit_ends(b: BBox, ring: bool, pen: Pen, raw: Seg, cut: Seg, words: &mut [u32
     emit_moved(b, ring, first, p1, c1, words)
 }
 
-// A segment that has an end outside: each moved end, then the point itself.
-fn cross(b: BBox, ring: bool, pen: Pen, p: Pt, words: &mut [u32]) -> Pen
+// What a point brings before itself, and the place of the box that it is emitted at. Most segments lie inside the box and bring nothing, so they are not clipped.
+fn bring(b: BBox, ring: bool, pen: Pen, p: Pt, words: &mut [u32]) -> Brought
     requires { ⌜ isGood b ≡ true ⌝ }
     requires { ⌜ Steady pen (length (now words)) ⌝ }
     requires { ⌜ isCoord p ≡ true ⌝ }
-    ensures { λ r. ⌜ Gives (drawnBy b ring pen p (now (words .entry))) r (now (words .exit)) ⌝ }
+    ensures { λ r. ⌜ Gives (brought b ring pen p (now (words .entry))) r (now (words .exit)) ⌝ }
 {
     let raw = pen.raw;
+    let out0 = is_outside(raw, b);
+    let out1 = is_outside(p, b);
+    if !(out0 | out1) {
+        return Brought { pen: pen, at: p };
+    }
     let seg = Seg { p0: raw, p1: p };
     let cut = clip_raw(seg, b);
     let ends = emit_ends(b, ring, pen, seg, cut, words);
     let q = make_point(p, b);
-    let last = emit(ring, ends, q, words);
-    set_raw(last, p)
+    Brought { pen: ends, at: q }
 }
 
-// A point, with what it brings. Most segments lie inside the box and bring nothing, so they are not clipped.
+// A point, with what it brings.
 fn draw(b: BBox, ring: bool, pen: Pen, p: Pt, words: &mut [u32]) -> Pen
     requires { ⌜ isGood b ≡ true ⌝ }
     requires { ⌜ Steady pen (length (now words)) ⌝ }
     requires { ⌜ isCoord p ≡ true ⌝ }
     ensures { λ r. ⌜ Gives (drawnBy b ring pen p (now (words .entry))) r (now (words .exit)) ⌝ }
 {
-    let raw = pen.raw;
-    let out0 = is_outside(raw, b);
-    let out1 = is_outside(p, b);
-    if out0 | out1 {
-        return cross(b, ring, pen, p, words);
-    }
-    let last = emit(ring, pen, p, words);
+    let before = bring(b, ring, pen, p, words);
+    let ends = before.pen;
+    let q = before.at;
+    let last = emit(ring, ends, q, words);
     set_raw(last, p)
 }
 

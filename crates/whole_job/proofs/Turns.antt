@@ -124,7 +124,7 @@ module _ (l : List ℤ) (from to : ℕ) (out₀ : List ℕ) (s : GeomEncoder) (o
     opened : go (partCalls (part (pointsOf l) from to)) from s out₀ ≡ go (add (pointIn l i) ∷ partCalls (part (pointsOf l) (i + 1) to)) i q out
     opened = I .rest ∙ rw (part-more l i to h k)
 
-    add-turn : (t : GeomEncoder) → r ≡ Done t → length o ≡ length out → Adding l from to out₀ s o t (i + 1)
+    pub add-turn : (t : GeomEncoder) → r ≡ Done t → length o ≡ length out → Adding l from to out₀ s o t (i + 1)
     add-turn t e f = one-more l from to out₀ s k i q t out o h (rw e at given) f I
 
     pub add-more : (t : GeomEncoder) → r ≡ Done t → length o ≡ length out → (x : Stretch) (y : List ℕ) → Gives (stretched t l (i + 1) to o) x y →

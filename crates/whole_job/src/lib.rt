@@ -45,7 +45,7 @@ fn is_job(points: &[i32], ends: &[u32]) -> bool
     from == points.len() / 2
 }
 
-// Adds the points of one part and completes it: one point by itself, which may be any, then a stretch of those that are plain.
+// Adds the points of one part and completes it: one point by itself, which may be any, then a stretch of those that are plain. None starts before a part has two points.
 fn add_part(s: GeomEncoder, points: &[i32], from: usize, to: usize, words: &mut [u32]) -> Course
     requires { ⌜ from ≤ to ⌝ }
     requires { ⌜ to ≤ length (now points) / 2 ⌝ }
@@ -60,7 +60,11 @@ fn add_part(s: GeomEncoder, points: &[i32], from: usize, to: usize, words: &mut 
             Drawn::Done(t) => q = t,
             Drawn::Refused(r, _) => return Course::Off(r, i),
         }
-        let plain = stretch::add_stretch(q, points, i + 1, to, words);
+        i += 1;
+        if q.count < 2 {
+            continue;
+        }
+        let plain = stretch::add_stretch(q, points, i, to, words);
         q = plain.state;
         i = plain.reached;
     }

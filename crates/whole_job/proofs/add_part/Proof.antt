@@ -1,7 +1,7 @@
 -- What is left of the part, from the state and the list that there are, gives the rest of the answer, after a point and after a stretch; then completing.
 use native.Mathlib.Omega.{arith}
 use Prim.Native.Nat.{_-_}
-use Rattle.whole_job.proofs.Turns.{Adding, add-start, add-more, add-stop, part-done, part-stop}
+use Rattle.whole_job.proofs.Turns.{Adding, add-start, add-turn, add-more, add-stop, part-done, part-stop}
 use borrow.Author.Needs.{needs}
 use Rattle.whole_job.proofs.add_part.Statement.{statement}
 use Rattle.whole_job.proofs.add_part.Tie as tie
@@ -56,30 +56,41 @@ returns c =
     add-stop _ _ _ _ _ _ _ _ (turn .before .loop .inv) (turn .loop-test .taken) (turn .before .before .before .pre .1) (added .add-point .result) _ (x .x .given) (added .before .before .y .given)
     (added .add-point .ensures) _ _ (c .before .r .given .1)
 
-add-add-stretch : tie.Need-add-add-stretch Inv-loop μ-loop
-add-add-stretch c = search needs
+add-i : tie.Need-add-i Inv-loop μ-loop
+add-i c = search needs
+
+loop-less : tie.Need-loop-less Inv-loop μ-loop
+loop-less c = search needs
+
+loop-again : tie.Need-loop-again Inv-loop μ-loop
+loop-again c =
+    let point = c .before .before .before .before .before .before .before in
+    let x = point .before .before .before in
+    let turn = x .before in
+    add-turn _ _ _ _ _ _ _ _ (turn .before .loop .inv) (turn .loop-test .taken) (turn .before .before .before .pre .1) (point .add-point .result) _ (x .x .given) (point .before .before .y .given)
+    (point .add-point .ensures) _ (c .before .before .before .t .given .1) (search needs)
 
 add-stretch-requires : tie.Need-add-stretch-requires Inv-loop μ-loop
 add-stretch-requires c κs = search needs
 
-loop-less : tie.Need-loop-less Inv-loop μ-loop
-loop-less c =
-    let point = c .before .before .before .before .before .before .before .before .before .before in
+loop-less-2 : tie.Need-loop-less-2 Inv-loop μ-loop
+loop-less-2 c =
+    let point = c .before .before .before .before .before .before .before .before .before .before .before .before in
     let x = point .before .before .before in
     let turn = x .before in
     let more =
     add-more _ _ _ _ _ _ _ _ (turn .before .loop .inv) (turn .loop-test .taken) (turn .before .before .before .pre .1) (point .add-point .result) _ (x .x .given) (point .before .before .y .given)
-    (point .add-point .ensures) _ (c .before .before .before .before .before .before .t .given .1) (search needs) _ _ (c .before .before .before .add-stretch .ensures) in
+    (point .add-point .ensures) _ (c .before .before .before .before .before .before .before .before .t .given .1) (search needs) _ _ (c .before .before .before .add-stretch .ensures) in
     omega (arith, more .1, turn .loop-test .taken)
 
-loop-again : tie.Need-loop-again Inv-loop μ-loop
-loop-again c =
-    let point = c .before .before .before .before .before .before .before .before .before .before in
+loop-again-2 : tie.Need-loop-again-2 Inv-loop μ-loop
+loop-again-2 c =
+    let point = c .before .before .before .before .before .before .before .before .before .before .before .before in
     let x = point .before .before .before in
     let turn = x .before in
     let more =
     add-more _ _ _ _ _ _ _ _ (turn .before .loop .inv) (turn .loop-test .taken) (turn .before .before .before .pre .1) (point .add-point .result) _ (x .x .given) (point .before .before .y .given)
-    (point .add-point .ensures) _ (c .before .before .before .before .before .before .t .given .1) (search needs) _ _ (c .before .before .before .add-stretch .ensures) in
+    (point .add-point .ensures) _ (c .before .before .before .before .before .before .before .before .t .given .1) (search needs) _ _ (c .before .before .before .add-stretch .ensures) in
     more .0
 
 complete-geom-requires : tie.Need-complete-geom-requires Inv-loop μ-loop
@@ -122,10 +133,12 @@ add-part-spec =
     enum-known-r
     same-length
     returns
-    add-add-stretch
-    add-stretch-requires
+    add-i
     loop-less
     loop-again
+    add-stretch-requires
+    loop-less-2
+    loop-again-2
     complete-geom-requires
     enum-known-t-2
     enum-known-r-2
