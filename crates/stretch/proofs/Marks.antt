@@ -1,5 +1,5 @@
 -- Laws of a pen's emissions: what they ask, what they keep, and that they are the state's emissions.
---     marked-able moved-able          what is asked of a pen, after one emission and after an end that may have moved
+--     marked-able if-able ends-able   what is asked of a pen, after one emission and after ends that may have moved
 --     marks-then                      emissions after emissions
 --     mark-is marks-emitted           a pen's emissions are the state's
 --     marks-used                      at most two words for each
@@ -8,7 +8,7 @@ use mathlib.Core.Bool.{Bool, true, false, cond, not, _&&_, _||_}
 use mathlib.Core.List.{List, [], _∷_, _++_}
 use Prim.Native.Nat.{ℕ, _+_, _-_, _*_, _/_, _≤_}
 use native.Mathlib.Omega.{arith}
-use borrow.Author.Tests.{le-leb, ne-eqb, not-true}
+use borrow.Author.Tests.{le-leb, ne-eqb}
 use lib.Dec.{leb, eqb}
 use lib.ListN.{length, set, length-append}
 use lib.IntN.{_-ℤ_}
@@ -18,21 +18,22 @@ use Rattle.promise.proofs.Laying.{lay-nothing}
 use Rattle.clip.specs.declared.Pt.{Pt}
 use Rattle.clip.specs.declared.Seg.{Seg}
 use Rattle.clip.specs.declared.BBox.{BBox}
-use Rattle.clip.specs.Domain.{isGood}
+use Rattle.clip.specs.Domain.{isCoord, isGood}
+use Rattle.clip.specs.Answer.{areCoords}
 use Rattle.clip.specs.Facts.{Coord}
 use Rattle.clip.specs.Cutting.{clip}
 use Rattle.encoder.specs.declared.GeomEncoder.{GeomEncoder}
 use Rattle.encoder.specs.Emitting.{Emission, clamped, samePt, between, command, steps, popped, skipped, pushed, emittedAt, emission}
 use Rattle.encoder.specs.Adding.{moved, movedEnds, emitted}
 use Rattle.encoder.specs.Planning.{outside}
+use Rattle.clip.proofs.Callers.{coord-facts, clip-within}
+use Rattle.encoder.proofs.States.{both}
 use Rattle.encoder.proofs.Boundaries.{inside-none}
 use Rattle.words.specs.Params.{param}
 use Rattle.encoder.proofs.Stores.{two-stores}
-use Rattle.encoder.proofs.Pushing.{clamped-coord}
 use Rattle.stretch.specs.declared.Pen.{Pen}
-use Rattle.stretch.specs.declared.Brought.{Brought}
-use Rattle.stretch.specs.Pens.{stateOf, withRaw, Mark, still, onward, over, mark, laid, marked, marks, ends, brought, drawnBy, Able}
-use Rattle.stretch.proofs.Tests.{clamped-inside, made-coord, neither}
+use Rattle.stretch.specs.Pens.{stateOf, withRaw, Mark, still, onward, over, mark, laid, marked, markedIf, markedEnds, marks, ends, drawnBy, Able}
+use Rattle.stretch.proofs.Tests.{clamped-inside, made-coord, fixed0, fixed1, neither}
 
 -- ---- the returns of `emit`
 module _ (ring : Bool) (pen : Pen) (q : Pt) (out : List ℕ) (t : Bool) (e : t ≡ samePt (pen .pt1) q) where
@@ -63,22 +64,23 @@ module _ (m n : ℕ) (ring : Bool) (pen : Pen) (a : Able (m + 2) pen n) where
       by false true = record { room = omega (arith, a .room); few = omega (arith, a .few); two = a .two; counted = a .counted; at0 = a .at0; at1 = c }
       by false false = record { room = omega (arith, a .room); few = omega (arith, a .few); two = omega (arith, a .two); counted = omega (arith, a .counted); at0 = a .at1; at1 = c }
 
-  pub moved-able : (b : BBox) → isGood b ≡ true → (raw end : Pt) (out : List ℕ) → Able m (marks b ring pen (moved raw end) out .answer) n
-  moved-able b g raw end out = by (samePt raw end)
+  pub if-able : (raw end : Pt) (out : List ℕ) → isCoord end ≡ true → Able m (markedIf ring pen raw end out .answer) n
+  unfolding markedIf
+  if-able raw end out c = by (samePt raw end)
     where
-      by : (t : Bool) → Able m (marks b ring pen (cond t [] (end ∷ [])) out .answer) n
+      by : (t : Bool) → Able m (cond t (kept pen out) (marked ring pen end out) .answer) n
       by true = less (omega arith) a
-      by false = marked-able (clamped b end) out (clamped-coord b end g)
+      by false = marked-able end out (coord-facts c)
 
 -- ---- the returns of `emit_moved`
-module _ (b : BBox) (ring : Bool) (pen : Pen) (raw end : Pt) (out : List ℕ) (t : Bool) (e : t ≡ samePt raw end) where
-  pub moved-none : t ≡ true → Gives (marks b ring pen (moved raw end) out) pen out
+module _ (ring : Bool) (pen : Pen) (raw end : Pt) (out : List ℕ) (t : Bool) (e : t ≡ samePt raw end) where
+  pub moved-none : t ≡ true → Gives (markedIf ring pen raw end out) pen out
+  unfolding markedIf
   moved-none h = rw (sym e ∙ h) (record { answer = refl; memory = refl })
 
-  pub moved-some : t ≡ false → (q : Pt) → q ≡ clamped b end → (r : Pen) (o : List ℕ) → Gives (marked ring pen q out) r o → Gives (marks b ring pen (moved raw end) out) r o
-  moved-some h q f r o g =
-      let g′ : Gives (marked ring pen (clamped b end) out) r o = subst (λ (x : Pt). Gives (marked ring pen x out) r o) f g in
-      rw (sym e ∙ h) (record { answer = g′ .answer; memory = g′ .memory })
+  pub moved-some : t ≡ false → (r : Pen) (o : List ℕ) → Gives (marked ring pen end out) r o → Gives (markedIf ring pen raw end out) r o
+  unfolding markedIf
+  moved-some h r o g = rw (sym e ∙ h) g
 
 -- ---- emissions after emissions
 pub marks-then : (b : BBox) (ring : Bool) (ps qs : List Pt) (pen : Pen) (out : List ℕ) →
@@ -87,56 +89,81 @@ marks-then b ring [] qs pen out = refl
 marks-then b ring (p ∷ ps) qs pen out = marks-then b ring ps qs (marked ring pen (clamped b p) out .answer) (marked ring pen (clamped b p) out .memory)
 
 -- ---- what `emit_ends` asks and gives
-module _ (b : BBox) (ring : Bool) (pen : Pen) (raw cut : Seg) (out : List ℕ) (first : Pen) (o : List ℕ) (g : Gives (marks b ring pen (moved (raw .p0) (cut .p0)) out) first o) where
-  pub ends-asked : isGood b ≡ true → Able 4 pen (length out) → length o ≡ length out → (isGood b ≡ true) × Able 2 first (length o)
-  ends-asked h a e =
-      let r : Able 2 first (length out) = subst (λ (x : Pen). Able 2 x (length out)) (sym (g .answer)) (moved-able 2 (length out) ring pen a b h (raw .p0) (cut .p0) out) in
-      (h, rw e r)
+pub two-coords : (s : Seg) → areCoords s ≡ true → (isCoord (s .p0) ≡ true) × (isCoord (s .p1) ≡ true)
+two-coords s e = both (isCoord (s .p0)) (isCoord (s .p1)) e
 
-  pub ends-both : (second : Pen) (m : List ℕ) → Gives (marks b ring first (moved (raw .p1) (cut .p1)) o) second m → Gives (marks b ring pen (movedEnds raw cut) out) second m
-  ends-both second m d =
-      let w : marks b ring pen (movedEnds raw cut) out ≡ kept second m =
-      marks-then b ring (moved (raw .p0) (cut .p0)) (moved (raw .p1) (cut .p1)) pen out ∙
-      (λ i. marks b ring (sym (g .answer) i) (moved (raw .p1) (cut .p1)) (sym (g .memory) i)) ∙ (λ i. kept (sym (d .answer) i) (sym (d .memory) i)) in
-      rw w (record { answer = refl; memory = refl })
+module _ (ring : Bool) (pen : Pen) (raw cut : Seg) (out : List ℕ) (c : areCoords cut ≡ true) where
+  module _ (first : Pen) (o : List ℕ) (g : Gives (markedIf ring pen (raw .p0) (cut .p0) out) first o) where
+    pub second-asked : Able 4 pen (length out) → length o ≡ length out → Able 2 first (length o) × (isCoord (cut .p1) ≡ true)
+    second-asked a e =
+        let r : Able 2 first (length out) = subst (λ (x : Pen). Able 2 x (length out)) (sym (g .answer)) (if-able 2 (length out) ring pen a (raw .p0) (cut .p0) out (two-coords cut c .0)) in
+        (rw e r, two-coords cut c .1)
 
--- the two ends
-ends-able : (m n : ℕ) (ring : Bool) (pen : Pen) → Able (m + 4) pen n → (b : BBox) → isGood b ≡ true → (raw cut : Seg) (out : List ℕ) → Able m (marks b ring pen (movedEnds raw cut) out .answer) n
-ends-able m n ring pen a b g raw cut out =
+    pub ends-both : (second : Pen) (m : List ℕ) → Gives (markedIf ring first (raw .p1) (cut .p1) o) second m → Gives (markedEnds ring pen raw cut out) second m
+    unfolding markedEnds
+    ends-both second m d =
+        let w : markedIf ring (markedIf ring pen (raw .p0) (cut .p0) out .answer) (raw .p1) (cut .p1) (markedIf ring pen (raw .p0) (cut .p0) out .memory) ≡ kept second m =
+        (λ i. markedIf ring (sym (g .answer) i) (raw .p1) (cut .p1) (sym (g .memory) i)) ∙ (λ i. kept (sym (d .answer) i) (sym (d .memory) i)) in
+        rw w (record { answer = refl; memory = refl })
+
+ends-able : (m n : ℕ) (ring : Bool) (pen : Pen) → Able (m + 4) pen n → (raw cut : Seg) (out : List ℕ) → areCoords cut ≡ true → Able m (markedEnds ring pen raw cut out .answer) n
+unfolding markedEnds
+ends-able m n ring pen a raw cut out c =
     let a′ : Able (m + 2 + 2) pen n = less (omega arith) a in
-    let f = moved-able (m + 2) n ring pen a′ b g (raw .p0) (cut .p0) out in
-    let w = marks b ring pen (moved (raw .p0) (cut .p0)) out in
-    rw (marks-then b ring (moved (raw .p0) (cut .p0)) (moved (raw .p1) (cut .p1)) pen out) (moved-able m n ring (w .answer) f b g (raw .p1) (cut .p1) (w .memory))
+    let w = markedIf ring pen (raw .p0) (cut .p0) out in
+    if-able m n ring (w .answer) (if-able (m + 2) n ring pen a′ (raw .p0) (cut .p0) out (two-coords cut c .0)) (raw .p1) (cut .p1) (w .memory) (two-coords cut c .1)
 
--- ---- the returns of `bring`, and what `draw` asks and gives
+-- ---- a moved end is not clamped, so the two ends are emitted as the definition says
+module _ (b : BBox) (ring : Bool) where
+  if-is : (pen : Pen) (raw end : Pt) (out : List ℕ) → (samePt raw end ≡ false → clamped b end ≡ end) → marks b ring pen (moved raw end) out ≡ markedIf ring pen raw end out
+  unfolding markedIf
+  if-is pen raw end out f = by (samePt raw end) refl
+    where
+      by : (t : Bool) → samePt raw end ≡ t → marks b ring pen (cond t [] (end ∷ [])) out ≡ cond t (kept pen out) (marked ring pen end out)
+      by true e = refl
+      by false e = ap (λ (q : Pt). marked ring pen q out) (f e)
+
+  ends-is : (pen : Pen) (s : Seg) (out : List ℕ) → isGood b ≡ true → marks b ring pen (movedEnds s (clip b s .seg)) out ≡ markedEnds ring pen s (clip b s .seg) out
+  unfolding markedEnds
+  ends-is pen s out g =
+      let cut = clip b s .seg in
+      let w = markedIf ring pen (s .p0) (cut .p0) out in
+      marks-then b ring (moved (s .p0) (cut .p0)) (moved (s .p1) (cut .p1)) pen out ∙
+      ap (λ (x : Written Pen (List ℕ)). marks b ring (x .answer) (moved (s .p1) (cut .p1)) (x .memory)) (if-is pen (s .p0) (cut .p0) out (fixed0 b s g)) ∙
+      if-is (w .answer) (s .p1) (cut .p1) (w .memory) (fixed1 b s g)
+
+-- ---- the returns of `draw` and `cross`
 module _ (b : BBox) (ring : Bool) (pen : Pen) (p : Pt) (out : List ℕ) where
-  pub bring-none : (t u : Bool) → t ≡ outside b (pen .raw) → u ≡ outside b p → not (t || u) ≡ true → Gives (brought b ring pen p out) (record { pen = pen; at = p }) out
-  unfolding brought
-  bring-none t u e f h =
-      let n : ends b (pen .raw) p ≡ [] = sym (inside-none (record { p0 = pen .raw; p1 = p }) b t u e f h) in
-      let c = clamped-inside b p (sym f ∙ neither t u (not-true (t || u) h) .1) in
-      rw n (record { answer = λ i. record { pen = pen; at = sym c i }; memory = refl })
+  pub draw-inside : (t : Bool) → t ≡ (outside b (pen .raw) || outside b p) → t ≡ false → (last : Pen) (o : List ℕ) → Gives (marked ring pen p out) last o →
+      (r : Pen) → r ≡ withRaw last p → Gives (drawnBy b ring pen p out) r o
+  unfolding drawnBy
+  draw-inside t e h last o g r k =
+      let f : (outside b (pen .raw) || outside b p) ≡ false = sym e ∙ h in
+      let n : ends b (pen .raw) p ≡ [] = sym (inside-none (record { p0 = pen .raw; p1 = p }) b (outside b (pen .raw)) (outside b p) refl refl (ap not f)) in
+      let g′ : Gives (marked ring pen (clamped b p) out) last o = subst (λ (x : Pt). Gives (marked ring pen x out) last o) (sym (clamped-inside b p (neither (outside b (pen .raw)) (outside b p) f .1))) g in
+      rw n (record { answer = k ∙ ap (λ (x : Pen). withRaw x p) (g′ .answer); memory = g′ .memory })
 
-  pub bring-ends : (cut : Seg) → cut ≡ clip b (record { p0 = pen .raw; p1 = p }) .seg → (after : Pen) (o : List ℕ) → Gives (marks b ring pen (movedEnds (record { p0 = pen .raw; p1 = p }) cut) out) after o →
-      (q : Pt) → q ≡ clamped b p → Gives (brought b ring pen p out) (record { pen = after; at = q }) o
-  unfolding brought
-  bring-ends cut c after o g q f =
-      let g′ : Gives (marks b ring pen (ends b (pen .raw) p) out) after o = subst (λ (x : Seg). Gives (marks b ring pen (movedEnds (record { p0 = pen .raw; p1 = p }) x) out) after o) c g in
-      record { answer = λ i. record { pen = g′ .answer i; at = f i }; memory = g′ .memory }
+  module _ (h : isGood b ≡ true) (cut : Seg) (c : cut ≡ clip b (record { p0 = pen .raw; p1 = p }) .seg) where
+    pub ends-asked : (n : ℕ) → Able 6 pen n → areCoords (record { p0 = pen .raw; p1 = p }) ≡ true → Able 4 pen n × (areCoords cut ≡ true)
+    ends-asked n a e = (less {m = 6} (omega arith) a, rw c (clip-within b (record { p0 = pen .raw; p1 = p }) h e))
 
-  module _ (r : Brought) (o : List ℕ) (g : Gives (brought b ring pen p out) r o) where
-    pub draw-asks : isGood b ≡ true → Able 6 pen (length out) → length o ≡ length out → Able 2 (r .pen) (length o) × Coord (r .at)
-    unfolding brought
-    draw-asks h a e =
-        let x : Able 2 (r .pen) (length out) = subst (λ (x : Brought). Able 2 (x .pen) (length out)) (sym (g .answer)) (ends-able 2 (length out) ring pen a b h (record { p0 = pen .raw; p1 = p }) (clip b (record { p0 = pen .raw; p1 = p }) .seg) out) in
-        (rw e x, made-coord b p (r .at) h (ap (λ (x : Brought). x .at) (g .answer)))
+    module _ (after : Pen) (o : List ℕ) (g : Gives (markedEnds ring pen (record { p0 = pen .raw; p1 = p }) cut out) after o) where
+      pub cut-asked : areCoords (record { p0 = pen .raw; p1 = p }) ≡ true → Able 6 pen (length out) → length o ≡ length out → (q : Pt) → q ≡ clamped b p → Able 2 after (length o) × Coord q
+      cut-asked x a e q f =
+          let y : areCoords cut ≡ true = ends-asked (length out) a x .1 in
+          let r : Able 2 after (length out) = subst (λ (x : Pen). Able 2 x (length out)) (sym (g .answer)) (ends-able 2 (length out) ring pen a (record { p0 = pen .raw; p1 = p }) cut out y) in
+          (rw e r, made-coord b p q h f)
 
-    pub draw-gives : (last : Pen) (m : List ℕ) → Gives (marked ring (r .pen) (r .at) o) last m → (s : Pen) → s ≡ withRaw last p → Gives (drawnBy b ring pen p out) s m
-    unfolding drawnBy brought
-    draw-gives last m d s k =
-        let w : marks b ring pen (ends b (pen .raw) p ++ (p ∷ [])) out ≡ marked ring (r .pen) (r .at) o =
-        marks-then b ring (ends b (pen .raw) p) (p ∷ []) pen out ∙ (λ i. marked ring (sym (g .answer) i .pen) (sym (g .answer) i .at) (sym (g .memory) i)) in
-        rw w (record { answer = k ∙ ap (λ (x : Pen). withRaw x p) (d .answer); memory = d .memory })
+      pub draw-cut : (q : Pt) → q ≡ clamped b p → (last : Pen) (m : List ℕ) → Gives (marked ring after q o) last m → (r : Pen) → r ≡ withRaw last p → Gives (drawnBy b ring pen p out) r m
+      unfolding drawnBy
+      draw-cut q f last m d r k =
+          let s : Seg = record { p0 = pen .raw; p1 = p } in
+          let d′ : Gives (marked ring after (clamped b p) o) last m = subst (λ (x : Pt). Gives (marked ring after x o) last m) f d in
+          let v : marks b ring pen (ends b (pen .raw) p) out ≡ kept after o =
+          ends-is b ring pen (record { p0 = pen .raw; p1 = p }) out h ∙ ap (λ (x : Seg). markedEnds ring pen (record { p0 = pen .raw; p1 = p }) x out) (sym c) ∙ (λ i. kept (sym (g .answer) i) (sym (g .memory) i)) in
+          let w : marks b ring pen (ends b (pen .raw) p ++ (p ∷ [])) out ≡ marked ring after (clamped b p) o =
+          marks-then b ring (ends b (pen .raw) p) (p ∷ []) pen out ∙ ap (λ (x : Written Pen (List ℕ)). marks b ring (x .answer) (p ∷ []) (x .memory)) v in
+          rw w (record { answer = k ∙ ap (λ (x : Pen). withRaw x p) (d′ .answer); memory = d′ .memory })
 
 -- ---- a pen's emission is the state's
 abbrev emissionOf : GeomEncoder → Mark → Emission
@@ -162,6 +189,10 @@ begun-next ring pen q out B = by (samePt (pen .pt1) q) (ring && between (pen .pt
 marks-begun : (b : BBox) (ring : Bool) (ps : List Pt) (pen : Pen) (out : List ℕ) → Begun pen → Begun (marks b ring pen ps out .answer)
 marks-begun b ring [] pen out B = B
 marks-begun b ring (p ∷ ps) pen out B = marks-begun b ring ps (marked ring pen (clamped b p) out .answer) (marked ring pen (clamped b p) out .memory) (begun-next ring pen (clamped b p) out B)
+
+pub drawn-raw : (b : BBox) (ring : Bool) (pen : Pen) (p : Pt) (out : List ℕ) → drawnBy b ring pen p out .answer .raw ≡ p
+unfolding drawnBy
+drawn-raw b ring pen p out = refl
 
 pub drawn-begun : (b : BBox) (ring : Bool) (pen : Pen) (p : Pt) (out : List ℕ) → Begun pen → 2 ≤ drawnBy b ring pen p out .answer .count
 unfolding drawnBy

@@ -5,19 +5,28 @@ use Prim.Native.Nat.{ℕ, _+_, _/_, _≤_, _<_}
 use native.Mathlib.Omega.{arith}
 use borrow.Author.Tests.{eq-eqb, ne-eqb, le-leb, lt-leb, lt-ltb, le-ltb, eqb-false, ltb-false, not-true, not-false}
 use lib.Dec.{leb, ltb, eqb}
-use lib.Signed.{ltZ}
+use lib.IntN.{ℤ}
+use lib.Signed.{_≤ℤ_, ltZ}
 use Rattle.clip.specs.declared.Pt.{Pt}
 use Rattle.clip.specs.declared.BBox.{BBox}
 use Rattle.clip.specs.Domain.{isCoord, isGood}
 use Rattle.clip.specs.Facts.{Coord}
-use Rattle.clip.proofs.Callers.{Kept, coord-is}
+use Rattle.clip.specs.declared.Seg.{Seg}
+use Rattle.clip.specs.Cutting.{clip}
+use Rattle.clip.specs.Demand3.{Moved, Placed}
+use Rattle.clip.proofs.Demands.{demand-3}
+use Rattle.clip.proofs.Tests.{by-lt}
+use Rattle.clip.proofs.Callers.{Kept, coord-is, good-facts, good-proper}
+use Rattle.whole.proofs.Parts.{zarith}
+use mathlib.Core.Logic.{⊎-elim}
 use Rattle.encoder.specs.declared.MaybePt.{MaybePt}
 use Rattle.encoder.specs.declared.MaybePt.the-variants.{Nowhere, At}
 use Rattle.encoder.specs.declared.GeomEncoder.{GeomEncoder}
 use Rattle.encoder.specs.States.{valid}
-use Rattle.encoder.specs.Emitting.{clamped, lastOf}
+use Rattle.encoder.specs.Emitting.{clampTo, clamped, samePt, lastOf}
 use Rattle.encoder.specs.Planning.{outside, missing}
 use Rattle.encoder.proofs.States.{both, Valid, valid-facts}
+use Rattle.encoder.proofs.Points.{eqZ-refl}
 use Rattle.encoder.proofs.Pushing.{clamped-coord}
 use Rattle.stretch.specs.Stretches.{isStart}
 use Rattle.stretch.specs.Pens.{penOf, stateOf}
@@ -36,11 +45,34 @@ kept-in b p e = by (ltZ (p .x) (b .«x_min»)) (ltZ (b .«x_max») (p .x)) (ltZ 
 pub clamped-inside : (b : BBox) (p : Pt) → outside b p ≡ false → clamped b p ≡ p
 clamped-inside b p e = let k = kept-in b p e in rw (k .left, k .right, k .down, k .up)
 
-pub inside-coord : (b : BBox) (p : Pt) → isGood b ≡ true → outside b p ≡ false → Coord p
-inside-coord b p g e = subst Coord (clamped-inside b p e) (clamped-coord b p g)
+pub inside-coord : (b : BBox) (p : Pt) → isGood b ≡ true → outside b p ≡ false → isCoord p ≡ true
+inside-coord b p g e = coord-is (subst Coord (clamped-inside b p e) (clamped-coord b p g))
 
 pub made-coord : (b : BBox) (p q : Pt) → isGood b ≡ true → q ≡ clamped b p → Coord q
 made-coord b p q g e = subst Coord (sym e) (clamped-coord b p g)
+
+-- an end that the clip moved lies inside the box
+clamp-in : (lo hi z : ℤ) → lo ≤ℤ z → z ≤ℤ hi → clampTo lo hi z ≡ z
+clamp-in lo hi z l h =
+    by-lt (λ (v : ℤ). v ≡ z) z lo lo (cond (ltZ hi z) hi z) (λ k. absurd (omega (zarith, l, k)))
+    (λ j. by-lt (λ (v : ℤ). v ≡ z) hi z hi z (λ k. absurd (omega (zarith, h, k))) (λ k. refl))
+
+fixed : (b : BBox) (s : Seg) (p r : Pt) → Placed b s p r → samePt p r ≡ false → clamped b r ≡ r
+fixed b s p r x e =
+    ⊎-elim
+    (λ (k : r ≡ p). absurd (let f : samePt p r ≡ true = rw k (same-self p) in let z : _≡_ {A = ℕ} 0 1 = cc in omega arith))
+    (λ (m : Moved b s r). let i = m .edge .inside in rw (clamp-in (b .«x_min») (b .«x_max») (r .x) (i .left) (i .right), clamp-in (b .«y_min») (b .«y_max») (r .y) (i .bottom) (i .top)))
+    x
+  where
+    same-self : (q : Pt) → samePt q q ≡ true
+    same-self q = rw (eqZ-refl (q .x), eqZ-refl (q .y))
+
+module _ (b : BBox) (s : Seg) (g : isGood b ≡ true) where
+  pub fixed0 : samePt (s .p0) (clip b s .seg .p0) ≡ false → clamped b (clip b s .seg .p0) ≡ clip b s .seg .p0
+  fixed0 = fixed b s (s .p0) (clip b s .seg .p0) (demand-3 b (good-proper (good-facts g)) s .placed0)
+
+  pub fixed1 : samePt (s .p1) (clip b s .seg .p1) ≡ false → clamped b (clip b s .seg .p1) ≡ clip b s .seg .p1
+  fixed1 = fixed b s (s .p1) (clip b s .seg .p1) (demand-3 b (good-proper (good-facts g)) s .placed1)
 
 -- neither end of a segment is outside
 pub neither : (t u : Bool) → (t || u) ≡ false → (t ≡ false) × (u ≡ false)
@@ -65,8 +97,8 @@ module _ (used room : ℕ) (p : Pt) where
     pub plain-coord : (r : Bool) → r ≡ isCoord p → r ≡ (leb (used + 6) room && isCoord p)
     plain-coord r e = rw (le-leb (used + 6) room h) e
 
-    pub plain-inside : (b : BBox) → isGood b ≡ true → (t : Bool) → t ≡ outside b p → t ≡ false → true ≡ (leb (used + 6) room && isCoord p)
-    plain-inside b g t e f = rw (le-leb (used + 6) room h, coord-is (inside-coord b p g (sym e ∙ f)))
+    pub plain-inside : isCoord p ≡ true → true ≡ (leb (used + 6) room && isCoord p)
+    plain-inside c = rw (le-leb (used + 6) room h, c)
 
 -- ---- a state to start from
 module _ (s : GeomEncoder) (n : ℕ) where

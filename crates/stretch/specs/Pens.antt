@@ -17,7 +17,6 @@ use Rattle.encoder.specs.declared.GeomEncoder.{GeomEncoder}
 use Rattle.encoder.specs.Emitting.{clamped, samePt, between, lastOf, steps}
 use Rattle.encoder.specs.Adding.{movedEnds}
 use Rattle.stretch.specs.declared.Pen.{Pen}
-use Rattle.stretch.specs.declared.Brought.{Brought}
 
 abbrev pub penOf : GeomEncoder → Pen
 penOf s = record { raw = lastOf (s .«xy_end»); pt0 = lastOf (s .pt0); pt1 = lastOf (s .pt1); count = s .count; used = s .used }
@@ -55,6 +54,15 @@ laid m out = record { answer = m .pen; memory = lay (m .at) (m .run) out }
 unfoldable pub marked : Bool → Pen → Pt → List ℕ → Written Pen (List ℕ)
 marked ring pen q out = laid (mark ring pen q) out
 
+-- an end that was raw and is `end`, emitted if it moved; and the two ends of a segment
+unfoldable pub markedIf : Bool → Pen → Pt → Pt → List ℕ → Written Pen (List ℕ)
+markedIf ring pen raw end out = cond (samePt raw end) (kept pen out) (marked ring pen end out)
+
+unfoldable pub markedEnds : Bool → Pen → Seg → Seg → List ℕ → Written Pen (List ℕ)
+markedEnds ring pen raw cut out =
+    let w : Written Pen (List ℕ) = markedIf ring pen (raw .p0) (cut .p0) out in
+    markedIf ring (w .answer) (raw .p1) (cut .p1) (w .memory)
+
 -- ---- points emitted one after the other, and the whole of a point
 abbrev pub marks : BBox → Bool → Pen → List Pt → List ℕ → Written Pen (List ℕ)
 marks b ring pen [] out = kept pen out
@@ -62,12 +70,6 @@ marks b ring pen (p ∷ ps) out = marks b ring (marked ring pen (clamped b p) ou
 
 abbrev pub ends : BBox → Pt → Pt → List Pt
 ends b raw p = movedEnds (record { p0 = raw; p1 = p }) (clip b (record { p0 = raw; p1 = p }) .seg)
-
--- what a point brings before itself, and where it is emitted
-unfoldable pub brought : BBox → Bool → Pen → Pt → List ℕ → Written Brought (List ℕ)
-brought b ring pen p out =
-    let w : Written Pen (List ℕ) = marks b ring pen (ends b (pen .raw) p) out in
-    record { answer = record { pen = w .answer; at = clamped b p }; memory = w .memory }
 
 unfoldable pub drawnBy : BBox → Bool → Pen → Pt → List ℕ → Written Pen (List ℕ)
 drawnBy b ring pen p out =

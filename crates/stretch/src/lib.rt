@@ -1,9 +1,9 @@
 // A stretch: many points of a part in one loop (document 01, "Adding a point", for lines and polygons that have begun).
 // What an accepted point changes of the state stands in a few plain numbers (`Pen`); STATE is asked once, and a point with room for all that it can bring is written without a plan.
 ghost use mathlib.Core.Path.{_≡_};
-ghost use mathlib.Core.Bool.{Bool, true, not, _&&_};
+ghost use mathlib.Core.Bool.{true, false, _&&_, _||_};
 ghost use Prim.Native.Nat.{_+_, _-_, _/_, _≤_};
-ghost use lib.Dec.{leb, eqb};
+ghost use lib.Dec.{leb};
 ghost use lib.IntN.{_-ℤ_};
 ghost use lib.ListN.{length};
 ghost use Rattle.promise.specs.Answers.{Gives};
@@ -15,10 +15,9 @@ ghost use Rattle.clip.specs.Answer.{areCoords};
 ghost use Rattle.words.specs.Geometries.{maxWords};
 ghost use Rattle.words.specs.Params.{param};
 ghost use Rattle.encoder.specs.Emitting.{clampTo, clamped, samePt, strictly, between, lastOf, steps};
-ghost use Rattle.encoder.specs.Adding.{moved, movedEnds};
 ghost use Rattle.encoder.specs.Planning.{outside, missing};
 ghost use Rattle.stretch.specs.Stretches.{isStart, run, lastPoint, stretched};
-ghost use Rattle.stretch.specs.Pens.{penOf, stateOf, withRaw, onward, over, laid, mark, marked, marks, brought, drawnBy, Able, Steady};
+ghost use Rattle.stretch.specs.Pens.{penOf, stateOf, withRaw, onward, over, laid, marked, markedIf, markedEnds, drawnBy, Able, Steady};
 use clip::BBox;
 use clip::Clipped;
 use clip::Pt;
@@ -40,12 +39,6 @@ struct Pen {
     pt1: Pt,
     count: u32,
     used: usize,
-}
-
-// The pen before a point is emitted, and the place that it is emitted at.
-struct Brought {
-    pen: Pen,
-    at: Pt,
 }
 
 // ---- points
@@ -229,17 +222,16 @@ fn clip_raw(raw: Seg, bbox: BBox) -> Seg
     }
 }
 
-// An end of the segment, if the clip moved it.
-fn emit_moved(b: BBox, ring: bool, pen: Pen, raw: Pt, end: Pt, words: &mut [u32]) -> Pen
-    requires { ⌜ isGood b ≡ true ⌝ }
+// An end of the segment, if the clip moved it. A moved end lies on an edge of the box, so it is not clamped.
+fn emit_moved(ring: bool, pen: Pen, raw: Pt, end: Pt, words: &mut [u32]) -> Pen
     requires { ⌜ Able 2 pen (length (now words)) ⌝ }
-    ensures { λ r. ⌜ Gives (marks b ring pen (moved raw end) (now (words .entry))) r (now (words .exit)) ⌝ }
+    requires { ⌜ isCoord end ≡ true ⌝ }
+    ensures { λ r. ⌜ Gives (markedIf ring pen raw end (now (words .entry))) r (now (words .exit)) ⌝ }
 {
     if is_same(raw, end) {
         return pen;
     }
-    let q = make_point(end, b);
-    emit(ring, pen, q, words)
+    emit(ring, pen, end, words)
 }
 
 fn set_raw(pen: Pen, p: Pt) -> Pen
@@ -257,50 +249,47 @@ fn set_raw(pen: Pen, p: Pt) -> Pen
 }
 
 // Each end that the clip moved, in order.
-fn emit_ends(b: BBox, ring: bool, pen: Pen, raw: Seg, cut: Seg, words: &mut [u32]) -> Pen
-    requires { ⌜ isGood b ≡ true ⌝ }
+fn emit_ends(ring: bool, pen: Pen, raw: Seg, cut: Seg, words: &mut [u32]) -> Pen
     requires { ⌜ Able 4 pen (length (now words)) ⌝ }
-    ensures { λ r. ⌜ Gives (marks b ring pen (movedEnds raw cut) (now (words .entry))) r (now (words .exit)) ⌝ }
+    requires { ⌜ areCoords cut ≡ true ⌝ }
+    ensures { λ r. ⌜ Gives (markedEnds ring pen raw cut (now (words .entry))) r (now (words .exit)) ⌝ }
 {
     let p0 = raw.p0;
     let p1 = raw.p1;
     let c0 = cut.p0;
     let c1 = cut.p1;
-    let first = emit_moved(b, ring, pen, p0, c0, words);
-    emit_moved(b, ring, first, p1, c1, words)
+    let first = emit_moved(ring, pen, p0, c0, words);
+    emit_moved(ring, first, p1, c1, words)
 }
 
-// What a point brings before itself, and the place of the box that it is emitted at. Most segments lie inside the box and bring nothing, so they are not clipped.
-fn bring(b: BBox, ring: bool, pen: Pen, p: Pt, words: &mut [u32]) -> Brought
-    requires { ⌜ isGood b ≡ true ⌝ }
-    requires { ⌜ Steady pen (length (now words)) ⌝ }
-    requires { ⌜ isCoord p ≡ true ⌝ }
-    ensures { λ r. ⌜ Gives (brought b ring pen p (now (words .entry))) r (now (words .exit)) ⌝ }
-{
-    let raw = pen.raw;
-    let out0 = is_outside(raw, b);
-    let out1 = is_outside(p, b);
-    if !(out0 | out1) {
-        return Brought { pen: pen, at: p };
-    }
-    let seg = Seg { p0: raw, p1: p };
-    let cut = clip_raw(seg, b);
-    let ends = emit_ends(b, ring, pen, seg, cut, words);
-    let q = make_point(p, b);
-    Brought { pen: ends, at: q }
-}
-
-// A point, with what it brings.
-fn draw(b: BBox, ring: bool, pen: Pen, p: Pt, words: &mut [u32]) -> Pen
+// A segment that has an end outside: each moved end, then the point itself.
+fn cross(b: BBox, ring: bool, pen: Pen, p: Pt, words: &mut [u32]) -> Pen
     requires { ⌜ isGood b ≡ true ⌝ }
     requires { ⌜ Steady pen (length (now words)) ⌝ }
     requires { ⌜ isCoord p ≡ true ⌝ }
     ensures { λ r. ⌜ Gives (drawnBy b ring pen p (now (words .entry))) r (now (words .exit)) ⌝ }
 {
-    let before = bring(b, ring, pen, p, words);
-    let ends = before.pen;
-    let q = before.at;
+    let raw = pen.raw;
+    let seg = Seg { p0: raw, p1: p };
+    let cut = clip_raw(seg, b);
+    let ends = emit_ends(ring, pen, seg, cut, words);
+    let q = make_point(p, b);
     let last = emit(ring, ends, q, words);
+    set_raw(last, p)
+}
+
+// A point, with what it brings. Most segments lie inside the box and bring nothing, so they are not clipped.
+fn draw(b: BBox, ring: bool, pen: Pen, p: Pt, crossing: bool, words: &mut [u32]) -> Pen
+    requires { ⌜ isGood b ≡ true ⌝ }
+    requires { ⌜ Steady pen (length (now words)) ⌝ }
+    requires { ⌜ isCoord p ≡ true ⌝ }
+    requires { ⌜ crossing ≡ (outside b (pen .raw) || outside b p) ⌝ }
+    ensures { λ r. ⌜ Gives (drawnBy b ring pen p (now (words .entry))) r (now (words .exit)) ⌝ }
+{
+    if crossing {
+        return cross(b, ring, pen, p, words);
+    }
+    let last = emit(ring, pen, p, words);
     set_raw(last, p)
 }
 
@@ -382,21 +371,28 @@ fn state_of(s: GeomEncoder, pen: Pen) -> GeomEncoder
 
 // ---- the loop
 // Whether a point is taken: room for three emissions, and COORD, which no point of the box is refused for.
-fn is_plain(used: usize, room: usize, p: Pt, b: BBox) -> bool
-    requires { ⌜ isGood b ≡ true ⌝ }
+fn is_plain(used: usize, room: usize, p: Pt, out: bool) -> bool
     requires { ⌜ used ≤ maxWords ⌝ }
+    requires { ⌜ (out ≡ false → isCoord p ≡ true) ⌝ }
     ensures { λ r. ⌜ r ≡ (leb (used + 6) room && isCoord p) ⌝ }
 {
     if room < used + 6 {
         return false;
     }
-    if is_outside(p, b) {
+    if out {
         return BBox::is_coord(p);
     }
     true
 }
 
-fn draw_all(s: GeomEncoder, start: Pen, points: &[i32], from: usize, end: usize, words: &mut [u32]) -> Stretch
+fn draw_all(
+    s: GeomEncoder,
+    start: Pen,
+    points: &[i32],
+    from: usize,
+    end: usize,
+    words: &mut [u32],
+) -> Stretch
     requires { ⌜ end ≤ length (now points) / 2 ⌝ }
     requires { ⌜ isStart (stateOf s start) (length (now words)) ≡ true ⌝ }
     ensures { λ r. ⌜ Gives (run (end - from) (now (points .entry)) from (stateOf s start) (now (words .entry))) r (now (words .exit)) ⌝ }
@@ -404,19 +400,23 @@ fn draw_all(s: GeomEncoder, start: Pen, points: &[i32], from: usize, end: usize,
     let bbox = s.bbox;
     let ring = s.kind == Geometry::POLYGON;
     let room = Geometry::room(words.len());
+    let raw = start.raw;
     let mut pen = start;
+    let mut out = is_outside(raw, bbox);
     let mut i = from;
     while i < end {
         let x = points[2 * i];
         let y = points[2 * i + 1];
         let p = Pt { x: x, y: y };
-        if !is_plain(pen.used, room, p, bbox) {
+        let next = is_outside(p, bbox);
+        if !is_plain(pen.used, room, p, next) {
             return Stretch {
                 state: state_of(s, pen),
                 reached: i,
             };
         }
-        pen = draw(bbox, ring, pen, p, words);
+        pen = draw(bbox, ring, pen, p, out | next, words);
+        out = next;
         i += 1;
     }
     Stretch {
@@ -435,7 +435,13 @@ fn last_point(length: usize, to: usize) -> usize
 }
 
 // Adds the points from `from` on, up to the first that is not plain, or to `to`.
-pub fn add_stretch(s: GeomEncoder, points: &[i32], from: usize, to: usize, words: &mut [u32]) -> Stretch
+pub fn add_stretch(
+    s: GeomEncoder,
+    points: &[i32],
+    from: usize,
+    to: usize,
+    words: &mut [u32],
+) -> Stretch
     ensures { λ r. ⌜ Gives (stretched s (now (points .entry)) from to (now (words .entry))) r (now (words .exit)) ⌝ }
 {
     if !is_start(s, words.len()) {

@@ -2,18 +2,21 @@
 use native.Mathlib.Omega.{arith}
 use Prim.Native.Nat.{_-_}
 use borrow.Author.Needs.{needs}
-use Rattle.stretch.proofs.Turns.{Drawing, draw-start, draw-end, plain-asked, draw-stop, draw-asked, draw-turn}
+use Rattle.stretch.proofs.Turns.{Drawing, point-is, draw-start, draw-end, plain-asked, draw-stop, draw-asked, draw-turn}
 use Rattle.stretch.proofs.draw_all.Statement.{statement}
 use Rattle.stretch.proofs.draw_all.Tie as tie
 
 abbrev Inv-loop : tie.InvT-loop
-Inv-loop s points from end words₀ bbox ring room pen₀ i₀ words pen i = Drawing s points from end words₀ bbox ring room pen₀ words pen i
+Inv-loop s points from end words₀ bbox ring room pen₀ out₀ i₀ words pen out i = Drawing s points from end words₀ bbox ring room pen₀ words pen out i
 
 abbrev μ-loop : tie.MeasureT-loop
-μ-loop s points from end words₀ bbox ring room pen₀ i₀ words pen i = end - i
+μ-loop s points from end words₀ bbox ring room pen₀ out₀ i₀ words pen out i = end - i
 
 room-requires : tie.Need-room-requires Inv-loop μ-loop
 room-requires c κs = search needs
+
+is-outside-requires : tie.Need-is-outside-requires Inv-loop μ-loop
+is-outside-requires c κs = search needs
 
 loop-holds : tie.Need-loop-holds Inv-loop μ-loop
 loop-holds c = search (needs, draw-start)
@@ -39,8 +42,11 @@ mul-y-2 c = search needs
 shared-slice-copy-out-y : tie.Need-shared-slice-copy-out-y Inv-loop μ-loop
 shared-slice-copy-out-y c = search needs
 
+is-outside-requires-2 : tie.Need-is-outside-requires-2 Inv-loop μ-loop
+is-outside-requires-2 c κs = search needs
+
 is-plain-requires : tie.Need-is-plain-requires Inv-loop μ-loop
-is-plain-requires c κs = search (needs, plain-asked)
+is-plain-requires c κs = plain-asked _ _ _ _ _ _ _ _ _ _ _ _ _ (c .before .before .before .before .loop .inv) _ _ (c .is-outside2 .ensures)
 
 state-of-requires : tie.Need-state-of-requires Inv-loop μ-loop
 state-of-requires c κs = search needs
@@ -49,19 +55,19 @@ same-length : tie.Need-same-length Inv-loop μ-loop
 same-length c = search needs
 
 returns : tie.Need-returns Inv-loop μ-loop
-returns c = search (needs, draw-stop)
+returns c = draw-stop _ _ _ _ _ _ _ _ _ _ _ _ _ (c .before .before .before .before .before .before .before .loop .inv) _ _ (c .before .before .before .is-outside2 .ensures) _ (c .before .before .is-plain .ensures) (c .before .before .before .before .before .before .loop-test .taken) (point-is (c .before .before .before .before .before .before .before .before .before .before .before .before .before .before .args .points .now) (c .before .before .before .before .before .before .before .loop .i) (c .before .before .before .before .before .x .given) (c .before .before .before .before .y .given)) (c .before .if1 .taken) _ (c .state-of .ensures)
 
 draw-requires : tie.Need-draw-requires Inv-loop μ-loop
-draw-requires c κs = draw-asked _ _ _ _ _ _ _ _ _ _ _ _ (c .before .before .before .before .before .before .loop .inv) _ _ (c .before .before .is-plain .ensures) (c .before .if1 .left)
+draw-requires c κs = draw-asked _ _ _ _ _ _ _ _ _ _ _ _ _ (c .before .before .before .before .before .before .before .loop .inv) _ _ (c .before .before .before .is-outside2 .ensures) _ (c .before .before .is-plain .ensures) (c .before .if1 .left)
 
 add-i : tie.Need-add-i Inv-loop μ-loop
-add-i c = search needs
+add-i c = omega (arith, c .before .before .before .before .before .before .before .before .before .loop-test .taken, c .before .before .before .before .before .before .before .before .before .before .before .before .before .before .before .before .before .fits .end .fits)
 
 loop-less : tie.Need-loop-less Inv-loop μ-loop
 loop-less c = search needs
 
 loop-again : tie.Need-loop-again Inv-loop μ-loop
-loop-again c = search (needs, draw-turn)
+loop-again c = draw-turn _ _ _ _ _ _ _ _ _ _ _ _ _ (c .before .before .before .before .before .before .before .before .before .before .loop .inv) _ _ (c .before .before .before .before .before .before .is-outside2 .ensures) _ (c .before .before .before .before .before .is-plain .ensures) (c .before .before .before .before .before .before .before .before .before .loop-test .taken) (point-is (c .before .before .before .before .before .before .before .before .before .before .before .before .before .before .before .before .before .args .points .now) (c .before .before .before .before .before .before .before .before .before .before .loop .i) (c .before .before .before .before .before .before .before .before .x .given) (c .before .before .before .before .before .before .before .y .given)) (c .before .before .before .before .if1 .left) _ _ (c .before .before .draw .ensures)
 
 state-of-requires-2 : tie.Need-state-of-requires-2 Inv-loop μ-loop
 state-of-requires-2 c κs = search needs
@@ -79,6 +85,7 @@ draw-all-spec =
     Inv-loop
     μ-loop
     room-requires
+    is-outside-requires
     loop-holds
     mul-x
     mul-x-2
@@ -87,6 +94,7 @@ draw-all-spec =
     add-y
     mul-y-2
     shared-slice-copy-out-y
+    is-outside-requires-2
     is-plain-requires
     state-of-requires
     same-length

@@ -1,15 +1,15 @@
--- Emissions after emissions.
+-- One end after the other.
 use native.Mathlib.Omega.{arith}
-use Rattle.stretch.proofs.Marks.{less, ends-asked, ends-both}
+use Rattle.stretch.proofs.Marks.{less, two-coords, second-asked, ends-both}
 use borrow.Author.Needs.{needs}
 use Rattle.stretch.proofs.emit_ends.Statement.{statement}
 use Rattle.stretch.proofs.emit_ends.Tie as tie
 
 emit-moved-requires : tie.Need-emit-moved-requires
-emit-moved-requires c κs = let s = c .before .before .before .before .before .before in (s .pre .0, less {m = 4} (omega arith) (s .pre .1))
+emit-moved-requires c κs = let s = c .before .before .before .before .before .before in (less {m = 4} (omega arith) (s .pre .0), two-coords (s .args .cut) (s .pre .1) .0)
 
 emit-moved-requires-2 : tie.Need-emit-moved-requires-2
-emit-moved-requires-2 c κs = let s = c .before .before .before .before .before .before .before .before .before .before in ends-asked _ _ _ (s .args .raw) (s .args .cut) _ _ _ (c .before .before .before .emit-moved .ensures) (s .pre .0) (s .pre .1) (search needs)
+emit-moved-requires-2 c κs = let s = c .before .before .before .before .before .before .before .before .before .before in second-asked _ _ (s .args .raw) (s .args .cut) _ (s .pre .1) _ _ (c .before .before .before .emit-moved .ensures) (s .pre .0) (search needs)
 
 same-length : tie.Need-same-length
 same-length c = search needs

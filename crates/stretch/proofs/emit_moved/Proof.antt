@@ -1,5 +1,5 @@
 -- Nothing for an end that stayed, one emission for one that moved.
-use Rattle.stretch.proofs.Tests.{made-coord}
+use Rattle.clip.proofs.Callers.{coord-facts}
 use Rattle.stretch.proofs.Marks.{moved-none, moved-some}
 use borrow.Author.Needs.{needs}
 use Rattle.stretch.proofs.emit_moved.Statement.{statement}
@@ -11,11 +11,8 @@ is-same-requires c κs = search needs
 returns : tie.Need-returns
 returns c = search (needs, moved-none)
 
-make-point-requires : tie.Need-make-point-requires
-make-point-requires c κs = search needs
-
 emit-requires : tie.Need-emit-requires
-emit-requires c κs = let s = c .before .before .before .before .before in (s .pre .1, made-coord (s .args .b) (s .args .end) _ (s .pre .0) (c .before .make-point .ensures))
+emit-requires c κs = let s = c .before .before .before .before in (s .pre .0, coord-facts (s .pre .1))
 
 same-length : tie.Need-same-length
 same-length c = search needs
@@ -24,6 +21,4 @@ returns-2 : tie.Need-returns-2
 returns-2 c = search (needs, moved-some)
 
 pub emit-moved-spec : {M : Type 1} → statement M
-emit-moved-spec =
-    tie.close
-    (tie.spec is-same-requires returns make-point-requires emit-requires same-length returns-2)
+emit-moved-spec = tie.close (tie.spec is-same-requires returns emit-requires same-length returns-2)

@@ -10,9 +10,6 @@ add-if1 c = search needs
 returns : tie.Need-returns
 returns c = search (needs, plain-room)
 
-is-outside-requires : tie.Need-is-outside-requires
-is-outside-requires c κs = search needs
-
 is-coord-requires : tie.Need-is-coord-requires
 is-coord-requires c κs = search needs
 
@@ -20,8 +17,7 @@ returns-2 : tie.Need-returns-2
 returns-2 c = search (needs, plain-coord)
 
 returns-3 : tie.Need-returns-3
-returns-3 c = search (needs, plain-inside)
+returns-3 c = let s = c .before .before in plain-inside (s .args .used) (s .args .room) (s .args .p) (search needs) (s .pre .1 (c .if2 .left))
 
 pub is-plain-spec : {M : Type 1} → statement M
-is-plain-spec =
-    tie.close (tie.spec add-if1 returns is-outside-requires is-coord-requires returns-2 returns-3)
+is-plain-spec = tie.close (tie.spec add-if1 returns is-coord-requires returns-2 returns-3)
