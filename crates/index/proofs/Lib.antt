@@ -1,0 +1,6 @@
+pub mod Hashing
+pub mod Walking
+pub mod Pushing
+pub mod Alike
+pub mod Scanning
+pub mod Growing

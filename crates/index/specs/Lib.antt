@@ -1,0 +1,4 @@
+pub mod Hashes
+pub mod Chains
+pub mod Entries
+pub mod Steps
