@@ -1,3 +1,4 @@
 pub mod Putting
 pub mod Tagging
 pub mod Present
+pub mod Asking

@@ -10,6 +10,7 @@ use borrow.Author.Tests.{not-true, not-false}
 use Rattle.promise.specs.Answers.{Gives}
 use Rattle.promise.specs.Laid.{lay}
 use Rattle.refusal.specs.declared.Refusal.the-variants.{Room}
+use Rattle.refusal.specs.Said.{Said}
 use Rattle.table.specs.declared.Found.{Found}
 use Rattle.table.specs.declared.Found.the-variants.{At, Nothing}
 use Rattle.table.specs.declared.Value.{Value}
@@ -19,10 +20,10 @@ use Rattle.table.proofs.Bounds.{key-below, value-below}
 use Rattle.layer.specs.declared.Figures.{Figures}
 use Rattle.layer.specs.declared.Layer.{Layer}
 use Rattle.layer.specs.declared.Changed.the-variants.{Done, Refused}
-use Rattle.layer.specs.Held.{mem, roomOf, fits, seen, heldBy, onto, written, front}
+use Rattle.layer.specs.Held.{Memory, mem, roomOf, fits, seen, heldBy, onto, written, front}
 use Rattle.layer.specs.Answers.{saidChanged}
 use Rattle.layer.specs.Calls.{Tag, indexOf, moreOf, putOf, keyWords, valueWords, grownBy, withTag, heldWith, taggedBy, tagged, withUsed}
-use Rattle.tagging.specs.Steps.{Small, TagRoom, laidTag, Ready}
+use Rattle.tagging.specs.Steps.{Small, TagRoom, laidTag, Ready, Looked}
 use Rattle.layer.proofs.Entries.{twice, thrice}
 use Rattle.layer.proofs.Fitting.{Fit, fit}
 use Rattle.layer.proofs.Fronts.{front-run, front-set}
@@ -62,16 +63,14 @@ module _ (s : Layer) (o : Figures) (key : List ℕ) (v : Value) (text ks vs ts f
       let F = ready-fit in
       record { keys = F .few-keys; values = F .few-values; texts = F .few-texts; features = F .few-features; small-key = R .small-key; small-text = R .small-text }
 
-  module _ (kf vf : Found) (a : kf ≡ findKey 0 (take (s .used .keys * 2) ks) (take (s .used .texts) ts) key) (b : vf ≡ findValue 0 (take (s .used .values * 3) vs) (take (s .used .texts) ts) v text) (after : Figures) (g : after ≡ grownBy (s .used) kf vf (length key) (length text)) (q : Bool) (w : q ≡ fits after (roomOf (length ks) (length vs) (length ts) (length fs))) where
+  -- ---- `tag_found`
+  module _ (kf vf : Found) (L : Looked s o kf vf (length key) (length text) (mem ks vs ts fs)) (after : Figures) (g : after ≡ grownBy (s .used) kf vf (length key) (length text)) (q : Bool) (w : q ≡ fits after (roomOf (length ks) (length vs) (length ts) (length fs))) where
     told : fits (grownBy (s .used) kf vf (length key) (length text)) (roomOf (length ks) (length vs) (length ts) (length fs)) ≡ q
     told =
         ap (λ (x : Figures). fits x (roomOf (length ks) (length vs) (length ts) (length fs))) (sym g) ∙ sym w
 
-    here : tagged (record { key = key; value = v; text = text }) (seen s (mem ks vs ts fs)) o ≡ taggedBy (record { key = key; value = v; text = text }) (seen s (mem ks vs ts fs)) o kf vf
-    here = rw (a, b)
-
-    pub tag-full : not q ≡ true → Gives (written (tagged (record { key = key; value = v; text = text }) (seen s (mem ks vs ts fs)) o) s (mem ks vs ts fs)) (saidChanged (Refused Room s)) (mem ks vs ts fs)
-    tag-full n = rw (here, told, not-true q n) (record { answer = refl; memory = refl })
+    pub tag-full : not q ≡ true → Gives (written (taggedBy (record { key = key; value = v; text = text }) (seen s (mem ks vs ts fs)) o kf vf) s (mem ks vs ts fs)) (saidChanged (Refused Room s)) (mem ks vs ts fs)
+    tag-full n = rw (told, not-true q n) (record { answer = refl; memory = refl })
 
     after-fit : not q ≡ false → Fit (grownBy (s .used) kf vf (length key) (length text)) (length ks) (length vs) (length ts) (length fs)
     after-fit n = fit (grownBy (s .used) kf vf (length key) (length text)) (length ks) (length vs) (length ts) (length fs) (told ∙ not-false q n)
@@ -80,8 +79,6 @@ module _ (s : Layer) (o : Figures) (key : List ℕ) (v : Value) (text ks vs ts f
     tag-room n =
         let F = ready-fit in
         let G = after-fit n in
-        let x : length (take (s .used .keys * 2) ks) ≡ s .used .keys * 2 = length-take-le _ _ (F .in-keys) in
-        let y : length (take (s .used .values * 3) vs) ≡ s .used .values * 3 = length-take-le _ _ (F .in-values) in
         record {
           in-keys = omega (arith, G .in-keys, twice kf);
           in-values = omega (arith, G .in-values, thrice vf);
@@ -91,16 +88,32 @@ module _ (s : Layer) (o : Figures) (key : List ℕ) (v : Value) (text ks vs ts f
             in-features = G .in-features;
             head = R .six;
             small-end = G .few-features;
-            small-key = omega (arith, F .few-keys, key-index kf (take (s .used .keys * 2) ks) (take (s .used .texts) ts) key (s .used .keys) a (omega (arith, x)));
-            small-value = omega (arith, F .few-values, value-index vf (take (s .used .values * 3) vs) (take (s .used .texts) ts) v text (s .used .values) b (omega (arith, y)));
+            small-key = omega (arith, F .few-keys, L .key-among);
+            small-value = omega (arith, F .few-values, L .value-among);
           };
           small = ready-small;
         }
 
-    pub tag-done : not q ≡ false → (ks₂ vs₂ ts₂ fs₂ : List ℕ) → mem ks₂ vs₂ ts₂ fs₂ ≡ laidTag (s .used) o kf vf (record { key = key; value = v; text = text }) (mem ks vs ts fs) → Gives (written (tagged (record { key = key; value = v; text = text }) (seen s (mem ks vs ts fs)) o) s (mem ks vs ts fs)) (saidChanged (Done (withUsed s after (s .feature)))) (mem ks₂ vs₂ ts₂ fs₂)
+    pub tag-done : not q ≡ false → (ks₂ vs₂ ts₂ fs₂ : List ℕ) → mem ks₂ vs₂ ts₂ fs₂ ≡ laidTag (s .used) o kf vf (record { key = key; value = v; text = text }) (mem ks vs ts fs) → Gives (written (taggedBy (record { key = key; value = v; text = text }) (seen s (mem ks vs ts fs)) o kf vf) s (mem ks vs ts fs)) (saidChanged (Done (withUsed s after (s .feature)))) (mem ks₂ vs₂ ts₂ fs₂)
     tag-done n ks₂ vs₂ ts₂ fs₂ m =
-        rw (here, told, not-false q n)
+        rw (told, not-false q n)
         (record {
           answer = ap (λ (x : Figures). saidChanged (Done (withUsed s x (s .feature)))) g;
           memory = m ∙ sym (tag-onto (s .used) o kf vf (record { key = key; value = v; text = text }) ks vs ts fs ready-fit (omega (arith, R .six)));
         })
+
+  -- ---- `tag_ready`
+  module _ (kf vf : Found) (a : kf ≡ findKey 0 (take (s .used .keys * 2) ks) (take (s .used .texts) ts) key) (b : vf ≡ findValue 0 (take (s .used .values * 3) vs) (take (s .used .texts) ts) v text) where
+    pub scanned : Looked s o kf vf (length key) (length text) (mem ks vs ts fs)
+    scanned =
+        let F = ready-fit in
+        let x : length (take (s .used .keys * 2) ks) ≡ s .used .keys * 2 = length-take-le _ _ (F .in-keys) in
+        let y : length (take (s .used .values * 3) vs) ≡ s .used .values * 3 = length-take-le _ _ (F .in-values) in
+        record {
+          ready = R;
+          key-among = key-index kf (take (s .used .keys * 2) ks) (take (s .used .texts) ts) key (s .used .keys) a (omega (arith, x));
+          value-among = value-index vf (take (s .used .values * 3) vs) (take (s .used .texts) ts) v text (s .used .values) b (omega (arith, y));
+        }
+
+    pub tag-scanned : (r : Said Layer) (n : Memory) → Gives (written (taggedBy (record { key = key; value = v; text = text }) (seen s (mem ks vs ts fs)) o kf vf) s (mem ks vs ts fs)) r n → Gives (written (tagged (record { key = key; value = v; text = text }) (seen s (mem ks vs ts fs)) o) s (mem ks vs ts fs)) r n
+    tag-scanned r n G = rw (a, b) at G

@@ -1,16 +1,19 @@
 -- What the private steps of a tag ask for and leave behind. No promise of a public function rests on more than layer's specs/Calls.antt.
 use Prim.Native.Nat.{ℕ, _+_, _*_, _≤_}
 use mathlib.Core.Path.{_≡_}
-use mathlib.Core.Bool.{true}
+use mathlib.Core.Bool.{Bool, true, cond}
 use mathlib.Core.List.{List, [], _∷_, _++_}
-use lib.ListN.{length, getD, set}
+use lib.ListN.{length, getD, set, take}
 use Rattle.promise.specs.Laid.{lay}
+use Rattle.refusal.specs.declared.Refusal.the-variants.{State, Text as TextRefusal}
 use Rattle.table.specs.declared.Found.{Found}
-use Rattle.table.specs.Texts.{maxBytes}
+use Rattle.table.specs.Texts.{maxBytes, shortText}
 use Rattle.layer.specs.declared.Figures.{Figures}
 use Rattle.layer.specs.declared.Layer.{Layer}
 use Rattle.layer.specs.Held.{Memory, fits, roomOf, maxKeys, maxValues, maxTexts, maxFeatureWords}
-use Rattle.layer.specs.Calls.{Tag, indexOf, moreOf, putOf, keyWords, valueWords}
+use Rattle.layer.specs.Calls.{Tag, indexOf, moreOf, putOf, keyWords, valueWords, recordAt}
+use Rattle.tagging.specs.declared.Asked.{Asked}
+use Rattle.tagging.specs.declared.Asked.the-variants.{Fine, Barred}
 
 pub record Grows (f : Found) (n r : ℕ) : Type 0 where
   pub same : r ≡ moreOf f n
@@ -68,3 +71,17 @@ pub record Ready (s : Layer) (o : Figures) (key text : ℕ) (m : Memory) : Type 
   pub six : o .features + 6 + getD (m .features) (o .features + 4) 0 ≤ s .used .features
   pub small-key : key ≤ maxBytes
   pub small-text : text ≤ maxBytes
+
+-- the same, with what was found among the entries
+pub record Looked (s : Layer) (o : Figures) (kf vf : Found) (key text : ℕ) (m : Memory) : Type 0 where
+  pub ready : Ready s o key text m
+  pub key-among : indexOf kf (s .used .keys) ≤ s .used .keys
+  pub value-among : indexOf vf (s .used .values) ≤ s .used .values
+
+-- the first refusal but ROOM, in the order of the checks
+abbrev pub asksBy : Bool → Bool → Bool → Bool → Asked
+asksBy room six key text = cond room (cond six (cond key (cond text Fine (Barred TextRefusal)) (Barred TextRefusal)) (Barred State)) (Barred State)
+
+abbrev pub asks : Figures → Figures → ℕ → ℕ → ℕ → ℕ → ℕ → List ℕ → Asked
+asks u o key text keys values texts fs =
+    asksBy (fits u (roomOf keys values texts (length fs))) (recordAt (take (u .features) fs) (o .features) (u .features)) (shortText key) (shortText text)

@@ -9,8 +9,8 @@ ghost use Rattle.promise.specs.Laid.{lay};
 ghost use Rattle.table.specs.Texts.{maxBytes};
 ghost use Rattle.layer.specs.Held.{maxTexts, mem, seen, written};
 ghost use Rattle.layer.specs.Answers.{saidChanged};
-ghost use Rattle.layer.specs.Calls.{grownBy, keyWords, storedAs, valueWords, tagged, recordAt, taggedIn};
-ghost use Rattle.tagging.specs.Steps.{Grows, Small, EntryRoom, Puts, PairRoom, TagRoom, laidTag, Ready};
+ghost use Rattle.layer.specs.Calls.{grownBy, keyWords, storedAs, valueWords, taggedBy, tagged, recordAt, taggedIn};
+ghost use Rattle.tagging.specs.Steps.{Grows, Small, EntryRoom, Puts, PairRoom, TagRoom, laidTag, Ready, Looked, asks};
 use layer::Changed;
 use layer::Figures;
 use layer::Layer;
@@ -138,6 +138,38 @@ fn put_tag(
     put_pair(o.features, u.features, ki, vi, features);
 }
 
+// A tag of the feature opened at o, whose key and value were looked up, if it has room.
+fn tag_found(
+    s: Layer,
+    o: Figures,
+    kf: Found,
+    vf: Found,
+    key: &[u8],
+    v: Value,
+    text: &[u8],
+    keys: &mut [u32],
+    values: &mut [u32],
+    texts: &mut [u8],
+    features: &mut [u32],
+) -> Changed
+    requires { ⌜ Looked s o kf vf (length (now key)) (length (now text)) (mem (now keys) (now values) (now texts) (now features)) ⌝ }
+    ensures { λ r. ⌜ Gives (written (taggedBy (record { key = now (key .entry); value = v; text = now (text .entry) }) (seen s (mem (now (keys .entry)) (now (values .entry)) (now (texts .entry)) (now (features .entry)))) o kf vf) s (mem (now (keys .entry)) (now (values .entry)) (now (texts .entry)) (now (features .entry)))) (saidChanged r) (mem (now (keys .exit)) (now (values .exit)) (now (texts .exit)) (now (features .exit))) ⌝ }
+{
+    let u = s.used;
+    let after = grown(u, kf, vf, key.len(), text.len());
+    if !Layer::has_room_for(after, keys.len(), values.len(), texts.len(), features.len()) {
+        return Changed::Refused(Refusal::Room, s);
+    }
+    put_tag(u, o, kf, vf, key, v, text, keys, values, texts, features);
+    let f = s.feature;
+    Changed::Done(Layer {
+        extent: s.extent,
+        name: s.name,
+        used: after,
+        feature: f,
+    })
+}
+
 // A tag of the feature opened at o, if it has room.
 fn tag_ready(
     s: Layer,
@@ -159,18 +191,7 @@ fn tag_ready(
     let t = u.texts;
     let kf = table::key_pos(&keys[..k], &texts[..t], key);
     let vf = table::val_pos(&values[..e], &texts[..t], v, text);
-    let after = grown(u, kf, vf, key.len(), text.len());
-    if !Layer::has_room_for(after, keys.len(), values.len(), texts.len(), features.len()) {
-        return Changed::Refused(Refusal::Room, s);
-    }
-    put_tag(u, o, kf, vf, key, v, text, keys, values, texts, features);
-    let f = s.feature;
-    Changed::Done(Layer {
-        extent: s.extent,
-        name: s.name,
-        used: after,
-        feature: f,
-    })
+    tag_found(s, o, kf, vf, key, v, text, keys, values, texts, features)
 }
 
 // Whether six words and the tag words that they count stand at index at of the used words, which end at end.
@@ -185,7 +206,42 @@ fn has_record(ws: &[u32], at: usize, end: usize) -> bool
     has_room(at + 6, tags, end)
 }
 
-// What each tag call does once it may, of the feature opened at o; of STATE it asks only what costs nothing.
+// Whether a tag may be put, ROOM apart.
+enum Asked {
+    Fine,
+    Barred(Refusal),
+}
+
+// The first refusal but ROOM, in the order of the checks; of STATE it asks only what costs nothing.
+fn first_refusal(
+    u: Figures,
+    o: Figures,
+    key: usize,
+    text: usize,
+    keys: usize,
+    values: usize,
+    texts: usize,
+    features: &[u32],
+) -> Asked
+    ensures { λ r. ⌜ r ≡ asks u o key text keys values texts (now (features .entry)) ⌝ }
+{
+    if !Layer::has_room_for(u, keys, values, texts, features.len()) {
+        return Asked::Barred(Refusal::State);
+    }
+    let w = u.features;
+    if !has_record(&features[..w], o.features, w) {
+        return Asked::Barred(Refusal::State);
+    }
+    if !Text::may_have(key) {
+        return Asked::Barred(Refusal::Text);
+    }
+    if !Text::may_have(text) {
+        return Asked::Barred(Refusal::Text);
+    }
+    Asked::Fine
+}
+
+// What each tag call does once it may, of the feature opened at o.
 pub fn tag(
     s: Layer,
     o: Figures,
@@ -199,19 +255,18 @@ pub fn tag(
 ) -> Changed
     ensures { λ r. ⌜ Gives (written (taggedIn (record { key = now (key .entry); value = v; text = now (text .entry) }) (seen s (mem (now (keys .entry)) (now (values .entry)) (now (texts .entry)) (now (features .entry)))) o) s (mem (now (keys .entry)) (now (values .entry)) (now (texts .entry)) (now (features .entry)))) (saidChanged r) (mem (now (keys .exit)) (now (values .exit)) (now (texts .exit)) (now (features .exit))) ⌝ }
 {
-    let used = s.used;
-    if !Layer::has_room_for(used, keys.len(), values.len(), texts.len(), features.len()) {
-        return Changed::Refused(Refusal::State, s);
+    let u = s.used;
+    match first_refusal(
+        u,
+        o,
+        key.len(),
+        text.len(),
+        keys.len(),
+        values.len(),
+        texts.len(),
+        &features[..],
+    ) {
+        Asked::Barred(q) => Changed::Refused(q, s),
+        Asked::Fine => tag_ready(s, o, key, v, text, keys, values, texts, features),
     }
-    let w = used.features;
-    if !has_record(&features[..w], o.features, w) {
-        return Changed::Refused(Refusal::State, s);
-    }
-    if !Text::may_have(key.len()) {
-        return Changed::Refused(Refusal::Text, s);
-    }
-    if !Text::may_have(text.len()) {
-        return Changed::Refused(Refusal::Text, s);
-    }
-    tag_ready(s, o, key, v, text, keys, values, texts, features)
 }

@@ -1,10 +1,10 @@
--- The used parts are there; what is found and the figures after it decide on ROOM; then the tag is put.
+-- The used parts are there; what is found in them goes into the tag.
 use lib.ListN.{length}
 use lib.Seq.{length-take-le}
 use mathlib.Core.Path.{sym}
 use native.Mathlib.Omega.{arith}
 use Rattle.layer.proofs.Fitting.{Fit, fit}
-use Rattle.tagging.proofs.Tagging.{ready-small, tag-full, tag-room, tag-done}
+use Rattle.tagging.proofs.Tagging.{scanned, tag-scanned}
 use borrow.Author.Needs.{needs}
 use Rattle.tagging.proofs.tag_ready.Statement.{statement}
 use Rattle.tagging.proofs.tag_ready.Tie as tie
@@ -48,12 +48,9 @@ slice-aggregate-val-pos-2 c = sym (length-take-le _ _ (at-fit (c .before .before
 val-pos-requires : tie.Need-val-pos-requires
 val-pos-requires c κs = search needs
 
-grown-requires : tie.Need-grown-requires
-grown-requires c κs = let g = c .before .before .before .before .before .before .before .before .before .before .before .before .before .before .before .args in
-    ready-small (g .s) (g .o) (g .key .now) (g .v) (g .text .now) (g .keys .now) (g .values .now) (g .texts .now) (g .features .now) (c .before .before .before .before .before .before .before .before .before .before .before .before .before .before .before .pre)
-
-has-room-for-requires : tie.Need-has-room-for-requires
-has-room-for-requires c κs = search needs
+tag-found-requires : tie.Need-tag-found-requires
+tag-found-requires c κs = let g = c .before .before .before .before .before .before .before .before .before .before .before .before .before .before .before .before .before .before .before .args in
+    scanned (g .s) (g .o) (g .key .now) (g .v) (g .text .now) (g .keys .now) (g .values .now) (g .texts .now) (g .features .now) (c .before .before .before .before .before .before .before .before .before .before .before .before .before .before .before .before .before .before .before .pre) _ _ (c .before .before .before .before .before .before .before .key-pos .ensures) (c .before .before .before .before .val-pos .ensures)
 
 same-length : tie.Need-same-length
 same-length c = search needs
@@ -64,29 +61,12 @@ same-length-2 c = search needs
 same-length-3 : tie.Need-same-length-3
 same-length-3 c = search needs
 
-returns : tie.Need-returns
-returns c = let g = c .before .before .before .before .before .before .before .before .before .before .before .before .before .before .before .before .before .before .args in
-    tag-full (g .s) (g .o) (g .key .now) (g .v) (g .text .now) (g .keys .now) (g .values .now) (g .texts .now) (g .features .now) (c .before .before .before .before .before .before .before .before .before .before .before .before .before .before .before .before .before .before .pre) _ _ (c .before .before .before .before .before .before .key-pos .ensures) (c .before .before .before .val-pos .ensures) _ (c .before .before .grown .ensures) _ (c .before .has-room-for .ensures) (c .if1 .taken)
-
-put-tag-requires : tie.Need-put-tag-requires
-put-tag-requires c κs = let g = c .before .before .before .before .before .before .before .before .before .before .before .before .before .before .before .before .before .before .before .before .before .before .args in
-    tag-room (g .s) (g .o) (g .key .now) (g .v) (g .text .now) (g .keys .now) (g .values .now) (g .texts .now) (g .features .now) (c .before .before .before .before .before .before .before .before .before .before .before .before .before .before .before .before .before .before .before .before .before .before .pre) _ _ (c .before .before .before .before .before .before .before .before .before .before .key-pos .ensures) (c .before .before .before .before .before .before .before .val-pos .ensures) _ (c .before .before .before .before .before .before .grown .ensures) _ (c .before .before .before .before .before .has-room-for .ensures) (c .before .before .before .before .if1 .left)
-
 same-length-4 : tie.Need-same-length-4
 same-length-4 c = search needs
 
-same-length-5 : tie.Need-same-length-5
-same-length-5 c = search needs
-
-same-length-6 : tie.Need-same-length-6
-same-length-6 c = search needs
-
-same-length-7 : tie.Need-same-length-7
-same-length-7 c = search needs
-
-returns-2 : tie.Need-returns-2
-returns-2 c = let g = c .before .before .before .before .before .before .before .before .before .before .before .before .before .before .before .before .before .before .before .before .before .before .before .before .before .before .before .before .before .before .before .args in
-    tag-done (g .s) (g .o) (g .key .now) (g .v) (g .text .now) (g .keys .now) (g .values .now) (g .texts .now) (g .features .now) (c .before .before .before .before .before .before .before .before .before .before .before .before .before .before .before .before .before .before .before .before .before .before .before .before .before .before .before .before .before .before .before .pre) _ _ (c .before .before .before .before .before .before .before .before .before .before .before .before .before .before .before .before .before .before .before .key-pos .ensures) (c .before .before .before .before .before .before .before .before .before .before .before .before .before .before .before .before .val-pos .ensures) _ (c .before .before .before .before .before .before .before .before .before .before .before .before .before .before .before .grown .ensures) _ (c .before .before .before .before .before .before .before .before .before .before .before .before .before .before .has-room-for .ensures) (c .before .before .before .before .before .before .before .before .before .before .before .before .before .if1 .left) _ _ _ _ (c .before .before .before .before .before .before .before .before .put-tag .ensures)
+returns : tie.Need-returns
+returns c = let g = c .before .before .before .before .before .before .before .before .before .before .before .before .before .before .before .before .before .before .before .before .before .before .before .before .before .before .before .before .args in
+    tag-scanned (g .s) (g .o) (g .key .now) (g .v) (g .text .now) (g .keys .now) (g .values .now) (g .texts .now) (g .features .now) (c .before .before .before .before .before .before .before .before .before .before .before .before .before .before .before .before .before .before .before .before .before .before .before .before .before .before .before .before .pre) _ _ (c .before .before .before .before .before .before .before .before .before .before .before .before .before .before .before .before .key-pos .ensures) (c .before .before .before .before .before .before .before .before .before .before .before .before .before .val-pos .ensures) _ _ (c .before .before .before .before .before .before .before .before .tag-found .ensures)
 
 pub tag-ready-spec : {M : Type 1} → statement M
 tag-ready-spec =
@@ -104,15 +84,9 @@ tag-ready-spec =
     slice-reshare-prefix-val-pos-2
     slice-aggregate-val-pos-2
     val-pos-requires
-    grown-requires
-    has-room-for-requires
+    tag-found-requires
     same-length
     same-length-2
     same-length-3
-    returns
-    put-tag-requires
     same-length-4
-    same-length-5
-    same-length-6
-    same-length-7
-    returns-2)
+    returns)
