@@ -98,3 +98,29 @@ in-slots l h e = omega (arith, mod-lt h {m = slots l} (omega arith))
 
 pub walked-is : (l : List ℕ) (same : ℕ → Bool) (n h limit : ℕ) → limit ≡ reach n (slots l) → (head : ℕ) → Wide (getD l (h % slots l) 0) head → (w : ℕ) → w ≡ walk l same limit head 0 → (r : Found) → r ≡ foundAt w → r ≡ walked l same n h
 walked-is l same n h limit e head g w f r q = rw (q, f, e, g .same)
+
+-- what is found is among the entries
+best-le : (t : Bool) (j best top : ℕ) → j < top → best ≤ top → cond t (suc j) best ≤ top
+best-le true j best top a b = omega arith
+best-le false j best top a b = b
+
+walk-by : (t : Bool) (x y top : ℕ) → x ≤ top → y ≤ top → cond t x y ≤ top
+walk-by true x y top a b = a
+walk-by false x y top a b = b
+
+walk-le : (l : List ℕ) (same : ℕ → Bool) (top n cur best : ℕ) → n ≤ top → best ≤ top → walk l same n cur best ≤ top
+walk-le l same top zero cur best a b = b
+walk-le l same top (suc j) cur best a b =
+    walk-by (eqb cur (suc j)) (walk l same j (getD l (slots l + j) 0) (cond (same j) (suc j) best)) (walk l same j cur best) top
+    (walk-le l same top j (getD l (slots l + j) 0) (cond (same j) (suc j) best) (omega arith) (best-le (same j) j best top (omega arith) b))
+    (walk-le l same top j cur best (omega arith) b)
+
+found-below : (n i : ℕ) → foundAt n ≡ At i → i < n
+found-below zero i e = absurd (let z : _≡_ {A = ℕ} 0 1 = cc in omega arith)
+found-below (suc n) i e = let q : n ≡ i = cc in omega arith
+
+pub walked-below : (l : List ℕ) (same : ℕ → Bool) (n h i : ℕ) → walked l same n h ≡ At i → i < n
+walked-below l same n h i e =
+    let w : ℕ = walk l same (reach n (slots l)) (getD l (h % slots l) 0) 0 in
+    let a = walk-le l same n (reach n (slots l)) (getD l (h % slots l) 0) 0 (reach-le n (slots l) .0) (omega arith) in
+    omega (arith, a, found-below w i e)

@@ -22,6 +22,7 @@ use Rattle.tagging.specs.declared.Asked.{Asked}
 use Rattle.tagging.specs.declared.Asked.the-variants.{Fine, Barred}
 use Rattle.tagging.specs.Steps.{Ready, asksBy, asks}
 use Rattle.tagging.specs.Guards.{guarded}
+use Rattle.tagging.specs.Indexed.{Lent, lent, along}
 use Rattle.tagging.proofs.Present.{record-known}
 
 -- ---- `first_refusal`
@@ -72,13 +73,24 @@ module _ (s : Layer) (o : Figures) (key : List ℕ) (v : Value) (text ks vs ts f
   pub tests-four : r ≡ Fine → Four (fits (s .used) (roomOf (length ks) (length vs) (length ts) (length fs))) (recordAt (take (s .used .features) fs) (o .features) (s .used .features)) (shortText (length key)) (shortText (length text))
   tests-four e = four (fits (s .used) (roomOf (length ks) (length vs) (length ts) (length fs))) (recordAt (take (s .used .features) fs) (o .features) (s .used .features)) (shortText (length key)) (shortText (length text)) (sym g ∙ e)
 
+  chain-barred : (q : Refusal) → r ≡ Barred q → (x : Change) → guarded (record { key = key; value = v; text = text }) (seen s (mem ks vs ts fs)) o x ≡ refuses q
+  chain-barred q e x = barred (fits (s .used) (roomOf (length ks) (length vs) (length ts) (length fs))) (recordAt (take (s .used .features) fs) (o .features) (s .used .features)) (shortText (length key)) (shortText (length text)) q x (sym g ∙ e)
+
+  chain-passed : r ≡ Fine → (x : Change) → guarded (record { key = key; value = v; text = text }) (seen s (mem ks vs ts fs)) o x ≡ x
+  chain-passed e x = let F = tests-four e in rw (F .first, F .second, F .third, F .fourth)
+
   pub tag-barred : (q : Refusal) → r ≡ Barred q → (x : Change) → Gives (written (guarded (record { key = key; value = v; text = text }) (seen s (mem ks vs ts fs)) o x) s (mem ks vs ts fs)) (saidChanged (Refused q s)) (mem ks vs ts fs)
-  tag-barred q e x =
-      rw (barred (fits (s .used) (roomOf (length ks) (length vs) (length ts) (length fs))) (recordAt (take (s .used .features) fs) (o .features) (s .used .features)) (shortText (length key)) (shortText (length text)) q x (sym g ∙ e))
-      (record { answer = refl; memory = refl })
+  tag-barred q e x = rw (chain-barred q e x) (record { answer = refl; memory = refl })
 
   pub tag-passed : r ≡ Fine → (x : Change) (w : Said Layer) (n : Memory) → Gives (written x s (mem ks vs ts fs)) w n → Gives (written (guarded (record { key = key; value = v; text = text }) (seen s (mem ks vs ts fs)) o x) s (mem ks vs ts fs)) w n
-  tag-passed e x w n G = let F = tests-four e in rw (F .first, F .second, F .third, F .fourth) G
+  tag-passed e x w n G = rw (chain-passed e x) G
+
+  -- the same with the indexes beside
+  pub along-barred : (q : Refusal) → r ≡ Barred q → (x : Change) (ki vi kn vn : List ℕ) → Gives (along (guarded (record { key = key; value = v; text = text }) (seen s (mem ks vs ts fs)) o x) s (lent (mem ks vs ts fs) ki vi) kn vn) (saidChanged (Refused q s)) (lent (mem ks vs ts fs) ki vi)
+  along-barred q e x ki vi kn vn = rw (chain-barred q e x) (record { answer = refl; memory = refl })
+
+  pub along-passed : r ≡ Fine → (x : Change) (ki vi kn vn : List ℕ) (w : Said Layer) (n : Lent) → Gives (along x s (lent (mem ks vs ts fs) ki vi) kn vn) w n → Gives (along (guarded (record { key = key; value = v; text = text }) (seen s (mem ks vs ts fs)) o x) s (lent (mem ks vs ts fs) ki vi) kn vn) w n
+  along-passed e x ki vi kn vn w n G = rw (chain-passed e x) G
 
   pub tag-stands : r ≡ Fine → Ready s o (length key) (length text) (mem ks vs ts fs)
   tag-stands e =

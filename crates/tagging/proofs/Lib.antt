@@ -2,3 +2,4 @@ pub mod Putting
 pub mod Tagging
 pub mod Present
 pub mod Asking
+pub mod Noting

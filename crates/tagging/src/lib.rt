@@ -11,6 +11,7 @@ ghost use Rattle.layer.specs.Held.{maxTexts, mem, seen, written};
 ghost use Rattle.layer.specs.Answers.{saidChanged};
 ghost use Rattle.layer.specs.Calls.{grownBy, keyWords, storedAs, valueWords, taggedBy, tagged, recordAt, taggedIn};
 ghost use Rattle.tagging.specs.Steps.{Grows, Small, EntryRoom, Puts, PairRoom, TagRoom, laidTag, Ready, Looked, asks};
+ghost use Rattle.tagging.specs.Indexed.{lent, keyBy, valueBy, keyNoted, valueNoted, noted, notedIf, along, taggedBoth, taggedAlong};
 use layer::Changed;
 use layer::Figures;
 use layer::Layer;
@@ -268,5 +269,152 @@ pub fn tag(
     ) {
         Asked::Barred(q) => Changed::Refused(q, s),
         Asked::Fine => tag_ready(s, o, key, v, text, keys, values, texts, features),
+    }
+}
+
+// ---- a tag by the indexes that the caller lends
+// The key's entry: by the index where that serves, else by scan.
+fn find_key(
+    buckets: &[u32],
+    room: usize,
+    keys: &[u32],
+    texts: &[u8],
+    key: &[u8],
+    hash: usize,
+) -> Found
+    ensures { λ r. ⌜ r ≡ keyBy (now (buckets .entry)) room (now (keys .entry)) (now (texts .entry)) (now (key .entry)) hash ⌝ }
+{
+    if index::serves(buckets.len(), room) {
+        return index::key_pos(buckets, keys, texts, key, hash);
+    }
+    table::key_pos(keys, texts, key)
+}
+
+// The value's entry, likewise.
+fn find_value(
+    buckets: &[u32],
+    room: usize,
+    values: &[u32],
+    texts: &[u8],
+    v: Value,
+    text: &[u8],
+    hash: usize,
+) -> Found
+    ensures { λ r. ⌜ r ≡ valueBy (now (buckets .entry)) room (now (values .entry)) (now (texts .entry)) v (now (text .entry)) hash ⌝ }
+{
+    if index::serves(buckets.len(), room) {
+        return index::val_pos(buckets, values, texts, v, text, hash);
+    }
+    table::val_pos(values, texts, v, text)
+}
+
+// An entry that was not found is entry n, and the index is told so where it serves.
+fn note(buckets: &mut [u32], room: usize, f: Found, n: usize, hash: usize)
+    ensures { λ _. ⌜ now (buckets .exit) ≡ noted (now (buckets .entry)) room f n hash ⌝ }
+{
+    if !index::serves(buckets.len(), room) {
+        return;
+    }
+    match f {
+        Found::At(_) => {}
+        Found::Nothing => {
+            index::push(buckets, n, hash);
+        }
+    }
+}
+
+// The same, unless the tag was refused.
+fn note_if(r: Changed, buckets: &mut [u32], room: usize, f: Found, n: usize, hash: usize)
+    ensures { λ _. ⌜ now (buckets .exit) ≡ notedIf r (noted (now (buckets .entry)) room f n hash) (now (buckets .entry)) ⌝ }
+{
+    match r {
+        Changed::Refused(_, _) => {}
+        Changed::Done(_) => {
+            note(buckets, room, f, n, hash);
+        }
+    }
+}
+
+// A tag of the feature opened at o, if it has room, by the indexes.
+fn tag_by_index(
+    s: Layer,
+    o: Figures,
+    key: &[u8],
+    v: Value,
+    text: &[u8],
+    keys: &mut [u32],
+    values: &mut [u32],
+    texts: &mut [u8],
+    features: &mut [u32],
+    key_index: &mut [u32],
+    value_index: &mut [u32],
+) -> Changed
+    requires { ⌜ Ready s o (length (now key)) (length (now text)) (mem (now keys) (now values) (now texts) (now features)) ⌝ }
+    ensures { λ r. ⌜ Gives (along (taggedBoth (record { key = now (key .entry); value = v; text = now (text .entry) }) (seen s (mem (now (keys .entry)) (now (values .entry)) (now (texts .entry)) (now (features .entry)))) o (now («key_index» .entry)) (now («value_index» .entry))) s (lent (mem (now (keys .entry)) (now (values .entry)) (now (texts .entry)) (now (features .entry))) (now («key_index» .entry)) (now («value_index» .entry))) (keyNoted (record { key = now (key .entry); value = v; text = now (text .entry) }) (seen s (mem (now (keys .entry)) (now (values .entry)) (now (texts .entry)) (now (features .entry)))) (now («key_index» .entry))) (valueNoted (record { key = now (key .entry); value = v; text = now (text .entry) }) (seen s (mem (now (keys .entry)) (now (values .entry)) (now (texts .entry)) (now (features .entry)))) (now («value_index» .entry)))) (saidChanged r) (lent (mem (now (keys .exit)) (now (values .exit)) (now (texts .exit)) (now (features .exit))) (now («key_index» .exit)) (now («value_index» .exit))) ⌝ }
+{
+    let u = s.used;
+    let k = u.keys * 2;
+    let e = u.values * 3;
+    let t = u.texts;
+    let room = Layer::room(keys.len(), values.len(), texts.len(), features.len());
+    let kh = index::hash_text(key);
+    let vh = index::hash_value(v, text);
+    let kf = find_key(&key_index[..], room.keys, &keys[..k], &texts[..t], key, kh);
+    let vf = find_value(
+        &value_index[..],
+        room.values,
+        &values[..e],
+        &texts[..t],
+        v,
+        text,
+        vh,
+    );
+    let r = tag_found(s, o, kf, vf, key, v, text, keys, values, texts, features);
+    note_if(r, key_index, room.keys, kf, u.keys, kh);
+    note_if(r, value_index, room.values, vf, u.values, vh);
+    r
+}
+
+// `tag`, with the key and the value looked up by an index of each table. An index that does not serve is not used, so any list may be lent.
+pub fn tag_indexed(
+    s: Layer,
+    o: Figures,
+    key: &[u8],
+    v: Value,
+    text: &[u8],
+    keys: &mut [u32],
+    values: &mut [u32],
+    texts: &mut [u8],
+    features: &mut [u32],
+    key_index: &mut [u32],
+    value_index: &mut [u32],
+) -> Changed
+    ensures { λ r. ⌜ Gives (taggedAlong (record { key = now (key .entry); value = v; text = now (text .entry) }) s o (lent (mem (now (keys .entry)) (now (values .entry)) (now (texts .entry)) (now (features .entry))) (now («key_index» .entry)) (now («value_index» .entry)))) (saidChanged r) (lent (mem (now (keys .exit)) (now (values .exit)) (now (texts .exit)) (now (features .exit))) (now («key_index» .exit)) (now («value_index» .exit))) ⌝ }
+{
+    let u = s.used;
+    match first_refusal(
+        u,
+        o,
+        key.len(),
+        text.len(),
+        keys.len(),
+        values.len(),
+        texts.len(),
+        &features[..],
+    ) {
+        Asked::Barred(q) => Changed::Refused(q, s),
+        Asked::Fine => tag_by_index(
+            s,
+            o,
+            key,
+            v,
+            text,
+            keys,
+            values,
+            texts,
+            features,
+            key_index,
+            value_index,
+        ),
     }
 }
