@@ -3,3 +3,4 @@ pub mod Tagging
 pub mod Present
 pub mod Asking
 pub mod Noting
+pub mod Indexing

@@ -1,7 +1,8 @@
 -- A tag whose key and value are looked up by an index that the caller lends beside each table. An index that does not serve, since it has no slots or fewer than
 -- the table has room for, is not used: its table is looked up by scan, and it stays as it is.
 use Prim.Native.Nat.{ℕ}
-use mathlib.Core.Bool.{cond}
+use mathlib.Core.Path.{_≡_}
+use mathlib.Core.Bool.{true, cond}
 use mathlib.Core.List.{List}
 use lib.ListN.{length}
 use Rattle.promise.specs.Answers.{Written, kept}
@@ -13,7 +14,7 @@ use Rattle.table.specs.Keys.{findKey}
 use Rattle.table.specs.Values.{findValue}
 use Rattle.index.specs.Hashes.{hashText, hashValue}
 use Rattle.index.specs.Chains.{serves, pushed}
-use Rattle.index.specs.Entries.{walkedKey, walkedValue}
+use Rattle.index.specs.Entries.{KeyIndex, walkedKey, ValueIndex, walkedValue}
 use Rattle.layer.specs.declared.Figures.{Figures}
 use Rattle.layer.specs.declared.Layer.{Layer}
 use Rattle.layer.specs.declared.Changed.{Changed}
@@ -78,3 +79,8 @@ taggedAlong t s o x =
     along (guarded t (seen s (x .memory)) o (taggedBoth t (seen s (x .memory)) o (x .key-index) (x .value-index))) s x
     (keyNoted t (seen s (x .memory)) (x .key-index))
     (valueNoted t (seen s (x .memory)) (x .value-index))
+
+-- each index that serves is that of the entries of its table; of one that does not nothing is asked
+pub record IndexesOf (v : Seen) (ki vi : List ℕ) : Type 0 where
+  pub keys : serves (length ki) (v .room .keys) ≡ true → KeyIndex ki (v .held .keys) (v .held .texts)
+  pub values : serves (length vi) (v .room .values) ≡ true → ValueIndex vi (v .held .values) (v .held .texts)
