@@ -1,7 +1,7 @@
 -- Entries that are the same have the same number.
 --     text-is same-text-hash same-value-hash
-use Prim.Native.Nat.{ℕ, suc, _+_, _*_, _%_}
-use mathlib.Core.Path.{_≡_, refl, sym, ap, _∙_}
+use Prim.Native.Nat.{ℕ, _%_}
+use mathlib.Core.Path.{_≡_, refl, ap}
 use mathlib.Core.Bool.{Bool, true, false, cond, _&&_}
 use mathlib.Core.List.{List, [], _∷_}
 use native.Mathlib.Omega.{arith}

@@ -1,8 +1,8 @@
 -- An index while its layer grows: an entry more, and its text, or texts alone.
 --     keys-pushed keys-kept values-pushed values-kept
-use Prim.Native.Nat.{ℕ, zero, suc, _+_, _*_, _/_, _%_, _≤_, _<_}
+use Prim.Native.Nat.{ℕ, zero, suc, _+_, _*_, _%_, _≤_, _<_}
 use mathlib.Core.Path.{_≡_, refl, sym, ap, _∙_, subst}
-use mathlib.Core.Bool.{Bool, true, false, cond}
+use mathlib.Core.Bool.{Bool, true, false}
 use mathlib.Core.List.{List, [], _∷_, _++_}
 use native.Mathlib.Omega.{arith}
 use lib.ListN.{length, getD, take, drop, length-append, length-drop, List·getD-append}
@@ -12,7 +12,7 @@ use borrow.Author.Tests.{leb-true}
 use Rattle.table.specs.Texts.{inside}
 use Rattle.table.specs.Keys.{keysIn}
 use Rattle.table.specs.Values.{valueOk, valuesIn}
-use Rattle.index.specs.Hashes.{hashText, textIn, mixed, hashStored}
+use Rattle.index.specs.Hashes.{hashText, textIn, hashStored}
 use Rattle.index.specs.Chains.{slots, Indexes, pushed, maxEntry, bucketsOf}
 use Rattle.index.specs.Entries.{keyCount, keyHash, KeyIndex, valueCount, valueHash, ValueIndex}
 use Rattle.index.proofs.Alike.{never, both}

@@ -1,18 +1,16 @@
 -- `walk` at each turn of the loops of `walk_keys` and `walk_values`, over any test of the entries.
 use Prim.Native.Nat.{ℕ, zero, suc, _+_, _-_, _*_, _/_, _%_, _≤_, _<_}
-use mathlib.Core.Path.{_≡_, refl, sym, ap, _∙_}
+use mathlib.Core.Path.{_≡_, refl, sym, _∙_}
 use mathlib.Core.Bool.{Bool, true, false, cond}
 use mathlib.Core.List.{List}
 use native.Mathlib.Omega.{arith}
 use native.Mathlib.Nat.{le-refl, mod-lt}
 use lib.ListN.{length, getD}
 use lib.Dec.{leb, eqb}
-use borrow.Author.Tests.{eq-eqb, ne-eqb, eqb-true, eqb-false, leb-true, leb-false}
+use borrow.Author.Tests.{ne-eqb, eqb-true, eqb-false, leb-true, leb-false}
 use Rattle.table.specs.declared.Found.{Found}
 use Rattle.table.specs.declared.Found.the-variants.{At, Nothing}
-use Rattle.table.specs.declared.Value.{Value}
 use Rattle.table.specs.Texts.{Wide, sameText}
-use Rattle.table.specs.Values.{sameValue}
 use Rattle.index.specs.Chains.{slots, walk, reach, foundAt, walked}
 use Rattle.index.specs.Entries.{keyAt}
 use Rattle.index.specs.Steps.{Ahead}

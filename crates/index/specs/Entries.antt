@@ -9,7 +9,7 @@ use Rattle.table.specs.declared.Found.the-variants.{At, Nothing}
 use Rattle.table.specs.declared.Value.{Value}
 use Rattle.table.specs.Texts.{sameText}
 use Rattle.table.specs.Values.{sameValue}
-use Rattle.index.specs.Hashes.{hashText, textIn, hashValue, hashStored}
+use Rattle.index.specs.Hashes.{hashText, textIn, hashStored}
 use Rattle.index.specs.Chains.{slots, bucketsOf, Indexes, cleared, built, walked}
 
 -- ---- keys

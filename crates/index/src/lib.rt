@@ -1,12 +1,13 @@
 // An index beside the scan of crate `table`: a list that the caller lends, by which a key or a value is looked up among the entries of one bucket alone. It
-// is proved to answer as the scan does where it is the index of the entries (`Indexes`); a list that holds anything else may miss an entry, and no more.
+// is proved to answer as the scan does where it is the index of the entries (`Indexes`). A list that holds anything else may miss an entry, or find a later one
+// that is the same.
 ghost use mathlib.Core.Path.{_≡_};
 ghost use mathlib.Core.Bool.{cond};
-ghost use Prim.Native.Nat.{_+_, _*_, _≤_, _<_};
+ghost use Prim.Native.Nat.{_≤_};
 ghost use lib.ListN.{length};
 ghost use Rattle.index.specs.Hashes.{Octet, hashText, textIn, mixed, hashValue, hashStored};
-ghost use Rattle.index.specs.Chains.{slots, serves, cleared, pushed, walk, foundAt, reach};
-ghost use Rattle.index.specs.Entries.{keyHash, keyAt, builtKeys, walkedKey, valueHash, valueAt, builtValues, walkedValue};
+ghost use Rattle.index.specs.Chains.{serves, cleared, pushed, walk, foundAt, reach};
+ghost use Rattle.index.specs.Entries.{keyAt, builtKeys, walkedKey, valueAt, builtValues, walkedValue};
 ghost use Rattle.index.specs.Steps.{endIn, Ahead};
 use table::Found;
 use table::Value;

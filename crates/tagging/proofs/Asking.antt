@@ -17,7 +17,7 @@ use Rattle.layer.specs.declared.Layer.{Layer}
 use Rattle.layer.specs.declared.Changed.the-variants.{Refused}
 use Rattle.layer.specs.Held.{Memory, mem, roomOf, fits, seen, Change, refuses, check, written}
 use Rattle.layer.specs.Answers.{saidChanged}
-use Rattle.layer.specs.Calls.{Tag, recordAt}
+use Rattle.layer.specs.Calls.{recordAt}
 use Rattle.tagging.specs.declared.Asked.{Asked}
 use Rattle.tagging.specs.declared.Asked.the-variants.{Fine, Barred}
 use Rattle.tagging.specs.Steps.{Ready, asksBy, asks}

@@ -1,38 +1,38 @@
 -- Where the lent indexes that serve are those of the layer's entries, a tag by index answers as `tag` does (`along-answer-is`, `along-memory-is`), and the
 -- indexes after it are those of the entries after it (`indexes-after`).
-use Prim.Native.Nat.{ℕ, zero, suc, _+_, _*_, _/_, _≤_, _<_}
+use Prim.Native.Nat.{ℕ, _+_, _*_, _/_, _≤_}
 use mathlib.Core.Path.{_≡_, refl, sym, ap, _∙_, subst}
-use mathlib.Core.Bool.{Bool, true, false, cond, _&&_}
+use mathlib.Core.Bool.{Bool, true, false, cond}
 use mathlib.Core.List.{List, [], _∷_, _++_, append-assoc, append-nil}
 use native.Mathlib.Omega.{arith}
-use lib.ListN.{length, take, drop, length-append}
+use lib.ListN.{length, take, drop, length-append, length-drop, length-set}
 use lib.Seq.{length-take-le, take-at, drop-at, take-length}
 use lib.Dec.{leb, ltb, eqb}
-use borrow.Author.Tests.{leb-true, ltb-true}
-use Rattle.promise.specs.Answers.{Written}
+use borrow.Author.Tests.{leb-true}
+use Rattle.promise.specs.Answers.{kept}
 use Rattle.refusal.specs.declared.Refusal.{Refusal}
 use Rattle.refusal.specs.declared.Refusal.the-variants.{State, Room, Text as TextRefusal}
-use Rattle.refusal.specs.Said.{Said}
+use Rattle.refusal.specs.Said.{accepted, refused}
 use Rattle.table.specs.declared.Found.{Found}
 use Rattle.table.specs.declared.Found.the-variants.{At, Nothing}
 use Rattle.table.specs.declared.Value.{Value}
 use Rattle.table.specs.Texts.{shortText}
 use Rattle.table.specs.Keys.{findKey, keysIn}
 use Rattle.table.specs.Values.{findValue, valuesIn}
-use Rattle.index.specs.Hashes.{hashText, textIn, mixed, hashValue, hashStored}
-use Rattle.index.specs.Chains.{slotsIn, slots, serves, pushed}
-use Rattle.index.specs.Entries.{keyCount, KeyIndex, walkedKey, valueCount, ValueIndex, walkedValue}
+use Rattle.index.specs.Hashes.{hashText, textIn, hashValue, hashStored}
+use Rattle.index.specs.Chains.{slotsIn, slots, serves}
+use Rattle.index.specs.Entries.{KeyIndex, walkedKey, ValueIndex, walkedValue}
 use Rattle.index.proofs.Scanning.{walked-key-is, walked-value-is}
 use Rattle.index.proofs.Pushing.{length-pushed}
 use Rattle.index.proofs.Growing.{keys-kept, keys-pushed, values-kept, values-pushed}
 use Rattle.layer.specs.declared.Figures.{Figures}
 use Rattle.layer.specs.declared.Layer.{Layer}
-use Rattle.layer.specs.Held.{Memory, mem, maxKeys, maxValues, roomOf, fits, Seen, seen, Change, refuses, holds, check, onto, written}
-use Rattle.layer.specs.Calls.{Tag, moreOf, putOf, keyWords, storedAs, valueWords, grownBy, heldWith, taggedBy, tagged, taggedIn, hasRecord}
+use Rattle.layer.specs.Held.{Memory, mem, maxKeys, maxValues, heldBy, front, roomOf, fits, Seen, seen, Change, refuses, holds, check, onto, written}
+use Rattle.layer.specs.Calls.{Tag, withUsed, indexOf, moreOf, putOf, keyWords, storedAs, valueWords, grownBy, heldWith, taggedBy, tagged, taggedIn, hasRecord}
 use Rattle.layer.proofs.Fitting.{both, smaller-le, Within, within, Fit, fit}
-use Rattle.layer.proofs.Entries.{length-put}
+use Rattle.layer.proofs.Entries.{length-put, twice, thrice}
 use Rattle.tagging.specs.Guards.{guarded}
-use Rattle.tagging.specs.Indexed.{Lent, lent, keyBy, keyFound, valueFound, pushedNew, noted, keyNoted, valueNoted, along, taggedBoth, taggedAlong, IndexesOf}
+use Rattle.tagging.specs.Indexed.{Lent, lent, keyFound, valueFound, pushedNew, noted, keyNoted, valueNoted, along, taggedBoth, taggedAlong, IndexesOf}
 
 -- an index that serves has a slot for each entry that there is room for
 serves-slots : (words room : ℕ) → serves words room ≡ true → room ≤ slotsIn words
@@ -153,8 +153,8 @@ value-after Nothing l vs ts v text n start front e g q I a b =
 never : {X : Type 0} (q : Refusal) (u : Layer) (h : Memory) → refuses q ≡ holds u h → X
 never q u h e = absurd (let z : _≡_ {A = ℕ} 0 1 = cc in omega arith)
 
-check-holds : (b : Bool) (q : Refusal) (x u : Layer) (y h : Memory) → check b q (holds x y) ≡ holds u h → (b ≡ true) × (y ≡ h)
-check-holds true q x u y h e = (refl, cc)
+check-holds : (b : Bool) (q : Refusal) (x u : Layer) (y h : Memory) → check b q (holds x y) ≡ holds u h → (b ≡ true) × ((x ≡ u) × (y ≡ h))
+check-holds true q x u y h e = (refl, ((cc), (cc)))
 check-holds false q x u y h e = never q u h e
 
 module _ (t : Tag) (v : Seen) (o : Figures) (S : Standing v) (ki vi : List ℕ) (I : IndexesOf v ki vi) (p : keysIn (v .layer .used .texts) (v .held .keys) ≡ true) (q : valuesIn (v .layer .used .texts) (v .held .values) ≡ true) where
@@ -190,10 +190,67 @@ module _ (t : Tag) (v : Seen) (o : Figures) (S : Standing v) (ki vi : List ℕ) 
   indexes-tagged u h e =
       let c = check-holds (fits (grownBy (v .layer .used) kf vf (length (t .key)) (length (t .text))) (v .room)) Room _ u (heldWith (v .layer .used) o (v .held) t kf vf) h e in
       let W = within (grownBy (v .layer .used) kf vf (length (t .key)) (length (t .text))) (v .room) (c .0) in
-      subst (λ (x : Memory). IndexesOf (record { layer = u; held = x; room = v .room }) (keyNoted t v ki) (valueNoted t v vi)) (c .1)
+      subst (λ (x : Memory). IndexesOf (record { layer = u; held = x; room = v .room }) (keyNoted t v ki) (valueNoted t v vi)) (c .1 .1)
       (record {
         keys = λ (x : serves (length (keyNoted t v ki)) (v .room .keys) ≡ true).
-          key-index W (subst (λ (n : ℕ). serves n (v .room .keys) ≡ true) (length-noted ki (v .room .keys) (keyFound t v ki) (v .layer .used .keys) (hashText (t .key))) x);
+            key-index W (subst (λ (n : ℕ). serves n (v .room .keys) ≡ true) (length-noted ki (v .room .keys) (keyFound t v ki) (v .layer .used .keys) (hashText (t .key))) x);
         values = λ (x : serves (length (valueNoted t v vi)) (v .room .values) ≡ true).
-          value-index W (subst (λ (n : ℕ). serves n (v .room .values) ≡ true) (length-noted vi (v .room .values) (valueFound t v vi) (v .layer .used .values) (hashValue (t .value) (t .text))) x);
+            value-index W (subst (λ (n : ℕ). serves n (v .room .values) ≡ true) (length-noted vi (v .room .values) (valueFound t v vi) (v .layer .used .values) (hashValue (t .value) (t .text))) x);
       })
+
+-- ---- the same of the memory after the call
+take-front : (n : ℕ) (p l : List ℕ) → length p ≡ n → take n (front p l) ≡ p
+take-front n p l e = take-at p (drop (length p) l) n e
+
+length-front : (p l : List ℕ) → length p ≤ length l → length (front p l) ≡ length l
+length-front p l h = length-append p (drop (length p) l) ∙ rw length-drop (omega arith)
+
+length-behind : (n : ℕ) (l run : List ℕ) → n ≤ length l → length (take n l ++ run) ≡ n + length run
+length-behind n l run h = length-append (take n l) run ∙ ap (λ (k : ℕ). k + length run) (length-take-le n l h)
+
+module _ (t : Tag) (s : Layer) (o : Figures) (ks vs ts fs : List ℕ) (kf vf : Found) (F : Fit (s .used) (length ks) (length vs) (length ts) (length fs)) (G : Fit (grownBy (s .used) kf vf (length (t .key)) (length (t .text))) (length ks) (length vs) (length ts) (length fs)) where
+  seen-grown : seen (withUsed s (grownBy (s .used) kf vf (length (t .key)) (length (t .text))) (s .feature)) (onto (heldWith (s .used) o (heldBy (s .used) (mem ks vs ts fs)) t kf vf) (mem ks vs ts fs)) ≡ record { layer = withUsed s (grownBy (s .used) kf vf (length (t .key)) (length (t .text))) (s .feature); held = heldWith (s .used) o (heldBy (s .used) (mem ks vs ts fs)) t kf vf; room = roomOf (length ks) (length vs) (length ts) (length fs) }
+  seen-grown =
+      let h : Memory = heldWith (s .used) o (heldBy (s .used) (mem ks vs ts fs)) t kf vf in
+      let g : Figures = grownBy (s .used) kf vf (length (t .key)) (length (t .text)) in
+      let k : length (h .keys) ≡ g .keys * 2 = omega (arith, length-behind (s .used .keys * 2) ks (putOf kf (keyWords (s .used .texts) (t .key))) (F .in-keys), length-put kf (keyWords (s .used .texts) (t .key)), twice kf) in
+      let e : length (h .values) ≡ g .values * 3 = omega (arith, length-behind (s .used .values * 3) vs (putOf vf (valueWords (s .used .texts + moreOf kf (length (t .key))) (t .value) (t .text))) (F .in-values), length-put vf (valueWords (s .used .texts + moreOf kf (length (t .key))) (t .value) (t .text)), thrice vf) in
+      let x : length (h .texts) ≡ g .texts = omega (arith, length-behind (s .used .texts) ts (putOf kf (t .key) ++ putOf vf (t .text)) (F .in-texts), length-append (putOf kf (t .key)) (putOf vf (t .text)), length-put kf (t .key), length-put vf (t .text)) in
+      let f : length (h .features) ≡ g .features = simp length-set (length-behind (s .used .features) fs (indexOf kf (s .used .keys) ∷ indexOf vf (s .used .values) ∷ []) (F .in-features)) in
+      rw (take-front (g .keys * 2) (h .keys) ks k, take-front (g .values * 3) (h .values) vs e, take-front (g .texts) (h .texts) ts x, take-front (g .features) (h .features) fs f, length-front (h .keys) ks (omega (arith, k, G .in-keys)), length-front (h .values) vs (omega (arith, e, G .in-values)), length-front (h .texts) ts (omega (arith, x, G .in-texts)), length-front (h .features) fs (omega (arith, f, G .in-features)))
+
+check-passed : (b : Bool) (q : Refusal) (c : Change) (u : Layer) (h : Memory) → check b q c ≡ holds u h → (b ≡ true) × (c ≡ holds u h)
+check-passed true q c u h e = (refl, e)
+check-passed false q c u h e = never q u h e
+
+module _ (t : Tag) (s : Layer) (o : Figures) (ks vs ts fs ki vi : List ℕ) (I : IndexesOf (seen s (mem ks vs ts fs)) ki vi) where
+  -- a tag that is refused leaves everything as it was
+  pub along-refuses : (r : Refusal) → taggedIn t (seen s (mem ks vs ts fs)) o ≡ refuses r → taggedAlong t s o (lent (mem ks vs ts fs) ki vi) ≡ kept (refused r s) (lent (mem ks vs ts fs) ki vi)
+  along-refuses r e = ap (λ (c : Change). along c s (lent (mem ks vs ts fs) ki vi) (keyNoted t (seen s (mem ks vs ts fs)) ki) (valueNoted t (seen s (mem ks vs ts fs)) vi)) (guarded-is t s o ks vs ts fs ki vi I ∙ e)
+
+  -- a tag that is accepted
+  module _ (u : Layer) (h : Memory) (e : taggedIn t (seen s (mem ks vs ts fs)) o ≡ holds u h) where
+    pub along-holds : taggedAlong t s o (lent (mem ks vs ts fs) ki vi) ≡ record { answer = accepted u; memory = lent (onto h (mem ks vs ts fs)) (keyNoted t (seen s (mem ks vs ts fs)) ki) (valueNoted t (seen s (mem ks vs ts fs)) vi) }
+    along-holds = ap (λ (c : Change). along c s (lent (mem ks vs ts fs) ki vi) (keyNoted t (seen s (mem ks vs ts fs)) ki) (valueNoted t (seen s (mem ks vs ts fs)) vi)) (guarded-is t s o ks vs ts fs ki vi I ∙ e)
+
+    room-fits : (fits (s .used) (roomOf (length ks) (length vs) (length ts) (length fs)) ≡ true) × (tagged t (seen s (mem ks vs ts fs)) o ≡ holds u h)
+    room-fits =
+        let a = check-passed (fits (s .used) (roomOf (length ks) (length vs) (length ts) (length fs))) State _ u h e in
+        let b = check-passed (hasRecord (seen s (mem ks vs ts fs)) o) State _ u h (a .1) in
+        let c = check-passed (shortText (length (t .key))) TextRefusal _ u h (b .1) in
+        let d = check-passed (shortText (length (t .text))) TextRefusal (tagged t (seen s (mem ks vs ts fs)) o) u h (c .1) in
+        (a .0, d .1)
+
+    pub seen-tagged : seen u (onto h (mem ks vs ts fs)) ≡ record { layer = u; held = h; room = (roomOf (length ks) (length vs) (length ts) (length fs)) }
+    seen-tagged =
+        let d = check-holds (fits (grownBy (s .used) (findKey 0 (take (s .used .keys * 2) ks) (take (s .used .texts) ts) (t .key)) (findValue 0 (take (s .used .values * 3) vs) (take (s .used .texts) ts) (t .value) (t .text)) (length (t .key)) (length (t .text))) (roomOf (length ks) (length vs) (length ts) (length fs))) Room (withUsed s (grownBy (s .used) (findKey 0 (take (s .used .keys * 2) ks) (take (s .used .texts) ts) (t .key)) (findValue 0 (take (s .used .values * 3) vs) (take (s .used .texts) ts) (t .value) (t .text)) (length (t .key)) (length (t .text))) (s .feature)) u (heldWith (s .used) o (heldBy (s .used) (mem ks vs ts fs)) t (findKey 0 (take (s .used .keys * 2) ks) (take (s .used .texts) ts) (t .key)) (findValue 0 (take (s .used .values * 3) vs) (take (s .used .texts) ts) (t .value) (t .text))) h (room-fits .1) in
+        let F = fit (s .used) (length ks) (length vs) (length ts) (length fs) (room-fits .0) in
+        let G = fit (grownBy (s .used) (findKey 0 (take (s .used .keys * 2) ks) (take (s .used .texts) ts) (t .key)) (findValue 0 (take (s .used .values * 3) vs) (take (s .used .texts) ts) (t .value) (t .text)) (length (t .key)) (length (t .text))) (length ks) (length vs) (length ts) (length fs) (d .0) in
+        subst (λ (x : Layer). seen x (onto h (mem ks vs ts fs)) ≡ record { layer = x; held = h; room = (roomOf (length ks) (length vs) (length ts) (length fs)) }) (d .1 .0)
+        (subst (λ (y : Memory). seen (withUsed s (grownBy (s .used) (findKey 0 (take (s .used .keys * 2) ks) (take (s .used .texts) ts) (t .key)) (findValue 0 (take (s .used .values * 3) vs) (take (s .used .texts) ts) (t .value) (t .text)) (length (t .key)) (length (t .text))) (s .feature)) (onto y (mem ks vs ts fs)) ≡ record { layer = withUsed s (grownBy (s .used) (findKey 0 (take (s .used .keys * 2) ks) (take (s .used .texts) ts) (t .key)) (findValue 0 (take (s .used .values * 3) vs) (take (s .used .texts) ts) (t .value) (t .text)) (length (t .key)) (length (t .text))) (s .feature); held = y; room = (roomOf (length ks) (length vs) (length ts) (length fs)) }) (d .1 .1)
+        (seen-grown t s o ks vs ts fs (findKey 0 (take (s .used .keys * 2) ks) (take (s .used .texts) ts) (t .key)) (findValue 0 (take (s .used .values * 3) vs) (take (s .used .texts) ts) (t .value) (t .text)) F G))
+
+    pub indexes-after : keysIn (s .used .texts) (take (s .used .keys * 2) ks) ≡ true → valuesIn (s .used .texts) (take (s .used .values * 3) vs) ≡ true → IndexesOf (seen u (onto h (mem ks vs ts fs))) (keyNoted t (seen s (mem ks vs ts fs)) ki) (valueNoted t (seen s (mem ks vs ts fs)) vi)
+    indexes-after p q =
+        subst (λ (w : Seen). IndexesOf w (keyNoted t (seen s (mem ks vs ts fs)) ki) (valueNoted t (seen s (mem ks vs ts fs)) vi)) (sym seen-tagged)
+        (indexes-tagged t (seen s (mem ks vs ts fs)) o (seen-stands s ks vs ts fs (room-fits .0)) ki vi I p q u h (room-fits .1))

@@ -1,6 +1,6 @@
 -- What is looked up by an index is among the entries, and what a tag by index leaves behind.
-use Prim.Native.Nat.{ℕ, _*_, _≤_, _<_}
-use mathlib.Core.Path.{_≡_, refl, sym, ap, _∙_, subst}
+use Prim.Native.Nat.{ℕ, _*_, _≤_}
+use mathlib.Core.Path.{_≡_, sym, ap, _∙_, subst}
 use mathlib.Core.Bool.{Bool, true, false, cond, not}
 use mathlib.Core.List.{List}
 use native.Mathlib.Omega.{arith}
@@ -25,10 +25,10 @@ use Rattle.layer.specs.declared.Changed.{Changed}
 use Rattle.layer.specs.declared.Changed.the-variants.{Done, Refused}
 use Rattle.layer.specs.Held.{Memory, mem, roomOf, seen, Change, refuses, holds, written}
 use Rattle.layer.specs.Answers.{saidChanged}
-use Rattle.layer.specs.Calls.{Tag, indexOf, taggedBy}
-use Rattle.layer.proofs.Fitting.{Fit, fit}
+use Rattle.layer.specs.Calls.{indexOf, taggedBy}
+use Rattle.layer.proofs.Fitting.{fit}
 use Rattle.tagging.specs.Steps.{Ready, Looked}
-use Rattle.tagging.specs.Indexed.{lent, keyBy, valueBy, keyFound, valueFound, pushedNew, noted, keyNoted, valueNoted, notedIf, along, taggedBoth}
+use Rattle.tagging.specs.Indexed.{lent, keyBy, valueBy, keyFound, valueFound, noted, keyNoted, valueNoted, notedIf, along, taggedBoth}
 
 -- ---- `note`, `note_if`
 module _ (l : List ℕ) (room : ℕ) (f : Found) (n h : ℕ) (t : Bool) (g : t ≡ serves (length l) room) where

@@ -1,5 +1,4 @@
 -- A tag that is looked up in some way: the checks before the look-up, as in `taggedIn`, and what follows them.
-use mathlib.Core.List.{List}
 use lib.ListN.{length}
 use Rattle.refusal.specs.declared.Refusal.the-variants.{State, Text as TextRefusal}
 use Rattle.table.specs.Texts.{shortText}

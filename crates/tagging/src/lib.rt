@@ -1,5 +1,5 @@
 // The step behind each tag call on a layer: what is found, ROOM, and then the key, the value and the two words of the tag. It asks of STATE only what costs
-// nothing; looking a key or a value up scans its table once.
+// nothing. `tag` looks a key and a value up by one scan of each table, `tag_indexed` by an index of each that the caller lends.
 ghost use mathlib.Core.Path.{_≡_};
 ghost use mathlib.Core.List.{[], _∷_};
 ghost use Prim.Native.Nat.{_+_, _≤_};
