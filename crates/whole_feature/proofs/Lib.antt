@@ -6,3 +6,5 @@ pub mod Placing
 pub mod Filling
 pub mod Opening
 pub mod Undone
+pub mod Heads
+pub mod Adding

@@ -1,5 +1,5 @@
 -- What a whole feature leaves. Refused, all that was seen before it is seen after it (`refused-unseen`), so later calls answer as if it had never been opened
--- (`never-opened`). Accepted, it leaves a layer that no next call refuses as STATE (`accepted-sound`, `accepted-state`).
+-- (`never-opened`). Accepted, it leaves a layer that no next call refuses as STATE (`accepted-sound`, `accepted-state`), and had one before (`accepted-valid`).
 use Prim.Native.Nat.{ℕ}
 use mathlib.Core.Path.{_≡_, refl, sym}
 use mathlib.Core.Bool.{Bool, true, false, cond}
@@ -8,7 +8,7 @@ use mathlib.Core.Logic.{inl}
 use lib.ListN.{length}
 use Rattle.promise.specs.Answers.{Written}
 use Rattle.refusal.specs.declared.Refusal.{Refusal}
-use Rattle.refusal.specs.declared.Refusal.the-variants.{Job, Kind, State}
+use Rattle.refusal.specs.declared.Refusal.the-variants.{Job, Kind, State, Turn}
 use Rattle.refusal.specs.Said.{Said, accepted, refused}
 use Rattle.refusal.proofs.Laws.{never-both}
 use Rattle.words.specs.Geometries.{isKind}
@@ -16,8 +16,9 @@ use Rattle.layer.specs.declared.Figures.{Figures}
 use Rattle.layer.specs.declared.Open.{Open}
 use Rattle.layer.specs.declared.Open.the-variants.{Shut, Since}
 use Rattle.layer.specs.declared.Layer.{Layer}
-use Rattle.layer.specs.Held.{Memory, seen, Change, refuses, written}
+use Rattle.layer.specs.Held.{Memory, seen, Change, refuses, check, written}
 use Rattle.layer.specs.State.{valid}
+use Rattle.layer.specs.Calls.{isShut, opened}
 use Rattle.rollback.specs.Runs.{Call, opens, closes, does, answers}
 use Rattle.rollback.proofs.Good.{by-check}
 use Rattle.rollback.proofs.Seen.{same-used}
@@ -64,3 +65,16 @@ module _ (f : Head) (words ws bytes : List ℕ) (s : Layer) (m : Memory) where
 
   pub accepted-state : (t : Layer) (c : Call) → addFeature f words ws bytes s m .answer ≡ accepted t → does c (seen t (addFeature f words ws bytes s m .memory)) ≡ refuses State → ⊥
   accepted-state t c a = never-state c (seen t (addFeature f words ws bytes s m .memory)) (accepted-sound t a)
+
+  -- and had one that broke none
+  valid-or : (b k d : Bool) (x : Change) (go : Layer → Memory → Written (Said Layer) Memory) (t : Layer) →
+      cond b (andThen (check k Kind (check d State x)) s m go) (written (refuses Job) s m) .answer ≡ accepted t →
+      d ≡ true
+  valid-or true true true x go t a = refl
+  valid-or true true false x go t a = absurd (never-both State (sym a))
+  valid-or true false d x go t a = absurd (never-both Kind (sym a))
+  valid-or false k d x go t a = absurd (never-both Job (sym a))
+
+  pub accepted-valid : (t : Layer) → addFeature f words ws bytes s m .answer ≡ accepted t → valid (seen s m) ≡ true
+  accepted-valid t a =
+      valid-or (tagsOk (length bytes) ws) (isKind (f .kind)) (valid (seen s m)) (check (isShut (s .feature)) Turn (opened (f .kind) words (seen s m))) (λ u n. runUntil s (innerCalls f ws bytes ++ (closes ∷ [])) u n) t a

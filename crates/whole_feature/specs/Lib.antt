@@ -1,3 +1,4 @@
 pub mod Tags
 pub mod Whole
 pub mod Steps
+pub mod Many

@@ -6,12 +6,16 @@ ghost use Prim.Native.Nat.{_+_, _≤_};
 ghost use lib.ListN.{length};
 ghost use Rattle.promise.specs.Answers.{Gives};
 ghost use Rattle.layer.specs.Held.{mem, seen, written};
+ghost use Rattle.layer.specs.State.{valid};
 ghost use Rattle.layer.specs.Answers.{saidChanged};
 ghost use Rattle.layer.specs.Calls.{taggedIn};
 ghost use Rattle.rollback.specs.Runs.{closes};
 ghost use Rattle.whole_feature.specs.Tags.{tagsOk, okAt, valueGiven, textPlace, tagAt, tagCalls};
 ghost use Rattle.whole_feature.specs.Whole.{runUntil, innerCalls, addFeature};
 ghost use Rattle.whole_feature.specs.Steps.{TagThere, Ready};
+
+pub mod many; // many whole features in one call
+
 use layer::Changed;
 use layer::Figures;
 use layer::Layer;
@@ -182,10 +186,10 @@ fn mark(
     }
 }
 
-// A whole feature of this head, with these geometry words and tags: opened, its id set, tagged and closed. The tags are five words each: where the key starts and
-// how long it is, the value's kind, and then where its text starts and how long it is, or the low and the high half of its content; the texts stand in bytes.
-pub fn add_feature(
+// A whole feature, where it is known whether the layer breaks no rule of STATE: whoever adds many asks once.
+pub(crate) fn add_known(
     s: Layer,
+    stands: bool,
     f: Head,
     words: &[u32],
     tags: &[u32],
@@ -195,6 +199,7 @@ pub fn add_feature(
     texts: &mut [u8],
     features: &mut [u32],
 ) -> Changed
+    requires { ⌜ stands ≡ valid (seen s (mem (now keys) (now values) (now texts) (now features))) ⌝ }
     ensures { λ r. ⌜ Gives (addFeature f (now (words .entry)) (now (tags .entry)) (now (bytes .entry)) s (mem (now (keys .entry)) (now (values .entry)) (now (texts .entry)) (now (features .entry)))) (saidChanged r) (mem (now (keys .exit)) (now (values .exit)) (now (texts .exit)) (now (features .exit))) ⌝ }
 {
     if !is_tag_list(tags, bytes.len()) {
@@ -204,7 +209,7 @@ pub fn add_feature(
     if !geometry.is_good() {
         return Changed::Refused(Refusal::Kind, s);
     }
-    if !layer::state::is_valid(s, &keys[..], &values[..], &texts[..], &features[..]) {
+    if !stands {
         return Changed::Refused(Refusal::State, s);
     }
     let q = s.feature;
@@ -223,4 +228,34 @@ pub fn add_feature(
         Changed::Done(t) => mark(s, t, f, tags, bytes, keys, values, texts, features),
         Changed::Refused(r, _) => Changed::Refused(r, s),
     }
+}
+
+// A whole feature of this head, with these geometry words and tags: opened, its id set, tagged and closed. The tags are five words each: where the key starts and
+// how long it is, the value's kind, and then where its text starts and how long it is, or the low and the high half of its content; the texts stand in bytes.
+pub fn add_feature(
+    s: Layer,
+    f: Head,
+    words: &[u32],
+    tags: &[u32],
+    bytes: &[u8],
+    keys: &mut [u32],
+    values: &mut [u32],
+    texts: &mut [u8],
+    features: &mut [u32],
+) -> Changed
+    ensures { λ r. ⌜ Gives (addFeature f (now (words .entry)) (now (tags .entry)) (now (bytes .entry)) s (mem (now (keys .entry)) (now (values .entry)) (now (texts .entry)) (now (features .entry)))) (saidChanged r) (mem (now (keys .exit)) (now (values .exit)) (now (texts .exit)) (now (features .exit))) ⌝ }
+{
+    let stands = layer::state::is_valid(s, &keys[..], &values[..], &texts[..], &features[..]);
+    add_known(
+        s,
+        stands,
+        f,
+        words,
+        tags,
+        bytes,
+        keys,
+        values,
+        texts,
+        features,
+    )
 }
