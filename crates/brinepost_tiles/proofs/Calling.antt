@@ -9,6 +9,8 @@ use Rattle.layer.specs.Held.{Memory, Seen, Change, seen, written}
 use Rattle.layer.specs.Answers.{saidChanged}
 use Rattle.whole_feature.specs.declared.Head.{Head}
 use Rattle.whole_feature.specs.Whole.{addFeature}
+use Rattle.whole_feature.specs.declared.many.Added.{Added as AddedMany}
+use Rattle.whole_feature.specs.Many.{saidAdded, addFeatures}
 use Rattle.tile.specs.declared.Tile.{Tile}
 use Rattle.tile.specs.declared.Added.{Added}
 use Rattle.tile.specs.Tiles.{TileMemory}
@@ -18,10 +20,11 @@ use Rattle.telling.proofs.Tellings.{told-gives}
 use Rattle.brinepost_tiles.specs.declared.carried.BpLayer.{BpLayer}
 use Rattle.brinepost_tiles.specs.declared.carried.BpTile.{BpTile}
 use Rattle.brinepost_tiles.specs.declared.answers.BpChanged.{BpChanged}
+use Rattle.brinepost_tiles.specs.declared.answers.BpMany.{BpMany}
 use Rattle.brinepost_tiles.specs.declared.answers.BpAdded.{BpAdded}
 use Rattle.brinepost_tiles.specs.Carried.{layerOf, tileOf}
-use Rattle.brinepost_tiles.specs.Answers.{flatChanged, flatTile}
-use Rattle.brinepost_tiles.specs.Calls.{calledFrom, featureFrom, addedFrom}
+use Rattle.brinepost_tiles.specs.Answers.{flatChanged, flatMany, flatTile}
+use Rattle.brinepost_tiles.specs.Calls.{calledFrom, featureFrom, featuresFrom, addedFrom}
 
 module _ (given : BpLayer) (s : Layer) (k : s ≡ layerOf given) where
   module _ (a : Changed) (r : BpChanged) (q : r ≡ flatChanged given (saidChanged a)) (m n : Memory) where
@@ -32,6 +35,10 @@ module _ (given : BpLayer) (s : Layer) (k : s ≡ layerOf given) where
     pub whole-called : (f : Head) (words ws bytes : List ℕ) → Gives (addFeature f words ws bytes s m) (saidChanged a) n → Gives (featureFrom given f words ws bytes m) r n
     unfolding featureFrom
     whole-called f words ws bytes g = rw (← k) (told-gives (flatChanged given) (addFeature f words ws bytes s m) (saidChanged a) r n g q)
+
+  pub many-called : (a : AddedMany) (r : BpMany) → r ≡ flatMany given (saidAdded a) → (m n : Memory) (heads words ws bytes : List ℕ) → Gives (addFeatures heads words ws bytes s m) (saidAdded a) n → Gives (featuresFrom given heads words ws bytes m) r n
+  unfolding featuresFrom
+  many-called a r q m n heads words ws bytes g = rw (← k) (told-gives (flatMany given) (addFeatures heads words ws bytes s m) (saidAdded a) r n g q)
 
   pub tile-called : (t : BpTile) (u : Tile) (m : Memory) (l n : TileMemory) (a : Added) (r : BpAdded) → u ≡ tileOf t → Gives (addLayer u (seen s m) l) (saidTile a) n → r ≡ flatTile (saidTile a) → Gives (addedFrom t given m l) r n
   unfolding addedFrom

@@ -19,6 +19,9 @@ use Rattle.layer.specs.declared.Counted.the-variants.{Is, Refused as NotCounted
 use Rattle.layer.specs.declared.Named.{Named}
 use Rattle.layer.specs.declared.Named.the-variants.{At, Refused as NotNamed}
 use Rattle.layer.specs.Answers.{saidChanged, saidCreated, saidCounted, saidNamed}
+use Rattle.whole_feature.specs.declared.many.Added.{Added as AddedMany}
+use Rattle.whole_feature.specs.declared.many.Added.the-variants.{Done as ManyDone, Refused as NotMany}
+use Rattle.whole_feature.specs.Many.{saidAdded}
 use Rattle.tile.specs.declared.Tile.{Tile}
 use Rattle.tile.specs.declared.Added.{Added}
 use Rattle.tile.specs.declared.Added.the-variants.{Done as AddedDone, Refused as NotAdded}
@@ -28,11 +31,12 @@ use Rattle.tile.specs.Answers.{saidTile, saidCounted as saidTileCounted}
 use Rattle.brinepost_tiles.specs.declared.carried.BpLayer.{BpLayer}
 use Rattle.brinepost_tiles.specs.declared.carried.BpTile.{BpTile}
 use Rattle.brinepost_tiles.specs.declared.answers.BpChanged.{BpChanged}
+use Rattle.brinepost_tiles.specs.declared.answers.BpMany.{BpMany}
 use Rattle.brinepost_tiles.specs.declared.answers.BpCounted.{BpCounted}
 use Rattle.brinepost_tiles.specs.declared.answers.BpNamed.{BpNamed}
 use Rattle.brinepost_tiles.specs.declared.answers.BpAdded.{BpAdded}
 use Rattle.brinepost_tiles.specs.Carried.{layerTo, noLayer, tileTo}
-use Rattle.brinepost_tiles.specs.Answers.{flatCreated, flatChanged, flatCounted, flatNamed, flatTile, flatTileCounted}
+use Rattle.brinepost_tiles.specs.Answers.{flatCreated, flatChanged, layerAfter, flatMany, flatCounted, flatNamed, flatTile, flatTileCounted}
 
 -- no refusal's number is the 0 of an accepted call
 never-zero : (k : Refusal) → eqb (numberOf k) 0 ≡ false
@@ -55,6 +59,24 @@ module _ (given : BpLayer) (r : Changed) where
   pub changed-not : (k : Refusal) (s : Layer) (n : ℕ) → r ≡ Refused k s → n ≡ numberOf k → _≡_ {A = BpChanged} (record { refusal = n; layer = given }) (flatChanged given (saidChanged r))
   unfolding flatChanged
   changed-not k s n e h = rw (e, h, never-zero k)
+
+module _ (given : BpLayer) (s : Layer) where
+  pub none-added : (n : ℕ) → n ≡ 0 → given ≡ layerAfter given s n
+  unfolding layerAfter
+  none-added n e = rw e
+
+  pub some-added : (n : ℕ) (c : BpLayer) → (n ≡ 0 → ⊥) → c ≡ layerTo s → c ≡ layerAfter given s n
+  unfolding layerAfter
+  some-added n c h e = rw (ne-eqb n 0 h, e)
+
+module _ (given : BpLayer) (r : AddedMany) where
+  pub many-done : (s : Layer) (n : ℕ) (c : BpLayer) → r ≡ ManyDone s n → c ≡ layerAfter given s n → _≡_ {A = BpMany} (record { refusal = 0; layer = c; count = n }) (flatMany given (saidAdded r))
+  unfolding flatMany
+  many-done s n c e h = rw (e, h)
+
+  pub many-not : (k : Refusal) (s : Layer) (n x : ℕ) (c : BpLayer) → r ≡ NotMany k s n → x ≡ numberOf k → c ≡ layerAfter given s n → _≡_ {A = BpMany} (record { refusal = x; layer = c; count = n }) (flatMany given (saidAdded r))
+  unfolding flatMany
+  many-not k s n x c e h i = rw (e, h, i)
 
 module _ (r : Counted) where
   pub counted-done : (n : ℕ) → r ≡ Is n → _≡_ {A = BpCounted} (record { refusal = 0; count = n }) (flatCounted (saidCounted r))

@@ -7,10 +7,12 @@ use Rattle.refusal.specs.Said.{Said}
 use Rattle.table.specs.declared.Text.{Text}
 use Rattle.layer.specs.declared.Layer.{Layer}
 use Rattle.layer.specs.Answers.{Told}
+use Rattle.whole_feature.specs.Many.{Many}
 use Rattle.tile.specs.declared.Tile.{Tile}
 use Rattle.tile.specs.Answers.{Told as TileTold}
 use Rattle.brinepost_tiles.specs.declared.carried.BpLayer.{BpLayer}
 use Rattle.brinepost_tiles.specs.declared.answers.BpChanged.{BpChanged}
+use Rattle.brinepost_tiles.specs.declared.answers.BpMany.{BpMany}
 use Rattle.brinepost_tiles.specs.declared.answers.BpCounted.{BpCounted}
 use Rattle.brinepost_tiles.specs.declared.answers.BpNamed.{BpNamed}
 use Rattle.brinepost_tiles.specs.declared.answers.BpAdded.{BpAdded}
@@ -27,6 +29,13 @@ flatCreated a = record { refusal = a .number; layer = firstLayer (a .values) }
 -- the layer after the call, or exactly as C gave it
 unfoldable pub flatChanged : BpLayer → Said Layer → BpChanged
 flatChanged given a = record { refusal = a .number; layer = cond (eqb (a .number) 0) (layerTo (a .values)) given }
+
+-- the layer after so many accepted features, or exactly as C gave it where there was none
+unfoldable pub layerAfter : BpLayer → Layer → ℕ → BpLayer
+layerAfter given s n = cond (eqb n 0) given (layerTo s)
+
+unfoldable pub flatMany : BpLayer → Said Many → BpMany
+flatMany given a = record { refusal = a .number; layer = layerAfter given (a .values .layer) (a .values .count); count = a .values .count }
 
 -- the number asked for, 0 where refused
 unfoldable pub flatCounted : Said (Told ℕ) → BpCounted

@@ -7,15 +7,17 @@ use Rattle.promise.specs.Answers.{Written}
 use Rattle.layer.specs.Held.{Memory, Seen, Change, seen, written}
 use Rattle.whole_feature.specs.declared.Head.{Head}
 use Rattle.whole_feature.specs.Whole.{addFeature}
+use Rattle.whole_feature.specs.Many.{addFeatures}
 use Rattle.tile.specs.Tiles.{TileMemory}
 use Rattle.tile.specs.Adding.{addLayer}
 use Rattle.telling.specs.Telling.{told}
 use Rattle.brinepost_tiles.specs.declared.carried.BpLayer.{BpLayer}
 use Rattle.brinepost_tiles.specs.declared.carried.BpTile.{BpTile}
 use Rattle.brinepost_tiles.specs.declared.answers.BpChanged.{BpChanged}
+use Rattle.brinepost_tiles.specs.declared.answers.BpMany.{BpMany}
 use Rattle.brinepost_tiles.specs.declared.answers.BpAdded.{BpAdded}
 use Rattle.brinepost_tiles.specs.Carried.{layerOf, tileOf}
-use Rattle.brinepost_tiles.specs.Answers.{flatChanged, flatTile}
+use Rattle.brinepost_tiles.specs.Answers.{flatChanged, flatMany, flatTile}
 
 -- what a call sees of the layer that C carries
 abbrev pub seenFrom : BpLayer → Memory → Seen
@@ -34,6 +36,9 @@ headAt kind has id = record { kind = kind; «has_id» = isTrue has; id = id }
 
 unfoldable pub featureFrom : BpLayer → Head → List ℕ → List ℕ → List ℕ → Memory → Written BpChanged Memory
 featureFrom given f words ws bytes m = told (flatChanged given) (addFeature f words ws bytes (layerOf given) m)
+
+unfoldable pub featuresFrom : BpLayer → List ℕ → List ℕ → List ℕ → List ℕ → Memory → Written BpMany Memory
+featuresFrom given heads words ws bytes m = told (flatMany given) (addFeatures heads words ws bytes (layerOf given) m)
 
 unfoldable pub addedFrom : BpTile → BpLayer → Memory → TileMemory → Written BpAdded TileMemory
 addedFrom t given m n = told flatTile (addLayer (tileOf t) (seenFrom given m) n)

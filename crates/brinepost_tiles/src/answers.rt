@@ -1,8 +1,9 @@
 // The structs of the answers, made from the enums of the proved functions.
 ghost use mathlib.Core.Path.{_≡_};
 ghost use Rattle.layer.specs.Answers.{saidChanged, saidCreated, saidCounted, saidNamed};
+ghost use Rattle.whole_feature.specs.Many.{saidAdded};
 ghost use Rattle.tile.specs.Answers.{saidTile, saidCounted as saidTileCounted};
-ghost use Rattle.brinepost_tiles.specs.Answers.{flatCreated, flatChanged, flatCounted, flatNamed, flatTile, flatTileCounted};
+ghost use Rattle.brinepost_tiles.specs.Answers.{flatCreated, flatChanged, layerAfter, flatMany, flatCounted, flatNamed, flatTile, flatTileCounted};
 use crate::carried::BpLayer;
 use crate::carried::BpTile;
 use crate::carried::layer_to;
@@ -11,6 +12,7 @@ use crate::carried::tile_to;
 use layer::Changed;
 use layer::Counted;
 use layer::Created;
+use layer::Layer;
 use layer::Named;
 use tile::Added;
 
@@ -18,6 +20,13 @@ use tile::Added;
 pub struct BpChanged {
     pub refusal: u32,
     pub layer: BpLayer,
+}
+
+#[repr(C)]
+pub struct BpMany {
+    pub refusal: u32,
+    pub layer: BpLayer,
+    pub count: usize,
 }
 
 #[repr(C)]
@@ -66,6 +75,33 @@ pub(crate) fn changed(given: BpLayer, r: Changed) -> BpChanged
         Changed::Refused(k, _) => BpChanged {
             refusal: refusal::number(k),
             layer: given,
+        },
+    }
+}
+
+// Where no feature was accepted, C has its layer as it was given.
+fn layer_after(given: BpLayer, s: Layer, n: usize) -> BpLayer
+    ensures { λ r. ⌜ r ≡ layerAfter given s n ⌝ }
+{
+    if n == 0 {
+        return given;
+    }
+    layer_to(s)
+}
+
+pub(crate) fn many_added(given: BpLayer, r: whole_feature::many::Added) -> BpMany
+    ensures { λ a. ⌜ a ≡ flatMany given (saidAdded r) ⌝ }
+{
+    match r {
+        whole_feature::many::Added::Done(s, n) => BpMany {
+            refusal: 0,
+            layer: layer_after(given, s, n),
+            count: n,
+        },
+        whole_feature::many::Added::Refused(k, s, n) => BpMany {
+            refusal: refusal::number(k),
+            layer: layer_after(given, s, n),
+            count: n,
         },
     }
 }

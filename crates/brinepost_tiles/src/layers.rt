@@ -5,9 +5,11 @@ ghost use Rattle.layer.specs.Held.{mem};
 ghost use Rattle.layer.specs.Calls.{created, intoFeature, setId, intoLayer, abandoned};
 ghost use Rattle.telling.specs.Telling.{told};
 ghost use Rattle.brinepost_tiles.specs.Answers.{flatCreated};
-ghost use Rattle.brinepost_tiles.specs.Calls.{calledFrom, headAt, featureFrom};
+ghost use Rattle.brinepost_tiles.specs.Calls.{calledFrom, headAt, featureFrom, featuresFrom};
 use crate::answers::BpChanged;
+use crate::answers::BpMany;
 use crate::answers::changed;
+use crate::answers::many_added;
 use crate::carried::BpLayer;
 use crate::carried::layer_of;
 use layer::Layer;
@@ -115,4 +117,35 @@ pub extern "C" fn bp_add_feature(
     };
     let r = whole_feature::add_feature(s, head, words, tags, bytes, keys, values, texts, features);
     changed(given, r)
+}
+
+// JOB, else the whole features of the heads one after the other, up to the first that is refused. A head is six words: kind, id mark (0 or 1), the low and the high half of the id,
+// how many geometry words and how many tag words; these stand in words and in tags, those of one feature behind those of the one before.
+#[no_mangle]
+pub extern "C" fn bp_add_features(
+    given: BpLayer,
+    heads: &[u32],
+    words: &[u32],
+    tags: &[u32],
+    bytes: &[u8],
+    keys: &mut [u32],
+    values: &mut [u32],
+    texts: &mut [u8],
+    features: &mut [u32],
+) -> BpMany
+    ensures { λ r. ⌜ Gives (featuresFrom given (now (heads .entry)) (now (words .entry)) (now (tags .entry)) (now (bytes .entry)) (mem (now (keys .entry)) (now (values .entry)) (now (texts .entry)) (now (features .entry)))) r (mem (now (keys .exit)) (now (values .exit)) (now (texts .exit)) (now (features .exit))) ⌝ }
+{
+    let s = layer_of(given);
+    let r = whole_feature::many::add_features(
+        s,
+        heads,
+        words,
+        tags,
+        bytes,
+        keys,
+        values,
+        texts,
+        features,
+    );
+    many_added(given, r)
 }

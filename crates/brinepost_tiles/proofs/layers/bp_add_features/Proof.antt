@@ -1,0 +1,42 @@
+-- What the proved call said of the layer that C's numbers stand for.
+use Rattle.brinepost_tiles.proofs.Calling.{many-called}
+use borrow.Author.Needs.{needs}
+use Rattle.brinepost_tiles.proofs.layers.bp_add_features.Statement.{statement}
+use Rattle.brinepost_tiles.proofs.layers.bp_add_features.Tie as tie
+
+layer-of-requires : tie.Need-layer-of-requires
+layer-of-requires c κs = search needs
+
+add-features-requires : tie.Need-add-features-requires
+add-features-requires c κs = search needs
+
+many-added-requires : tie.Need-many-added-requires
+many-added-requires c κs = search needs
+
+same-length : tie.Need-same-length
+same-length c = search needs
+
+same-length-2 : tie.Need-same-length-2
+same-length-2 c = search needs
+
+same-length-3 : tie.Need-same-length-3
+same-length-3 c = search needs
+
+same-length-4 : tie.Need-same-length-4
+same-length-4 c = search needs
+
+returns : tie.Need-returns
+returns c = many-called _ _ (c .before .before .before .before .before .before .before .before .before .before .before .before .before .before .layer-of .ensures) (c .before .before .before .before .before .before .before .before .before .add-features .result) _ (c .many-added .ensures) _ _ _ _ _ _ (c .before .before .before .before .before .before .before .before .before .add-features .ensures)
+
+pub bp-add-features-spec : {M : Type 1} → statement M
+bp-add-features-spec =
+    tie.close
+    (tie.spec
+    layer-of-requires
+    add-features-requires
+    many-added-requires
+    same-length
+    same-length-2
+    same-length-3
+    same-length-4
+    returns)
