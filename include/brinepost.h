@@ -5,8 +5,9 @@
  * A list is a pointer and a length in elements, in this order. The pointer is aligned for its type and not null (a list of length 0 too), and its elements are the caller's
  * to read; what the function is to write must not overlap another list of the same call.
  * `refusal` is 0 where a call is accepted, else one of the numbers below. A refused call writes nowhere and says 0 for its counts, and gives the state back as it was given;
- * only a whole job and a whole feature differ: at its first refused call a job leaves the words as the accepted calls left them and says how many points were accepted, and a
- * feature leaves the lists as the accepted calls left them, beyond what the layer that it gives back says is used. */
+ * only a whole job, a whole feature and many of these differ: at its first refused call a job leaves the words as the accepted calls left them and says how many points were
+ * accepted, a feature leaves the lists as the accepted calls left them, beyond what the layer that it gives back says is used, and many features say how many were accepted
+ * and give back the layer with these. */
 #ifndef BRINEPOST_H
 #define BRINEPOST_H
 
@@ -19,7 +20,7 @@ extern "C" {
 
 enum bp_refusal {
     BP_ACCEPTED = 0,
-    BP_JOB = 1,      /* no parts, ends that descend, a last end that is not the point count, an odd list of coordinates */
+    BP_JOB = 1,      /* no parts, ends that descend, a last end that is not the point count, an odd list of coordinates; no list of tags or of heads */
     BP_KIND = 2,     /* a kind that is not 1 point, 2 line, 3 polygon */
     BP_BOX = 3,      /* x_min >= x_max, y_min >= y_max, or an edge beyond BP_LIMIT */
     BP_STATE = 4,    /* a carried state that breaks a rule */
@@ -144,6 +145,12 @@ typedef struct bp_changed {
     bp_layer layer; /* after the call; as it was given where refused; all 0 where a new one is refused */
 } bp_changed;
 
+typedef struct bp_many {
+    uint32_t refusal;
+    bp_layer layer; /* with the accepted features; as it was given where none was accepted */
+    size_t count;   /* how many features were accepted, where refused too */
+} bp_many;
+
 typedef struct bp_counted {
     uint32_t refusal;
     size_t count; /* 0 where refused */
@@ -207,6 +214,13 @@ bp_changed bp_abandon(bp_layer layer, const uint32_t *keys, size_t keys_len, con
 bp_changed bp_add_feature(bp_layer layer, uint32_t kind, uint32_t has_id, uint64_t id, const uint32_t *words, size_t words_len,
                           const uint32_t *tags, size_t tags_len, const uint8_t *bytes, size_t bytes_len, uint32_t *keys, size_t keys_len,
                           uint32_t *values, size_t values_len, uint8_t *texts, size_t texts_len, uint32_t *features, size_t features_len);
+
+/* Adds whole features one after the other, up to the first that is refused: JOB, then what bp_add_feature refuses of each. The layer is checked once for all of them, so many
+ * features cost far less than as many calls. A feature is six words of `heads`: its kind, 1 where it has an id or else 0, the low and the high half of its id, how many words of
+ * `words` and how many of `tags` it takes; those of one feature stand behind those of the one before, and all of both are taken. */
+bp_many bp_add_features(bp_layer layer, const uint32_t *heads, size_t heads_len, const uint32_t *words, size_t words_len, const uint32_t *tags, size_t tags_len,
+                        const uint8_t *bytes, size_t bytes_len, uint32_t *keys, size_t keys_len, uint32_t *values, size_t values_len, uint8_t *texts,
+                        size_t texts_len, uint32_t *features, size_t features_len);
 
 /* How many features are complete: STATE. */
 bp_counted bp_num_features(bp_layer layer, const uint32_t *keys, size_t keys_len, const uint32_t *values, size_t values_len,

@@ -15,6 +15,9 @@ AT(bp_layer, used, 16);
 AT(bp_layer, since, 48);
 SIZE(bp_changed, 88);
 AT(bp_changed, layer, 8);
+SIZE(bp_many, 96);
+AT(bp_many, layer, 8);
+AT(bp_many, count, 88);
 SIZE(bp_counted, 16);
 AT(bp_counted, count, 8);
 SIZE(bp_named, 24);
@@ -166,6 +169,43 @@ static bp_layer whole(bp_layer s)
     return c.layer;
 }
 
+static void none_added(int line, bp_layer s, bp_many a, uint32_t refusal)
+{
+    same("refusal", line, refusal, a.refusal);
+    same("the count", line, 0, a.count);
+    same("the layer given back", line, 0, memcmp(&s, &a.layer, sizeof s));
+    same("the lists", line, 0, memcmp(&m, &should, sizeof m));
+}
+#define NONE_ADDED(s, a, refusal) none_added(__LINE__, s, a, refusal)
+
+/* Three features in one call: without an id and tags, with both, and one that has no room. */
+static void many(bp_layer s)
+{
+    static const uint32_t heads[] = {2, 0, 7, 8, 1, 0, 1, 1, 6, 0x80000007u, 2, 10, 3, 1, 1, 1, 3, 5};
+    static const uint32_t drawn[] = {9, 2, 4, 5, 6, 7};
+    static const uint32_t tags[] = {2, 1, 1, 0, 2, 3, 1, 5, 1, 0xFFFFFFFEu, 2, 1, 4, 3, 3};
+    static const uint32_t marked[] = {1, 2, 0, 0, 0, 0};
+    fill();
+    bp_changed c = bp_layer_new(TEXT("ab"), s.extent, m.texts, COUNT(m.texts));
+    memcpy(should.texts, "ab", 2);
+    s = c.layer, s.since.keys = SIZE_MAX; /* what lies behind a 0 is not looked at, and comes back */
+    NONE_ADDED(s, bp_add_features(s, heads, 17, drawn, 6, tags, 15, TEXT("v!kd"), LISTS), BP_JOB);
+    NONE_ADDED(s, bp_add_features(s, heads, 18, drawn, 5, tags, 15, TEXT("v!kd"), LISTS), BP_JOB);
+    NONE_ADDED(s, bp_add_features(s, heads, 18, drawn, 6, tags, 14, TEXT("v!kd"), LISTS), BP_JOB);
+    NONE_ADDED(s, bp_add_features(s, heads, 12, drawn, 4, tags, 10, TEXT("v!kd"), LISTS), BP_JOB);
+    NONE_ADDED(s, bp_add_features(s, marked, 6, drawn, 0, tags, 0, TEXT(""), LISTS), BP_JOB);
+    NONE_ADDED(s, bp_add_features(s, heads, 0, drawn, 0, tags, 0, TEXT(""), LISTS), 0);
+    bp_many a = bp_add_features(s, heads, 18, drawn, 6, tags, 15, TEXT("v!kd"), m.keys, 4, m.values, 8, m.texts, COUNT(m.texts), m.features, COUNT(m.features));
+    LAID(features, 0, 2, 0, 0, 0, 0, 1, 9), LAID(features, 7, 1, 1, 6, 0x80000007u, 4, 2, 2, 4, 0, 0, 1, 1);
+    LAID(features, 19, 3, 1, 1, 1, 0, 3, 5, 6, 7); /* the third was opened, and its value had no room */
+    LAID(keys, 0, 2, 1, 5, 1), LAID(values, 0, 1, 3, 2, 5, 1, 0xFFFFFFFEu), memcpy(should.texts + 2, "kv!d", 4);
+    SAME(BP_ROOM, a.refusal), SAME(2, a.count), SAME(0, a.layer.is_open), FIGURES(a.layer.used, 2, 2, 6, 19), FIGURES(a.layer.since, 0, 0, 0, 0), HELD();
+    SAME(2, bp_num_features(a.layer, LISTS).count);
+    a = bp_add_features(a.layer, heads + 12, 6, drawn + 3, 3, tags + 10, 5, TEXT("v!kd"), LISTS);
+    LAID(features, 23, 2), LAID(features, 28, 0, 2), LAID(values, 6, 4, 3, 3);
+    SAME(0, a.refusal), SAME(1, a.count), FIGURES(a.layer.used, 2, 3, 6, 30), HELD();
+}
+
 /* Every number of the layer is looked at, at its full width, by every call. */
 static void refused(bp_layer s)
 {
@@ -182,6 +222,7 @@ static void refused(bp_layer s)
     GIVEN_BACK(s, bp_into_layer(s, LISTS), BP_STATE);
     GIVEN_BACK(s, bp_abandon(s, LISTS), BP_STATE);
     GIVEN_BACK(s, bp_add_feature(s, 1, 0, 0, words, 3, words, 0, TEXT(""), LISTS), BP_STATE);
+    NONE_ADDED(s, bp_add_features(s, (const uint32_t[]){1, 0, 0, 0, 0, 0}, 6, words, 0, words, 0, TEXT(""), LISTS), BP_STATE);
     SAME(BP_STATE, bp_num_features(s, LISTS).refusal), SAME(BP_STATE, bp_num_tags(s, LISTS).refusal), SAME(BP_STATE, bp_name(s, LISTS).refusal);
     bp_tile t = {.extent = s.extent};
     SAME(BP_STATE, bp_add_layer(t, s, LISTS, TILE).refusal), HELD();
@@ -274,6 +315,7 @@ int main(void)
     bp_layer shut = whole(closed(open));
     tiles(open, shut);
     states(open);
+    many(shut);
     empty_layer();
     return ended("layers and tiles");
 }
