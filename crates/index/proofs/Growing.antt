@@ -34,12 +34,12 @@ key-inside bytes (a ∷ b ∷ ks) (suc j) e h =
     let z : suc j * 2 ≡ suc (suc (j * 2)) = omega arith in
     rw (y, z) (key-inside bytes ks j (both (inside bytes a b) (keysIn bytes ks) e .1) (omega arith))
 
-key-text : (ks ts more : List ℕ) → keysIn (length ts) ks ≡ true → (j : ℕ) → j < keyCount ks → keyHash ks ts j ≡ keyHash ks (ts ++ more) j
+pub key-text : (ks ts more : List ℕ) → keysIn (length ts) ks ≡ true → (j : ℕ) → j < keyCount ks → keyHash ks ts j ≡ keyHash ks (ts ++ more) j
 key-text ks ts more e j h =
     let t = text-kept ts more (getD ks (j * 2) 0) (getD ks (j * 2 + 1) 0) (key-inside (length ts) ks j e (omega arith)) in
     sym (ap (λ (x : List ℕ). hashText x) t)
 
-key-word : (ks new ts : List ℕ) (j : ℕ) → j < keyCount ks → keyHash ks ts j ≡ keyHash (ks ++ new) ts j
+pub key-word : (ks new ts : List ℕ) (j : ℕ) → j < keyCount ks → keyHash ks ts j ≡ keyHash (ks ++ new) ts j
 key-word ks new ts j h =
     let a : getD (ks ++ new) (j * 2) 0 ≡ getD ks (j * 2) 0 = List·getD-append ks new 0 (j * 2) (omega arith) in
     let b : getD (ks ++ new) (j * 2 + 1) 0 ≡ getD ks (j * 2 + 1) 0 = List·getD-append ks new 0 (j * 2 + 1) (omega arith) in
@@ -52,7 +52,7 @@ keys-kept l ks ts more e I =
     (λ (j : ℕ) (h : j < keyCount ks). ap (λ (x : ℕ). x % slots l) (key-text ks ts more e j h)) I
 
 -- a word of an entry behind the others
-word-last : (l new : List ℕ) (m i : ℕ) → length l ≡ m → getD (l ++ new) (m + i) 0 ≡ getD new i 0
+pub word-last : (l new : List ℕ) (m i : ℕ) → length l ≡ m → getD (l ++ new) (m + i) 0 ≡ getD new i 0
 word-last l new m i e = rw (← e) (getD-append-add l new i 0)
 
 -- a key more
@@ -88,11 +88,11 @@ stored-by ts more kind low high true q e =
     rw q (sym (ap (λ (x : List ℕ). hashText x) (text-kept ts more low high k)))
 stored-by ts more kind low high false q e = rw q
 
-value-text : (vs ts more : List ℕ) → valuesIn (length ts) vs ≡ true → (j : ℕ) → j < valueCount vs → valueHash vs ts j ≡ valueHash vs (ts ++ more) j
+pub value-text : (vs ts more : List ℕ) → valuesIn (length ts) vs ≡ true → (j : ℕ) → j < valueCount vs → valueHash vs ts j ≡ valueHash vs (ts ++ more) j
 value-text vs ts more e j h =
     stored-by ts more (getD vs (j * 3) 0) (getD vs (j * 3 + 1) 0) (getD vs (j * 3 + 2) 0) (eqb (getD vs (j * 3) 0) 1) refl (value-inside (length ts) vs j e (omega arith))
 
-value-word : (vs new ts : List ℕ) (j : ℕ) → j < valueCount vs → valueHash vs ts j ≡ valueHash (vs ++ new) ts j
+pub value-word : (vs new ts : List ℕ) (j : ℕ) → j < valueCount vs → valueHash vs ts j ≡ valueHash (vs ++ new) ts j
 value-word vs new ts j h =
     let a : getD (vs ++ new) (j * 3) 0 ≡ getD vs (j * 3) 0 = List·getD-append vs new 0 (j * 3) (omega arith) in
     let b : getD (vs ++ new) (j * 3 + 1) 0 ≡ getD vs (j * 3 + 1) 0 = List·getD-append vs new 0 (j * 3 + 1) (omega arith) in

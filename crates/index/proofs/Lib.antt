@@ -4,3 +4,4 @@ pub mod Pushing
 pub mod Alike
 pub mod Scanning
 pub mod Growing
+pub mod Building

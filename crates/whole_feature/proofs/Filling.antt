@@ -18,15 +18,20 @@ use Rattle.layer.specs.Held.{Memory, Seen, seen, Change, fits, written}
 use Rattle.layer.specs.State.{valid}
 use Rattle.layer.specs.Calls.{Tag, withUsed, grownBy, tagged, taggedIn}
 use Rattle.layer.proofs.Closing.{closed}
+use Rattle.tagging.specs.Indexed.{lent, taggedAlong}
 use Rattle.rollback.specs.Runs.{isValue, Call, tags, closes, does}
 use Rattle.rollback.proofs.Good.{All, by-check, by-open}
 use Rattle.rollback.proofs.Seen.{seen-lengths}
 use Rattle.whole_feature.specs.Tags.{tagAt, tagCalls}
 use Rattle.whole_feature.specs.Whole.{runUntil}
-use Rattle.whole_feature.specs.Steps.{TagThere, Long, Ready}
+use Rattle.layer.specs.declared.Changed.the-variants.{Done, Refused}
+use Rattle.whole_feature.specs.Indexed.{Index, Current, Lent, Leaves}
+use Rattle.whole_feature.specs.Steps.{TagThere, Long, Ready, ReadyWith}
 use Rattle.whole_feature.proofs.Listing.{five, five-left, ok-at, ok-after}
 use Rattle.whole_feature.proofs.Running.{Accepts, Refuses, accepts, refuses-by, run-on, run-stops, still-fine}
 use Rattle.whole_feature.proofs.Calling.{tag-called, tags-does}
+use Rattle.whole_feature.proofs.Indexing.{lent-same, lent-on}
+use Rattle.whole_feature.proofs.Carrying.{tag-gives, tag-lent-not, tag-lent, tag-current, same-room, lent-room}
 
 pub record Filled (given t : Layer) (ws bytes : List ℕ) (m : Memory) (s : Layer) (n : Memory) (i : ℕ) : Type 0 where
   pub at : i ≤ length ws
@@ -34,7 +39,7 @@ pub record Filled (given t : Layer) (ws bytes : List ℕ) (m : Memory) (s : Laye
   pub long : Long m n
   pub rest : runUntil given (tagCalls bytes ws ++ (closes ∷ [])) t m ≡ runUntil given (tagCalls bytes (drop i ws) ++ (closes ∷ [])) s n
 
-pub fill-start : (given t : Layer) (ws bytes : List ℕ) (m : Memory) → Ready given t ws bytes m → Filled given t ws bytes m t m 0
+fill-start : (given t : Layer) (ws bytes : List ℕ) (m : Memory) → Ready given t ws bytes m → Filled given t ws bytes m t m 0
 fill-start given t ws bytes m R = record { at = zero-le; ready = R; long = record { keys = refl; values = refl; texts = refl; features = refl }; rest = refl }
 
 -- a tag leaves the feature open as it was
@@ -53,7 +58,7 @@ still-open t g v =
 
 module _ (given t : Layer) (ws bytes : List ℕ) (m : Memory) (s : Layer) (n : Memory) (i : ℕ) (F : Filled given t ws bytes m s n i) where
   -- ---- no tag left
-  pub fill-ends : length ws ≤ i → Gives (runUntil given (tagCalls bytes ws ++ (closes ∷ [])) t m) (accepted (withUsed s (s .used) Shut)) n
+  fill-ends : length ws ≤ i → Gives (runUntil given (tagCalls bytes ws ++ (closes ∷ [])) t m) (accepted (withUsed s (s .used) Shut)) n
   fill-ends h =
       let d : drop i ws ≡ [] = drop-of-length-le ws {i = i} h in
       let e : runUntil given (tagCalls bytes ws ++ (closes ∷ [])) t m ≡ runUntil given (closes ∷ []) s n = rw d at (F .rest) in
@@ -61,7 +66,7 @@ module _ (given t : Layer) (ws bytes : List ℕ) (m : Memory) (s : Layer) (n : M
       rw (e ∙ run-on closes s n given (withUsed s (s .used) Shut) n [] A) (record { answer = refl; memory = refl })
 
   module _ (h : i < length ws) where
-    pub there : TagThere bytes ws i
+    there : TagThere bytes ws i
     there = record { words = five-left (length bytes) ws i (F .ready .list) h; ok = ok-at (length bytes) ws i (F .ready .list) h }
 
     called : (g : isValue (tagAt bytes ws i .value) ≡ true) × (tagCalls bytes (drop i ws) ≡ tags (tagAt bytes ws i) g ∷ tagCalls bytes (drop (i + 5) ws))
@@ -102,8 +107,54 @@ module _ (given t : Layer) (ws bytes : List ℕ) (m : Memory) (s : Layer) (n : M
           }
 
     module _ (l : Memory) where
-      pub fill-refused : (r : Refusal) (q : Layer) → Gives (written (taggedIn (tagAt bytes ws i) (seen s n) (given .used)) s n) (refused r q) l → Gives (runUntil given (tagCalls bytes ws ++ (closes ∷ [])) t m) (refused r given) l
+      fill-refused : (r : Refusal) (q : Layer) → Gives (written (taggedIn (tagAt bytes ws i) (seen s n) (given .used)) s n) (refused r q) l → Gives (runUntil given (tagCalls bytes ws ++ (closes ∷ [])) t m) (refused r given) l
       fill-refused r q a = stopped (called .0) (called .1) l r (refuses-by (taggedIn (tagAt bytes ws i) (seen s n) (given .used)) s q r n l a)
 
-      pub fill-turn : (u : Layer) → Gives (written (taggedIn (tagAt bytes ws i) (seen s n) (given .used)) s n) (accepted u) l → Long n l → Filled given t ws bytes m u l (i + 5)
+      turn-accepts : (u : Layer) → Gives (written (taggedIn (tagAt bytes ws i) (seen s n) (given .used)) s n) (accepted u) l → (g : isValue (tagAt bytes ws i .value) ≡ true) × Accepts (does (tags (tagAt bytes ws i) g) (seen s n)) u n l
+      turn-accepts u a = (called .0, rw (as-call (called .0) (called .1)) at (accepts (taggedIn (tagAt bytes ws i) (seen s n) (given .used)) s u n l a))
+
+      fill-turn : (u : Layer) → Gives (written (taggedIn (tagAt bytes ws i) (seen s n) (given .used)) s n) (accepted u) l → Long n l → Filled given t ws bytes m u l (i + 5)
       fill-turn u a k = turned (called .0) (called .1) l u (accepts (taggedIn (tagAt bytes ws i) (seen s n) (given .used)) s u n l a) k
+
+-- ---- with the indexes
+pub record FilledWith (given t : Layer) (ws bytes : List ℕ) (m : Memory) (x : Index) (s : Layer) (n : Memory) (y : Index) (i : ℕ) : Type 0 where
+  pub filled : Filled given t ws bytes m s n i
+  pub lent : Lent true (seen t m .room) x y
+  pub current : Current true (seen s n) y
+
+pub with-start : (given t : Layer) (ws bytes : List ℕ) (m : Memory) (x : Index) → ReadyWith given t ws bytes m x → FilledWith given t ws bytes m x t m x 0
+with-start given t ws bytes m x R = record { filled = fill-start given t ws bytes m (R .ready); lent = lent-same true (seen t m .room) x; current = R .current }
+
+module _ (given t : Layer) (ws bytes : List ℕ) (m : Memory) (x : Index) (s : Layer) (n : Memory) (y : Index) (i : ℕ) (F : FilledWith given t ws bytes m x s n y i) where
+  pub with-ends : length ws ≤ i → Leaves (runUntil given (tagCalls bytes ws ++ (closes ∷ [])) t m) true (seen t m .room) x (Done (withUsed s (s .used) Shut)) n y
+  with-ends h = record { gives = fill-ends given t ws bytes m s n i (F .filled) h; lent = F .lent; current = record { keys = F .current .keys; values = F .current .values } }
+
+  module _ (h : i < length ws) where
+    pub with-there : TagThere bytes ws i
+    with-there = there given t ws bytes m s n i (F .filled) h
+
+    stands : valid (seen s n) ≡ true
+    stands = F .filled .ready .stands
+
+    module _ (l : Memory) (z : Index) where
+      lent-further : Lent true (seen s n .room) y z → Lent true (seen t m .room) x z
+      lent-further A = lent-on true (seen t m .room) x y z (F .lent) (lent-room true (seen s n .room) (seen t m .room) y z (same-room t s m n (F .filled .long)) A)
+
+      pub with-refused : (r : Refusal) (q : Layer) → Gives (taggedAlong (tagAt bytes ws i) s (given .used) (lent n (y .keys) (y .values))) (refused r q) (lent l (z .keys) (z .values)) →
+          Leaves (runUntil given (tagCalls bytes ws ++ (closes ∷ [])) t m) true (seen t m .room) x (Refused r given) l z
+      with-refused r q a =
+          record {
+            gives = fill-refused given t ws bytes m s n i (F .filled) h l r q (tag-gives (tagAt bytes ws i) s (given .used) n y stands (F .current) l z (refused r q) a);
+            lent = lent-further (tag-lent-not (tagAt bytes ws i) s (given .used) n y stands (F .current) l z r q a);
+            current = tt;
+          }
+
+      pub with-turn : (u : Layer) → Gives (taggedAlong (tagAt bytes ws i) s (given .used) (lent n (y .keys) (y .values))) (accepted u) (lent l (z .keys) (z .values)) → Long n l → FilledWith given t ws bytes m x u l z (i + 5)
+      with-turn u a k =
+          let b = tag-gives (tagAt bytes ws i) s (given .used) n y stands (F .current) l z (accepted u) a in
+          let A = turn-accepts given t ws bytes m s n i (F .filled) h l u b in
+          record {
+            filled = fill-turn given t ws bytes m s n i (F .filled) h l u b k;
+            lent = lent-further (tag-lent (tagAt bytes ws i) s (given .used) n y stands (F .current) l z u a);
+            current = tag-current (tagAt bytes ws i) s (given .used) n y stands (F .current) l z u a (A .0) (A .1);
+          }

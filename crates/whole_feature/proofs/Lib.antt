@@ -3,8 +3,11 @@ pub mod Running
 pub mod Ending
 pub mod Calling
 pub mod Placing
+pub mod Indexing
+pub mod Carrying
 pub mod Filling
 pub mod Opening
 pub mod Undone
 pub mod Heads
+pub mod Built
 pub mod Adding

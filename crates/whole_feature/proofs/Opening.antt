@@ -25,9 +25,14 @@ use Rattle.rollback.proofs.Seen.{seen-lengths}
 use Rattle.whole_feature.specs.declared.Head.{Head}
 use Rattle.whole_feature.specs.Tags.{tagsOk, tagCalls}
 use Rattle.whole_feature.specs.Whole.{runUntil, innerCalls, featureCalls, addFeature}
-use Rattle.whole_feature.specs.Steps.{Ready}
+use Rattle.layer.specs.declared.Changed.{Changed}
+use Rattle.layer.specs.declared.Changed.the-variants.{Refused}
+use Rattle.layer.specs.Answers.{saidChanged}
+use Rattle.whole_feature.specs.Indexed.{Index, Current, Leaves}
+use Rattle.whole_feature.specs.Steps.{Ready, ReadyWith}
 use Rattle.whole_feature.proofs.Running.{Accepts, accepts, refuses-by, Refuses, run-on, run-stops, still-fine}
 use Rattle.whole_feature.proofs.Calling.{opens-does, marks-does}
+use Rattle.whole_feature.proofs.Carrying.{marks-tables, opens-tables, same-tables, carried, leaves-as, leaves-not}
 
 -- ---- the id
 marked-open : (low high : ℕ) (v : Seen) → All (λ (w : Seen). w .layer .feature ≡ v .layer .feature) (does (marks low high) v) v
@@ -37,8 +42,12 @@ marked-open low high v =
 
 module _ (given t : Layer) (f : Head) (ws bytes : List ℕ) (m : Memory) where
   -- without an id
-  pub no-id : not (f .«has_id») ≡ true → (r : Said Layer) (n : Memory) → Gives (runUntil given (tagCalls bytes ws ++ (closes ∷ [])) t m) r n → Gives (runUntil given (innerCalls f ws bytes ++ (closes ∷ [])) t m) r n
+  no-id : not (f .«has_id») ≡ true → (r : Said Layer) (n : Memory) → Gives (runUntil given (tagCalls bytes ws ++ (closes ∷ [])) t m) r n → Gives (runUntil given (innerCalls f ws bytes ++ (closes ∷ [])) t m) r n
   no-id h r n g = rw (not-true (f .«has_id») h) g
+
+  pub no-id-leaves : not (f .«has_id») ≡ true → (x : Index) (a : Changed) (n : Memory) (y : Index) → Leaves (runUntil given (tagCalls bytes ws ++ (closes ∷ [])) t m) true (seen t m .room) x a n y → Leaves (runUntil given (innerCalls f ws bytes ++ (closes ∷ [])) t m) true (seen t m .room) x a n y
+  no-id-leaves h x a n y L =
+      leaves-as (runUntil given (tagCalls bytes ws ++ (closes ∷ [])) t m) (runUntil given (innerCalls f ws bytes ++ (closes ∷ [])) t m) true (seen t m .room) (seen t m .room) x a n y (no-id h (saidChanged a) n) refl refl L
 
   module _ (R : Ready given t ws bytes m) (h : not (f .«has_id») ≡ false) where
     as-call : markedIn (f .id % 4294967296) (f .id / 4294967296) (seen t m) (given .used) ≡ does (marks (f .id % 4294967296) (f .id / 4294967296)) (seen t m)
@@ -47,7 +56,7 @@ module _ (given t : Layer) (f : Head) (ws bytes : List ℕ) (m : Memory) where
     as-run : runUntil given (innerCalls f ws bytes ++ (closes ∷ [])) t m ≡ runUntil given (marks (f .id % 4294967296) (f .id / 4294967296) ∷ (tagCalls bytes ws ++ (closes ∷ []))) t m
     as-run = rw (not-false (f .«has_id») h)
 
-    pub id-refused : (r : Refusal) (q : Layer) (n : Memory) → Gives (written (markedIn (f .id % 4294967296) (f .id / 4294967296) (seen t m) (given .used)) t m) (refused r q) n → Gives (runUntil given (innerCalls f ws bytes ++ (closes ∷ [])) t m) (refused r given) n
+    id-refused : (r : Refusal) (q : Layer) (n : Memory) → Gives (written (markedIn (f .id % 4294967296) (f .id / 4294967296) (seen t m) (given .used)) t m) (refused r q) n → Gives (runUntil given (innerCalls f ws bytes ++ (closes ∷ [])) t m) (refused r given) n
     id-refused r q n g =
         let Q : Refuses (does (marks (f .id % 4294967296) (f .id / 4294967296)) (seen t m)) r m n = rw as-call at (refuses-by (markedIn (f .id % 4294967296) (f .id / 4294967296) (seen t m) (given .used)) t q r m n g) in
         rw (as-run ∙ run-stops (marks (f .id % 4294967296) (f .id / 4294967296)) t m given r n (tagCalls bytes ws ++ (closes ∷ [])) Q) (record { answer = refl; memory = refl })
@@ -56,7 +65,7 @@ module _ (given t : Layer) (f : Head) (ws bytes : List ℕ) (m : Memory) where
       id-set : Accepts (does (marks (f .id % 4294967296) (f .id / 4294967296)) (seen t m)) u m n
       id-set = rw as-call at (accepts (markedIn (f .id % 4294967296) (f .id / 4294967296) (seen t m) (given .used)) t u m n g)
 
-      pub id-ready : Ready given u ws bytes n
+      id-ready : Ready given u ws bytes n
       id-ready =
           let o : u .feature ≡ t .feature = rw (id-set .change) at (marked-open (f .id % 4294967296) (f .id / 4294967296) (seen t m)) in
           record {
@@ -65,8 +74,21 @@ module _ (given t : Layer) (f : Head) (ws bytes : List ℕ) (m : Memory) where
             list = R .list;
           }
 
-      pub id-done : (r : Said Layer) (l : Memory) → Gives (runUntil given (tagCalls bytes ws ++ (closes ∷ [])) u n) r l → Gives (runUntil given (innerCalls f ws bytes ++ (closes ∷ [])) t m) r l
+      id-room : (seen u n .room) ≡ (seen t m .room)
+      id-room = same-tables (marks (f .id % 4294967296) (f .id / 4294967296)) t m u n id-set (marks-tables (f .id % 4294967296) (f .id / 4294967296) (seen t m)) .room
+
+      pub id-with : (x : Index) → Current true (seen t m) x → ReadyWith given u ws bytes n x
+      id-with x C = record { ready = id-ready; current = carried (marks (f .id % 4294967296) (f .id / 4294967296)) t m u n id-set (marks-tables (f .id % 4294967296) (f .id / 4294967296) (seen t m)) true x C }
+
+      id-done : (r : Said Layer) (l : Memory) → Gives (runUntil given (tagCalls bytes ws ++ (closes ∷ [])) u n) r l → Gives (runUntil given (innerCalls f ws bytes ++ (closes ∷ [])) t m) r l
       id-done r l k = rw (as-run ∙ run-on (marks (f .id % 4294967296) (f .id / 4294967296)) t m given u n (tagCalls bytes ws ++ (closes ∷ [])) id-set) k
+
+      pub id-leaves : (x : Index) (a : Changed) (l : Memory) (y : Index) → Leaves (runUntil given (tagCalls bytes ws ++ (closes ∷ [])) u n) true (seen u n .room) x a l y → Leaves (runUntil given (innerCalls f ws bytes ++ (closes ∷ [])) t m) true (seen t m .room) x a l y
+      id-leaves x a l y L =
+          leaves-as (runUntil given (tagCalls bytes ws ++ (closes ∷ [])) u n) (runUntil given (innerCalls f ws bytes ++ (closes ∷ [])) t m) true (seen u n .room) (seen t m .room) x a l y (id-done (saidChanged a) l) refl id-room L
+
+    pub id-not : (x : Index) (r : Refusal) (q : Layer) (n : Memory) → Gives (written (markedIn (f .id % 4294967296) (f .id / 4294967296) (seen t m) (given .used)) t m) (refused r q) n → Leaves (runUntil given (innerCalls f ws bytes ++ (closes ∷ [])) t m) true (seen t m .room) x (Refused r given) n x
+    id-not x r q n g = leaves-not (runUntil given (innerCalls f ws bytes ++ (closes ∷ [])) t m) true (seen t m .room) x r given n (id-refused r q n g)
 
 -- ---- opening
 opened-since : (kind : ℕ) (words : List ℕ) (v : Seen) → All (λ (w : Seen). w .layer .feature ≡ Since (v .layer .used)) (opened kind words v) v
@@ -113,7 +135,7 @@ module _ (f : Head) (words ws bytes : List ℕ) (s : Layer) (m : Memory) (a : Bo
             open-set : Accepts (does (opens (f .kind) words) (seen s m)) u m n
             open-set = rw as-opened at (accepts (openedIn (f .kind) words (seen s m)) s u m n g)
 
-            pub open-ready : Ready s u ws bytes n
+            open-ready : Ready s u ws bytes n
             open-ready =
                 let x : opened (f .kind) words (seen s m) ≡ holds u (open-set .held) = sym (opened-in (f .kind) words (seen s m) stands) ∙ as-opened ∙ open-set .change in
                 let o : u .feature ≡ Since (s .used) = rw x at (opened-since (f .kind) words (seen s m)) in
@@ -123,5 +145,15 @@ module _ (f : Head) (words ws bytes : List ℕ) (s : Layer) (m : Memory) (a : Bo
                   list = list;
                 }
 
-            pub open-done : (r : Said Layer) (l : Memory) → Gives (runUntil s (innerCalls f ws bytes ++ (closes ∷ [])) u n) r l → Gives (addFeature f words ws bytes s m) r l
+            open-room : (seen u n .room) ≡ (seen s m .room)
+            open-room = same-tables (opens (f .kind) words) s m u n open-set (opens-tables (f .kind) words (seen s m)) .room
+
+            pub open-with : (x : Index) → Current d (seen s m) x → ReadyWith s u ws bytes n x
+            open-with x C = record { ready = open-ready; current = rw (not-false d hd) at (carried (opens (f .kind) words) s m u n open-set (opens-tables (f .kind) words (seen s m)) d x C) }
+
+            open-done : (r : Said Layer) (l : Memory) → Gives (runUntil s (innerCalls f ws bytes ++ (closes ∷ [])) u n) r l → Gives (addFeature f words ws bytes s m) r l
             open-done r l k = rw (the-run ∙ run-on (opens (f .kind) words) s m s u n (innerCalls f ws bytes ++ (closes ∷ [])) open-set) k
+
+            pub open-leaves : (x : Index) (b : Changed) (l : Memory) (y : Index) → Leaves (runUntil s (innerCalls f ws bytes ++ (closes ∷ [])) u n) true (seen u n .room) x b l y → Leaves (addFeature f words ws bytes s m) d (seen s m .room) x b l y
+            open-leaves x b l y L =
+                leaves-as (runUntil s (innerCalls f ws bytes ++ (closes ∷ [])) u n) (addFeature f words ws bytes s m) d (seen u n .room) (seen s m .room) x b l y (open-done (saidChanged b) l) (sym (not-false d hd)) open-room L

@@ -15,8 +15,8 @@ use Rattle.table.specs.Texts.{inside}
 use Rattle.table.specs.Values.{valueOk}
 use Rattle.layer.specs.declared.Figures.{Figures}
 use Rattle.layer.specs.declared.Layer.{Layer}
-use Rattle.layer.specs.Held.{Memory, seen, written}
-use Rattle.layer.specs.Calls.{Tag, taggedIn}
+use Rattle.layer.specs.Calls.{Tag}
+use Rattle.tagging.specs.Indexed.{Lent, taggedAlong}
 use Rattle.layer.proofs.Fitting.{both}
 use Rattle.whole_feature.specs.Tags.{valueGiven, textPlace, tagAt}
 use Rattle.whole_feature.specs.Steps.{TagThere}
@@ -45,7 +45,7 @@ module _ (bytes ws : List ℕ) (i : ℕ) (a l : ℕ) (v : Value) (t : Text) (p :
       let y : t .start + t .len - t .start ≡ t .len = omega arith in
       rw (x, y, p, q, e, f)
 
-  pub tag-put : (s : Layer) (o : Figures) (m n : Memory) (r : Said Layer) →
-      Gives (written (taggedIn (record { key = take (a + l - a) (drop a bytes); value = v; text = take (t .start + t .len - t .start) (drop (t .start) bytes) }) (seen s m) o) s m) r n →
-      Gives (written (taggedIn (tagAt bytes ws i) (seen s m) o) s m) r n
-  tag-put s o m n r g = subst (λ (x : Tag). Gives (written (taggedIn x (seen s m) o) s m) r n) the-tag g
+  pub tag-put : (s : Layer) (o : Figures) (x n : Lent) (r : Said Layer) →
+      Gives (taggedAlong (record { key = take (a + l - a) (drop a bytes); value = v; text = take (t .start + t .len - t .start) (drop (t .start) bytes) }) s o x) r n →
+      Gives (taggedAlong (tagAt bytes ws i) s o x) r n
+  tag-put s o x n r g = subst (λ (y : Tag). Gives (taggedAlong y s o x) r n) the-tag g

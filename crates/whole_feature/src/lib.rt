@@ -1,18 +1,19 @@
 // A whole feature in one call (in the Rust: a feature opened, tagged and closed). The single calls check the layer's STATE each; this one checks it once, so a
 // feature costs what the layer holds and no more.
 ghost use mathlib.Core.Path.{_≡_};
+ghost use mathlib.Core.Bool.{true};
 ghost use mathlib.Core.List.{[], _∷_, _++_};
 ghost use Prim.Native.Nat.{_+_, _≤_};
 ghost use lib.ListN.{length};
 ghost use Rattle.promise.specs.Answers.{Gives};
-ghost use Rattle.layer.specs.Held.{mem, seen, written};
-ghost use Rattle.layer.specs.State.{valid};
+ghost use Rattle.layer.specs.Held.{mem, seen};
 ghost use Rattle.layer.specs.Answers.{saidChanged};
-ghost use Rattle.layer.specs.Calls.{taggedIn};
+ghost use Rattle.tagging.specs.Indexed.{lent, taggedAlong};
 ghost use Rattle.rollback.specs.Runs.{closes};
 ghost use Rattle.whole_feature.specs.Tags.{tagsOk, okAt, valueGiven, textPlace, tagAt, tagCalls};
 ghost use Rattle.whole_feature.specs.Whole.{runUntil, innerCalls, addFeature};
-ghost use Rattle.whole_feature.specs.Steps.{TagThere, Ready};
+ghost use Rattle.whole_feature.specs.Steps.{TagThere, ReadyWith, Known};
+ghost use Rattle.whole_feature.specs.Indexed.{idx, Leaves};
 
 pub mod many; // many whole features in one call
 
@@ -102,9 +103,11 @@ fn put_tag_at(
     values: &mut [u32],
     texts: &mut [u8],
     features: &mut [u32],
+    key_index: &mut [u32],
+    value_index: &mut [u32],
 ) -> Changed
     requires { ⌜ TagThere (now bytes) (now tags) i ⌝ }
-    ensures { λ r. ⌜ Gives (written (taggedIn (tagAt (now (bytes .entry)) (now (tags .entry)) i) (seen s (mem (now (keys .entry)) (now (values .entry)) (now (texts .entry)) (now (features .entry)))) o) s (mem (now (keys .entry)) (now (values .entry)) (now (texts .entry)) (now (features .entry)))) (saidChanged r) (mem (now (keys .exit)) (now (values .exit)) (now (texts .exit)) (now (features .exit))) ⌝ }
+    ensures { λ r. ⌜ Gives (taggedAlong (tagAt (now (bytes .entry)) (now (tags .entry)) i) s o (lent (mem (now (keys .entry)) (now (values .entry)) (now (texts .entry)) (now (features .entry))) (now («key_index» .entry)) (now («value_index» .entry)))) (saidChanged r) (lent (mem (now (keys .exit)) (now (values .exit)) (now (texts .exit)) (now (features .exit))) (now («key_index» .exit)) (now («value_index» .exit))) ⌝ }
 {
     let a = table::wide(tags[i]);
     let b = a + table::wide(tags[i + 1]);
@@ -115,7 +118,7 @@ fn put_tag_at(
     let t = text_of(kind, low, high);
     let c = t.start;
     let d = c + t.len;
-    tagging::tag(
+    tagging::tag_indexed(
         s,
         o,
         &bytes[a..b],
@@ -125,6 +128,8 @@ fn put_tag_at(
         values,
         texts,
         features,
+        key_index,
+        value_index,
     )
 }
 
@@ -138,15 +143,29 @@ fn fill(
     values: &mut [u32],
     texts: &mut [u8],
     features: &mut [u32],
+    key_index: &mut [u32],
+    value_index: &mut [u32],
 ) -> Changed
-    requires { ⌜ Ready given t (now tags) (now bytes) (mem (now keys) (now values) (now texts) (now features)) ⌝ }
-    ensures { λ r. ⌜ Gives (runUntil given (tagCalls (now (bytes .entry)) (now (tags .entry)) ++ (closes ∷ [])) t (mem (now (keys .entry)) (now (values .entry)) (now (texts .entry)) (now (features .entry)))) (saidChanged r) (mem (now (keys .exit)) (now (values .exit)) (now (texts .exit)) (now (features .exit))) ⌝ }
+    requires { ⌜ ReadyWith given t (now tags) (now bytes) (mem (now keys) (now values) (now texts) (now features)) (idx (now «key_index») (now «value_index»)) ⌝ }
+    ensures { λ r. ⌜ Leaves (runUntil given (tagCalls (now (bytes .entry)) (now (tags .entry)) ++ (closes ∷ [])) t (mem (now (keys .entry)) (now (values .entry)) (now (texts .entry)) (now (features .entry)))) true (seen t (mem (now (keys .entry)) (now (values .entry)) (now (texts .entry)) (now (features .entry))) .room) (idx (now («key_index» .entry)) (now («value_index» .entry))) r (mem (now (keys .exit)) (now (values .exit)) (now (texts .exit)) (now (features .exit))) (idx (now («key_index» .exit)) (now («value_index» .exit))) ⌝ }
 {
     let o = given.used;
     let mut s = t;
     let mut i = 0;
     while i < tags.len() {
-        match put_tag_at(s, o, tags, i, bytes, keys, values, texts, features) {
+        match put_tag_at(
+            s,
+            o,
+            tags,
+            i,
+            bytes,
+            keys,
+            values,
+            texts,
+            features,
+            key_index,
+            value_index,
+        ) {
             Changed::Done(u) => s = u,
             Changed::Refused(r, _) => return Changed::Refused(r, given),
         }
@@ -172,16 +191,40 @@ fn mark(
     values: &mut [u32],
     texts: &mut [u8],
     features: &mut [u32],
+    key_index: &mut [u32],
+    value_index: &mut [u32],
 ) -> Changed
-    requires { ⌜ Ready given t (now tags) (now bytes) (mem (now keys) (now values) (now texts) (now features)) ⌝ }
-    ensures { λ r. ⌜ Gives (runUntil given (innerCalls f (now (tags .entry)) (now (bytes .entry)) ++ (closes ∷ [])) t (mem (now (keys .entry)) (now (values .entry)) (now (texts .entry)) (now (features .entry)))) (saidChanged r) (mem (now (keys .exit)) (now (values .exit)) (now (texts .exit)) (now (features .exit))) ⌝ }
+    requires { ⌜ ReadyWith given t (now tags) (now bytes) (mem (now keys) (now values) (now texts) (now features)) (idx (now «key_index») (now «value_index»)) ⌝ }
+    ensures { λ r. ⌜ Leaves (runUntil given (innerCalls f (now (tags .entry)) (now (bytes .entry)) ++ (closes ∷ [])) t (mem (now (keys .entry)) (now (values .entry)) (now (texts .entry)) (now (features .entry)))) true (seen t (mem (now (keys .entry)) (now (values .entry)) (now (texts .entry)) (now (features .entry))) .room) (idx (now («key_index» .entry)) (now («value_index» .entry))) r (mem (now (keys .exit)) (now (values .exit)) (now (texts .exit)) (now (features .exit))) (idx (now («key_index» .exit)) (now («value_index» .exit))) ⌝ }
 {
     if !f.has_id {
-        return fill(given, t, tags, bytes, keys, values, texts, features);
+        return fill(
+            given,
+            t,
+            tags,
+            bytes,
+            keys,
+            values,
+            texts,
+            features,
+            key_index,
+            value_index,
+        );
     }
     let o = given.used;
     match layer::feature::mark_id(t, o, f.id, &keys[..], &values[..], &texts[..], features) {
-        Changed::Done(u) => fill(given, u, tags, bytes, keys, values, texts, features),
+        Changed::Done(u) => fill(
+            given,
+            u,
+            tags,
+            bytes,
+            keys,
+            values,
+            texts,
+            features,
+            key_index,
+            value_index,
+        ),
         Changed::Refused(r, _) => Changed::Refused(r, given),
     }
 }
@@ -198,9 +241,11 @@ pub(crate) fn add_known(
     values: &mut [u32],
     texts: &mut [u8],
     features: &mut [u32],
+    key_index: &mut [u32],
+    value_index: &mut [u32],
 ) -> Changed
-    requires { ⌜ stands ≡ valid (seen s (mem (now keys) (now values) (now texts) (now features))) ⌝ }
-    ensures { λ r. ⌜ Gives (addFeature f (now (words .entry)) (now (tags .entry)) (now (bytes .entry)) s (mem (now (keys .entry)) (now (values .entry)) (now (texts .entry)) (now (features .entry)))) (saidChanged r) (mem (now (keys .exit)) (now (values .exit)) (now (texts .exit)) (now (features .exit))) ⌝ }
+    requires { ⌜ Known s stands (mem (now keys) (now values) (now texts) (now features)) (idx (now «key_index») (now «value_index»)) ⌝ }
+    ensures { λ r. ⌜ Leaves (addFeature f (now (words .entry)) (now (tags .entry)) (now (bytes .entry)) s (mem (now (keys .entry)) (now (values .entry)) (now (texts .entry)) (now (features .entry)))) stands (seen s (mem (now (keys .entry)) (now (values .entry)) (now (texts .entry)) (now (features .entry))) .room) (idx (now («key_index» .entry)) (now («value_index» .entry))) r (mem (now (keys .exit)) (now (values .exit)) (now (texts .exit)) (now (features .exit))) (idx (now («key_index» .exit)) (now («value_index» .exit))) ⌝ }
 {
     if !is_tag_list(tags, bytes.len()) {
         return Changed::Refused(Refusal::Job, s);
@@ -225,7 +270,19 @@ pub(crate) fn add_known(
         &texts[..],
         features,
     ) {
-        Changed::Done(t) => mark(s, t, f, tags, bytes, keys, values, texts, features),
+        Changed::Done(t) => mark(
+            s,
+            t,
+            f,
+            tags,
+            bytes,
+            keys,
+            values,
+            texts,
+            features,
+            key_index,
+            value_index,
+        ),
         Changed::Refused(r, _) => Changed::Refused(r, s),
     }
 }
@@ -246,6 +303,8 @@ pub fn add_feature(
     ensures { λ r. ⌜ Gives (addFeature f (now (words .entry)) (now (tags .entry)) (now (bytes .entry)) s (mem (now (keys .entry)) (now (values .entry)) (now (texts .entry)) (now (features .entry)))) (saidChanged r) (mem (now (keys .exit)) (now (values .exit)) (now (texts .exit)) (now (features .exit))) ⌝ }
 {
     let stands = layer::state::is_valid(s, &keys[..], &values[..], &texts[..], &features[..]);
+    let mut none = [0u32; 1];
+    let mut nothing = [0u32; 1];
     add_known(
         s,
         stands,
@@ -257,5 +316,7 @@ pub fn add_feature(
         values,
         texts,
         features,
+        &mut none,
+        &mut nothing,
     )
 }

@@ -1,18 +1,19 @@
--- The texts lie within the bytes, and the parts lent to `tag` are those of the tag.
+-- The texts lie within the bytes, and the parts lent to `tag_indexed` are those of the tag.
 use Prim.Native.Nat.{_+_, _≤_}
 use lib.ListN.{length}
 use native.Mathlib.Omega.{arith}
 use Rattle.layer.specs.Held.{mem}
+use Rattle.tagging.specs.Indexed.{lent}
 use Rattle.whole_feature.proofs.Placing.{key-room, text-room, tag-put}
 use borrow.Author.Needs.{needs}
 use Rattle.whole_feature.proofs.put_tag_at.Statement.{statement}
 use Rattle.whole_feature.proofs.put_tag_at.Tie as tie
 
-key-at : (c : tie.After-value-of) → c .before .before .before .before .before .before .wide .result + c .before .before .before .before .wide2 .result ≤ length (c .before .before .before .before .before .before .before .before .before .before .before .before .before .before .args .bytes .now)
-key-at c = key-room _ _ _ (c .before .before .before .before .before .before .before .before .before .before .before .before .before .before .pre) _ _ (c .before .before .before .before .before .before .wide .ensures .same) (c .before .before .before .before .wide2 .ensures .same)
+key-at : (c : tie.After-value-of) → c .before .before .before .before .before .before .wide .result + c .before .before .before .before .wide2 .result ≤ length (c .before .before .before .before .before .before .before .before .before .before .before .before .before .before .before .before .args .bytes .now)
+key-at c = key-room _ _ _ (c .before .before .before .before .before .before .before .before .before .before .before .before .before .before .before .before .pre) _ _ (c .before .before .before .before .before .before .wide .ensures .same) (c .before .before .before .before .wide2 .ensures .same)
 
-text-at : (c : tie.After-text-of) → c .text-of .result .start + c .text-of .result .len ≤ length (c .before .before .before .before .before .before .before .before .before .before .before .before .before .before .before .args .bytes .now)
-text-at c = text-room _ _ _ (c .before .before .before .before .before .before .before .before .before .before .before .before .before .before .before .pre) _ (c .text-of .ensures)
+text-at : (c : tie.After-text-of) → c .text-of .result .start + c .text-of .result .len ≤ length (c .before .before .before .before .before .before .before .before .before .before .before .before .before .before .before .before .before .args .bytes .now)
+text-at c = text-room _ _ _ (c .before .before .before .before .before .before .before .before .before .before .before .before .before .before .before .before .before .pre) _ (c .text-of .ensures)
 
 mul-wide : tie.Need-mul-wide
 mul-wide c = search needs
@@ -72,28 +73,28 @@ text-of-requires : tie.Need-text-of-requires
 text-of-requires c κs = search needs
 
 add-d : tie.Need-add-d
-add-d c = record { fits = omega (arith, text-at (c .before)) }
+add-d c = record { fits = omega (arith, c .before .before .before .before .before .before .before .before .before .before .before .before .before .before .before .before, text-at (c .before)) }
 
-sub-tag : tie.Need-sub-tag
-sub-tag c = search needs
+sub-tag-indexed : tie.Need-sub-tag-indexed
+sub-tag-indexed c = search needs
 
-part-tag-start : tie.Need-part-tag-start
-part-tag-start c = search needs
+part-tag-indexed-start : tie.Need-part-tag-indexed-start
+part-tag-indexed-start c = search needs
 
-part-tag-end : tie.Need-part-tag-end
-part-tag-end c = omega (arith, key-at (c .before .before))
+part-tag-indexed-end : tie.Need-part-tag-indexed-end
+part-tag-indexed-end c = omega (arith, key-at (c .before .before))
 
-sub-tag-2 : tie.Need-sub-tag-2
-sub-tag-2 c = search needs
+sub-tag-indexed-2 : tie.Need-sub-tag-indexed-2
+sub-tag-indexed-2 c = search needs
 
-part-tag-start-2 : tie.Need-part-tag-start-2
-part-tag-start-2 c = search needs
+part-tag-indexed-start-2 : tie.Need-part-tag-indexed-start-2
+part-tag-indexed-start-2 c = search needs
 
-part-tag-end-2 : tie.Need-part-tag-end-2
-part-tag-end-2 c = omega (arith, text-at (c .before .before))
+part-tag-indexed-end-2 : tie.Need-part-tag-indexed-end-2
+part-tag-indexed-end-2 c = omega (arith, text-at (c .before .before))
 
-tag-requires : tie.Need-tag-requires
-tag-requires c κs = search needs
+tag-indexed-requires : tie.Need-tag-indexed-requires
+tag-indexed-requires c κs = search needs
 
 same-length : tie.Need-same-length
 same-length c = search needs
@@ -107,9 +108,15 @@ same-length-3 c = search needs
 same-length-4 : tie.Need-same-length-4
 same-length-4 c = search needs
 
+same-length-5 : tie.Need-same-length-5
+same-length-5 c = search needs
+
+same-length-6 : tie.Need-same-length-6
+same-length-6 c = search needs
+
 returns : tie.Need-returns
-returns c = let g = c .before .before .before .before .before .before .before .before .before .before .before .before .before .before .before .before .before .before .before .before .before .before .before .before .before .before .before .before .before .before .before .args in
-    tag-put (g .bytes .now) (g .tags .now) (g .i) _ _ _ _ (c .before .before .before .before .before .before .before .before .before .before .before .before .before .before .before .before .before .before .before .before .before .before .before .wide .ensures .same) (c .before .before .before .before .before .before .before .before .before .before .before .before .before .before .before .before .before .before .before .before .before .wide2 .ensures .same) (c .before .before .before .before .before .before .before .before .before .before .before .before .before .before .before .before .before .value-of .ensures) (c .before .before .before .before .before .before .before .before .before .before .before .before .before .before .before .before .text-of .ensures) (g .s) (g .o) (mem (g .keys .now) (g .values .now) (g .texts .now) (g .features .now)) _ _ (c .before .before .before .before .before .before .before .before .tag .ensures)
+returns c = let g = c .before .before .before .before .before .before .before .before .before .before .before .before .before .before .before .before .before .before .before .before .before .before .before .before .before .before .before .before .before .before .before .before .before .before .before .before .before .before .before .args in
+    tag-put (g .bytes .now) (g .tags .now) (g .i) _ _ _ _ (c .before .before .before .before .before .before .before .before .before .before .before .before .before .before .before .before .before .before .before .before .before .before .before .before .before .before .before .before .before .wide .ensures .same) (c .before .before .before .before .before .before .before .before .before .before .before .before .before .before .before .before .before .before .before .before .before .before .before .before .before .before .before .wide2 .ensures .same) (c .before .before .before .before .before .before .before .before .before .before .before .before .before .before .before .before .before .before .before .before .before .before .before .value-of .ensures) (c .before .before .before .before .before .before .before .before .before .before .before .before .before .before .before .before .before .before .before .before .before .before .text-of .ensures) (g .s) (g .o) (lent (mem (g .keys .now) (g .values .now) (g .texts .now) (g .features .now)) (g .key-index .now) (g .value-index .now)) _ _ (c .before .before .before .before .before .before .before .before .before .before .before .before .tag-indexed .ensures)
 
 pub put-tag-at-spec : {M : Type 1} → statement M
 put-tag-at-spec =
@@ -135,15 +142,17 @@ put-tag-at-spec =
     value-of-requires
     text-of-requires
     add-d
-    sub-tag
-    part-tag-start
-    part-tag-end
-    sub-tag-2
-    part-tag-start-2
-    part-tag-end-2
-    tag-requires
+    sub-tag-indexed
+    part-tag-indexed-start
+    part-tag-indexed-end
+    sub-tag-indexed-2
+    part-tag-indexed-start-2
+    part-tag-indexed-end-2
+    tag-indexed-requires
     same-length
     same-length-2
     same-length-3
     same-length-4
+    same-length-5
+    same-length-6
     returns)
