@@ -7,7 +7,7 @@ use native.Mathlib.Omega.{arith}
 use lib.ListN.{length, getD, drop, drop-of-length-le, length-drop}
 use lib.Dec.{leb, eqb}
 use borrow.Author.Tests.{leb-true, leb-false, not-true, not-false}
-use Rattle.varint.specs.Numbers.{wide}
+use Rattle.whole.specs.Twos.{wide}
 use Rattle.table.proofs.Steps.{next}
 use Rattle.layer.proofs.Fitting.{both}
 use Rattle.whole_feature.specs.declared.Head.{Head}

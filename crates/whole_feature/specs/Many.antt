@@ -9,7 +9,7 @@ use lib.Dec.{leb, eqb}
 use Rattle.promise.specs.Answers.{Written, Gives, kept}
 use Rattle.refusal.specs.declared.Refusal.the-variants.{Job}
 use Rattle.refusal.specs.Said.{Said, accepted, refused}
-use Rattle.varint.specs.Numbers.{wide}
+use Rattle.whole.specs.Twos.{wide}
 use Rattle.layer.specs.declared.Layer.{Layer}
 use Rattle.layer.specs.declared.Figures.{Figures}
 use Rattle.layer.specs.Held.{Memory, seen}
