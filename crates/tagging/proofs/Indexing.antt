@@ -1,11 +1,14 @@
--- Where the lent indexes that serve are those of the layer's entries, a tag by index answers as `tag` does (`along-answer-is`, `along-memory-is`), and the
--- indexes after it are those of the entries after it (`indexes-after`).
+-- Where the lent indexes that serve are those of the layer's entries, a tag by index answers as `tag` does.
+--     along-answer-is along-memory-is     the answer and the four lists are those of `taggedIn`
+--     along-refuses along-holds           all that is lent after a refused and an accepted tag
+--     indexes-after seen-tagged           the indexes after an accepted tag are those of what is seen then
+--     indexes-built                       indexes that were built anew
 use Prim.Native.Nat.{ℕ, _+_, _*_, _/_, _≤_}
 use mathlib.Core.Path.{_≡_, refl, sym, ap, _∙_, subst}
 use mathlib.Core.Bool.{Bool, true, false, cond}
 use mathlib.Core.List.{List, [], _∷_, _++_, append-assoc, append-nil}
 use native.Mathlib.Omega.{arith}
-use lib.ListN.{length, take, drop, length-append, length-drop, length-set}
+use lib.ListN.{length, take, drop, length-append, length-drop, length-set, length-replicate}
 use lib.Seq.{length-take-le, take-at, drop-at, take-length}
 use lib.Dec.{leb, ltb, eqb}
 use borrow.Author.Tests.{leb-true}
@@ -20,10 +23,10 @@ use Rattle.table.specs.Texts.{shortText}
 use Rattle.table.specs.Keys.{findKey, keysIn}
 use Rattle.table.specs.Values.{findValue, valuesIn}
 use Rattle.index.specs.Hashes.{hashText, textIn, hashValue, hashStored}
-use Rattle.index.specs.Chains.{slotsIn, slots, serves}
-use Rattle.index.specs.Entries.{KeyIndex, walkedKey, ValueIndex, walkedValue}
+use Rattle.index.specs.Chains.{slotsIn, slots, serves, cleared}
+use Rattle.index.specs.Entries.{keyCount, keyHash, KeyIndex, builtKeys, walkedKey, valueCount, valueHash, ValueIndex, builtValues, walkedValue}
 use Rattle.index.proofs.Scanning.{walked-key-is, walked-value-is}
-use Rattle.index.proofs.Pushing.{length-pushed}
+use Rattle.index.proofs.Pushing.{length-pushed, length-built, built-keys, built-values}
 use Rattle.index.proofs.Growing.{keys-kept, keys-pushed, values-kept, values-pushed}
 use Rattle.layer.specs.declared.Figures.{Figures}
 use Rattle.layer.specs.declared.Layer.{Layer}
@@ -254,3 +257,22 @@ module _ (t : Tag) (s : Layer) (o : Figures) (ks vs ts fs ki vi : List ℕ) (I :
     indexes-after p q =
         subst (λ (w : Seen). IndexesOf w (keyNoted t (seen s (mem ks vs ts fs)) ki) (valueNoted t (seen s (mem ks vs ts fs)) vi)) (sym seen-tagged)
         (indexes-tagged t (seen s (mem ks vs ts fs)) o (seen-stands s ks vs ts fs (room-fits .0)) ki vi I p q u h (room-fits .1))
+
+-- ---- indexes built anew, of any lists
+module _ (v : Seen) (S : Standing v) (ki vi : List ℕ) where
+  length-keys : length (builtKeys ki (v .held .keys) (v .held .texts)) ≡ length ki
+  length-keys = length-built (cleared ki) (keyHash (v .held .keys) (v .held .texts)) (keyCount (v .held .keys)) ∙ length-replicate {A = ℕ} (length ki) 0
+
+  length-values : length (builtValues vi (v .held .values) (v .held .texts)) ≡ length vi
+  length-values = length-built (cleared vi) (valueHash (v .held .values) (v .held .texts)) (valueCount (v .held .values)) ∙ length-replicate {A = ℕ} (length vi) 0
+
+  pub indexes-built : IndexesOf v (builtKeys ki (v .held .keys) (v .held .texts)) (builtValues vi (v .held .values) (v .held .texts))
+  indexes-built =
+      record {
+        keys = λ (e : serves (length (builtKeys ki (v .held .keys) (v .held .texts))) (v .room .keys) ≡ true).
+            let h = serves-slots (length ki) (v .room .keys) (subst (λ (n : ℕ). serves n (v .room .keys) ≡ true) length-keys e) in
+            built-keys ki (v .held .keys) (v .held .texts) (omega (arith, h, S .keys, S .room .keys)) (omega (arith, S .keys, S .room .keys, S .few-keys));
+        values = λ (e : serves (length (builtValues vi (v .held .values) (v .held .texts))) (v .room .values) ≡ true).
+            let h = serves-slots (length vi) (v .room .values) (subst (λ (n : ℕ). serves n (v .room .values) ≡ true) length-values e) in
+            built-values vi (v .held .values) (v .held .texts) (omega (arith, h, S .values, S .room .values)) (omega (arith, S .values, S .room .values, S .few-values));
+      }
