@@ -217,10 +217,13 @@ bp_changed bp_add_feature(bp_layer layer, uint32_t kind, uint32_t has_id, uint64
 
 /* Adds whole features one after the other, up to the first that is refused: JOB, then what bp_add_feature refuses of each. The layer is checked once for all of them, so many
  * features cost far less than as many calls. A feature is six words of `heads`: its kind, 1 where it has an id or else 0, the low and the high half of its id, how many words of
- * `words` and how many of `tags` it takes; those of one feature stand behind those of the one before, and all of both are taken. */
+ * `words` and how many of `tags` it takes; those of one feature stand behind those of the one before, and all of both are taken.
+ * `key_index` and `value_index` are for the call alone and may hold anything: two words for each key, and for each value, that there is room for (2 * (keys_len / 2) and
+ * 2 * (values_len / 3), at most 2 * BP_MAX_ENTRIES) make looking up quick. A shorter list, of length 0 too, is not used, and keys or values are looked up by a scan. */
 bp_many bp_add_features(bp_layer layer, const uint32_t *heads, size_t heads_len, const uint32_t *words, size_t words_len, const uint32_t *tags, size_t tags_len,
                         const uint8_t *bytes, size_t bytes_len, uint32_t *keys, size_t keys_len, uint32_t *values, size_t values_len, uint8_t *texts,
-                        size_t texts_len, uint32_t *features, size_t features_len);
+                        size_t texts_len, uint32_t *features, size_t features_len, uint32_t *key_index, size_t key_index_len, uint32_t *value_index,
+                        size_t value_index_len);
 
 /* How many features are complete: STATE. */
 bp_counted bp_num_features(bp_layer layer, const uint32_t *keys, size_t keys_len, const uint32_t *values, size_t values_len,

@@ -44,8 +44,13 @@ static struct memory {
     uint8_t guard5[16];
     uint8_t bytes[200];
     uint8_t guard6[16];
+    uint32_t key_index[4];
+    uint8_t guard7[16];
+    uint32_t value_index[5];
+    uint8_t guard8[16];
 } m, should;
 #define LISTS m.keys, COUNT(m.keys), m.values, COUNT(m.values), m.texts, COUNT(m.texts), m.features, COUNT(m.features)
+#define INDEX m.key_index, COUNT(m.key_index), m.value_index, COUNT(m.value_index)
 #define TILE m.names, COUNT(m.names), m.bytes, COUNT(m.bytes)
 #define TEXT(text) (const uint8_t *)(text), sizeof(text) - 1
 
@@ -189,19 +194,20 @@ static void many(bp_layer s)
     bp_changed c = bp_layer_new(TEXT("ab"), s.extent, m.texts, COUNT(m.texts));
     memcpy(should.texts, "ab", 2);
     s = c.layer, s.since.keys = SIZE_MAX; /* what lies behind a 0 is not looked at, and comes back */
-    NONE_ADDED(s, bp_add_features(s, heads, 17, drawn, 6, tags, 15, TEXT("v!kd"), LISTS), BP_JOB);
-    NONE_ADDED(s, bp_add_features(s, heads, 18, drawn, 5, tags, 15, TEXT("v!kd"), LISTS), BP_JOB);
-    NONE_ADDED(s, bp_add_features(s, heads, 18, drawn, 6, tags, 14, TEXT("v!kd"), LISTS), BP_JOB);
-    NONE_ADDED(s, bp_add_features(s, heads, 12, drawn, 4, tags, 10, TEXT("v!kd"), LISTS), BP_JOB);
-    NONE_ADDED(s, bp_add_features(s, marked, 6, drawn, 0, tags, 0, TEXT(""), LISTS), BP_JOB);
-    NONE_ADDED(s, bp_add_features(s, heads, 0, drawn, 0, tags, 0, TEXT(""), LISTS), 0);
-    bp_many a = bp_add_features(s, heads, 18, drawn, 6, tags, 15, TEXT("v!kd"), m.keys, 4, m.values, 8, m.texts, COUNT(m.texts), m.features, COUNT(m.features));
+    NONE_ADDED(s, bp_add_features(s, heads, 17, drawn, 6, tags, 15, TEXT("v!kd"), LISTS, INDEX), BP_JOB);
+    NONE_ADDED(s, bp_add_features(s, heads, 18, drawn, 5, tags, 15, TEXT("v!kd"), LISTS, INDEX), BP_JOB);
+    NONE_ADDED(s, bp_add_features(s, heads, 18, drawn, 6, tags, 14, TEXT("v!kd"), LISTS, INDEX), BP_JOB);
+    NONE_ADDED(s, bp_add_features(s, heads, 12, drawn, 4, tags, 10, TEXT("v!kd"), LISTS, INDEX), BP_JOB);
+    NONE_ADDED(s, bp_add_features(s, marked, 6, drawn, 0, tags, 0, TEXT(""), LISTS, INDEX), BP_JOB);
+    NONE_ADDED(s, bp_add_features(s, heads, 0, drawn, 0, tags, 0, TEXT(""), LISTS, m.key_index, 0, m.value_index, 0), 0);
+    bp_many a = bp_add_features(s, heads, 18, drawn, 6, tags, 15, TEXT("v!kd"), m.keys, 4, m.values, 8, m.texts, COUNT(m.texts), m.features, COUNT(m.features), INDEX);
     LAID(features, 0, 2, 0, 0, 0, 0, 1, 9), LAID(features, 7, 1, 1, 6, 0x80000007u, 4, 2, 2, 4, 0, 0, 1, 1);
     LAID(features, 19, 3, 1, 1, 1, 0, 3, 5, 6, 7); /* the third was opened, and its value had no room */
     LAID(keys, 0, 2, 1, 5, 1), LAID(values, 0, 1, 3, 2, 5, 1, 0xFFFFFFFEu), memcpy(should.texts + 2, "kv!d", 4);
+    LAID(key_index, 0, 2, 1, 0, 0), LAID(value_index, 0, 0, 2, 0, 1, 0); /* built anew: the newest entry of each bucket, then what each entry follows */
     SAME(BP_ROOM, a.refusal), SAME(2, a.count), SAME(0, a.layer.is_open), FIGURES(a.layer.used, 2, 2, 6, 19), FIGURES(a.layer.since, 0, 0, 0, 0), HELD();
     SAME(2, bp_num_features(a.layer, LISTS).count);
-    a = bp_add_features(a.layer, heads + 12, 6, drawn + 3, 3, tags + 10, 5, TEXT("v!kd"), LISTS);
+    a = bp_add_features(a.layer, heads + 12, 6, drawn + 3, 3, tags + 10, 5, TEXT("v!kd"), LISTS, INDEX);
     LAID(features, 23, 2), LAID(features, 28, 0, 2), LAID(values, 6, 4, 3, 3);
     SAME(0, a.refusal), SAME(1, a.count), FIGURES(a.layer.used, 2, 3, 6, 30), HELD();
 }
@@ -222,7 +228,7 @@ static void refused(bp_layer s)
     GIVEN_BACK(s, bp_into_layer(s, LISTS), BP_STATE);
     GIVEN_BACK(s, bp_abandon(s, LISTS), BP_STATE);
     GIVEN_BACK(s, bp_add_feature(s, 1, 0, 0, words, 3, words, 0, TEXT(""), LISTS), BP_STATE);
-    NONE_ADDED(s, bp_add_features(s, (const uint32_t[]){1, 0, 0, 0, 0, 0}, 6, words, 0, words, 0, TEXT(""), LISTS), BP_STATE);
+    NONE_ADDED(s, bp_add_features(s, (const uint32_t[]){1, 0, 0, 0, 0, 0}, 6, words, 0, words, 0, TEXT(""), LISTS, INDEX), BP_STATE);
     SAME(BP_STATE, bp_num_features(s, LISTS).refusal), SAME(BP_STATE, bp_num_tags(s, LISTS).refusal), SAME(BP_STATE, bp_name(s, LISTS).refusal);
     bp_tile t = {.extent = s.extent};
     SAME(BP_STATE, bp_add_layer(t, s, LISTS, TILE).refusal), HELD();

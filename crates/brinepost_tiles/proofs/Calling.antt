@@ -10,7 +10,8 @@ use Rattle.layer.specs.Answers.{saidChanged}
 use Rattle.whole_feature.specs.declared.Head.{Head}
 use Rattle.whole_feature.specs.Whole.{addFeature}
 use Rattle.whole_feature.specs.declared.many.Added.{Added as AddedMany}
-use Rattle.whole_feature.specs.Many.{saidAdded, addFeatures}
+use Rattle.whole_feature.specs.Indexed.{Index}
+use Rattle.whole_feature.specs.Many.{saidAdded, Lists, addIndexed}
 use Rattle.tile.specs.declared.Tile.{Tile}
 use Rattle.tile.specs.declared.Added.{Added}
 use Rattle.tile.specs.Tiles.{TileMemory}
@@ -36,9 +37,9 @@ module _ (given : BpLayer) (s : Layer) (k : s ≡ layerOf given) where
     unfolding featureFrom
     whole-called f words ws bytes g = rw (← k) (told-gives (flatChanged given) (addFeature f words ws bytes s m) (saidChanged a) r n g q)
 
-  pub many-called : (a : AddedMany) (r : BpMany) → r ≡ flatMany given (saidAdded a) → (m n : Memory) (heads words ws bytes : List ℕ) → Gives (addFeatures heads words ws bytes s m) (saidAdded a) n → Gives (featuresFrom given heads words ws bytes m) r n
+  pub many-called : (a : AddedMany) (r : BpMany) → r ≡ flatMany given (saidAdded a) → (m : Memory) (x : Index) (n : Lists) (heads words ws bytes : List ℕ) → Gives (addIndexed heads words ws bytes s m x) (saidAdded a) n → Gives (featuresFrom given heads words ws bytes m x) r n
   unfolding featuresFrom
-  many-called a r q m n heads words ws bytes g = rw (← k) (told-gives (flatMany given) (addFeatures heads words ws bytes s m) (saidAdded a) r n g q)
+  many-called a r q m x n heads words ws bytes g = rw (← k) (told-gives (flatMany given) (addIndexed heads words ws bytes s m x) (saidAdded a) r n g q)
 
   pub tile-called : (t : BpTile) (u : Tile) (m : Memory) (l n : TileMemory) (a : Added) (r : BpAdded) → u ≡ tileOf t → Gives (addLayer u (seen s m) l) (saidTile a) n → r ≡ flatTile (saidTile a) → Gives (addedFrom t given m l) r n
   unfolding addedFrom

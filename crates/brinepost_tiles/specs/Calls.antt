@@ -7,7 +7,8 @@ use Rattle.promise.specs.Answers.{Written}
 use Rattle.layer.specs.Held.{Memory, Seen, Change, seen, written}
 use Rattle.whole_feature.specs.declared.Head.{Head}
 use Rattle.whole_feature.specs.Whole.{addFeature}
-use Rattle.whole_feature.specs.Many.{addFeatures}
+use Rattle.whole_feature.specs.Indexed.{Index}
+use Rattle.whole_feature.specs.Many.{Lists, addIndexed}
 use Rattle.tile.specs.Tiles.{TileMemory}
 use Rattle.tile.specs.Adding.{addLayer}
 use Rattle.telling.specs.Telling.{told}
@@ -37,8 +38,8 @@ headAt kind has id = record { kind = kind; «has_id» = isTrue has; id = id }
 unfoldable pub featureFrom : BpLayer → Head → List ℕ → List ℕ → List ℕ → Memory → Written BpChanged Memory
 featureFrom given f words ws bytes m = told (flatChanged given) (addFeature f words ws bytes (layerOf given) m)
 
-unfoldable pub featuresFrom : BpLayer → List ℕ → List ℕ → List ℕ → List ℕ → Memory → Written BpMany Memory
-featuresFrom given heads words ws bytes m = told (flatMany given) (addFeatures heads words ws bytes (layerOf given) m)
+unfoldable pub featuresFrom : BpLayer → List ℕ → List ℕ → List ℕ → List ℕ → Memory → Index → Written BpMany Lists
+featuresFrom given heads words ws bytes m x = told (flatMany given) (addIndexed heads words ws bytes (layerOf given) m x)
 
 unfoldable pub addedFrom : BpTile → BpLayer → Memory → TileMemory → Written BpAdded TileMemory
 addedFrom t given m n = told flatTile (addLayer (tileOf t) (seenFrom given m) n)

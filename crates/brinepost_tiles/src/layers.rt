@@ -3,6 +3,8 @@ ghost use Prim.Native.Nat.{_%_, _/_};
 ghost use Rattle.promise.specs.Answers.{Gives};
 ghost use Rattle.layer.specs.Held.{mem};
 ghost use Rattle.layer.specs.Calls.{created, intoFeature, setId, intoLayer, abandoned};
+ghost use Rattle.whole_feature.specs.Indexed.{idx};
+ghost use Rattle.whole_feature.specs.Many.{withIndex};
 ghost use Rattle.telling.specs.Telling.{told};
 ghost use Rattle.brinepost_tiles.specs.Answers.{flatCreated};
 ghost use Rattle.brinepost_tiles.specs.Calls.{calledFrom, headAt, featureFrom, featuresFrom};
@@ -120,7 +122,8 @@ pub extern "C" fn bp_add_feature(
 }
 
 // JOB, else the whole features of the heads one after the other, up to the first that is refused. A head is six words: kind, id mark (0 or 1), the low and the high half of the id,
-// how many geometry words and how many tag words; these stand in words and in tags, those of one feature behind those of the one before.
+// how many geometry words and how many tag words; these stand in words and in tags, those of one feature behind those of the one before. A list of two words for each key that
+// there is room for makes looking up keys quick, and so for the values; a shorter one is not used.
 #[no_mangle]
 pub extern "C" fn bp_add_features(
     given: BpLayer,
@@ -132,8 +135,10 @@ pub extern "C" fn bp_add_features(
     values: &mut [u32],
     texts: &mut [u8],
     features: &mut [u32],
+    key_index: &mut [u32],
+    value_index: &mut [u32],
 ) -> BpMany
-    ensures { λ r. ⌜ Gives (featuresFrom given (now (heads .entry)) (now (words .entry)) (now (tags .entry)) (now (bytes .entry)) (mem (now (keys .entry)) (now (values .entry)) (now (texts .entry)) (now (features .entry)))) r (mem (now (keys .exit)) (now (values .exit)) (now (texts .exit)) (now (features .exit))) ⌝ }
+    ensures { λ r. ⌜ Gives (featuresFrom given (now (heads .entry)) (now (words .entry)) (now (tags .entry)) (now (bytes .entry)) (mem (now (keys .entry)) (now (values .entry)) (now (texts .entry)) (now (features .entry))) (idx (now («key_index» .entry)) (now («value_index» .entry)))) r (withIndex (mem (now (keys .exit)) (now (values .exit)) (now (texts .exit)) (now (features .exit))) (idx (now («key_index» .exit)) (now («value_index» .exit)))) ⌝ }
 {
     let s = layer_of(given);
     let r = whole_feature::many::add_features(
@@ -146,6 +151,8 @@ pub extern "C" fn bp_add_features(
         values,
         texts,
         features,
+        key_index,
+        value_index,
     );
     many_added(given, r)
 }

@@ -25,8 +25,14 @@ same-length-3 c = search needs
 same-length-4 : tie.Need-same-length-4
 same-length-4 c = search needs
 
+same-length-5 : tie.Need-same-length-5
+same-length-5 c = search needs
+
+same-length-6 : tie.Need-same-length-6
+same-length-6 c = search needs
+
 returns : tie.Need-returns
-returns c = many-called _ _ (c .before .before .before .before .before .before .before .before .before .before .before .before .before .before .layer-of .ensures) (c .before .before .before .before .before .before .before .before .before .add-features .result) _ (c .many-added .ensures) _ _ _ _ _ _ (c .before .before .before .before .before .before .before .before .before .add-features .ensures)
+returns c = many-called _ _ (c .before .before .before .before .before .before .before .before .before .before .before .before .before .before .before .before .before .before .before .before .layer-of .ensures) (c .before .before .before .before .before .before .before .before .before .before .before .before .before .add-features .result) _ (c .many-added .ensures) _ _ _ _ _ _ _ (c .before .before .before .before .before .before .before .before .before .before .before .before .before .add-features .ensures)
 
 pub bp-add-features-spec : {M : Type 1} → statement M
 bp-add-features-spec =
@@ -39,4 +45,6 @@ bp-add-features-spec =
     same-length-2
     same-length-3
     same-length-4
+    same-length-5
+    same-length-6
     returns)
