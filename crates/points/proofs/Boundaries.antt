@@ -1,5 +1,8 @@
 -- Laws of the boundary points: what the clip gives, and what each `return` is.
---     alone-none          for callers: where neither end is there, there is no boundary point
+-- For callers:
+--     alone-none          where neither end is there, there is no boundary point
+--     inside-same stays   a segment inside the box is not cut, and then no end has moved
+--     cut-is              the cut of a good box and two coordinates
 use Prim.Native.Nat.{ℕ}
 use mathlib.Core.Path.{_≡_, refl, sym, _∙_, ap}
 use mathlib.Core.Bool.{Bool, true, false, cond, not, _&&_, _||_}
@@ -51,7 +54,7 @@ pub both-ends : (raw cut cut′ : Seg) (first second : MaybePt) → cut ≡ cut�
 both-ends raw cut cut′ first second e f g = rw (f, g, e)
 
 -- ---- a segment inside the box brings none
-kept-in : (b : BBox) (p : Pt) → outside b p ≡ false → Kept b p
+pub kept-in : (b : BBox) (p : Pt) → outside b p ≡ false → Kept b p
 kept-in b p e = by (ltZ (p .x) (b .«x_min»)) (ltZ (b .«x_max») (p .x)) (ltZ (p .y) (b .«y_min»)) (ltZ (b .«y_max») (p .y)) e refl refl refl refl
   where
     by : (m n o q : Bool) → (m || n || o || q) ≡ false → ltZ (p .x) (b .«x_min») ≡ m → ltZ (b .«x_max») (p .x) ≡ n → ltZ (p .y) (b .«y_min») ≡ o → ltZ (b .«y_max») (p .y) ≡ q → Kept b p
@@ -64,8 +67,12 @@ kept-in b p e = by (ltZ (p .x) (b .«x_min»)) (ltZ (b .«x_max») (p .x)) (ltZ 
 same-self : (p : Pt) → samePt p p ≡ true
 same-self p = rw (eqZ-refl (p .x), eqZ-refl (p .y))
 
-stays : (raw cut : Seg) → cut ≡ raw → [] ≡ movedEnds raw cut
+pub stays : (raw cut : Seg) → cut ≡ raw → [] ≡ movedEnds raw cut
 stays raw cut e = rw (e, same-self (raw .p0), same-self (raw .p1))
+
+-- a good box and two coordinates: the clip's own segment
+pub cut-is : (b : BBox) (raw : Seg) → isGood b ≡ true → areCoords raw ≡ true → cutOf b raw ≡ clip b raw .seg
+cut-is b raw g e = rw (g, e)
 
 cut-inside : (b : BBox) (raw : Seg) → clip b raw .seg ≡ raw → cutOf b raw ≡ raw
 cut-inside b raw e = by (isGood b) (areCoords raw)
@@ -76,13 +83,16 @@ cut-inside b raw e = by (isGood b) (areCoords raw)
     by false t = refl
 
 module _ (raw : Seg) (b : BBox) (t u : Bool) (e : t ≡ outside b (raw .p0)) (f : u ≡ outside b (raw .p1)) where
-  pub inside-none : not (t || u) ≡ true → [] ≡ movedEnds raw (cutOf b raw)
-  inside-none h = by t u e f h
+  pub inside-same : not (t || u) ≡ true → clip b raw .seg ≡ raw
+  inside-same h = by t u e f h
     where
-      by : (m n : Bool) → m ≡ outside b (raw .p0) → n ≡ outside b (raw .p1) → not (m || n) ≡ true → [] ≡ movedEnds raw (cutOf b raw)
-      by false false g i j = stays raw (cutOf b raw) (cut-inside b raw (clip-inside b raw (kept-in b (raw .p0) (sym g)) (kept-in b (raw .p1) (sym i))))
+      by : (m n : Bool) → m ≡ outside b (raw .p0) → n ≡ outside b (raw .p1) → not (m || n) ≡ true → clip b raw .seg ≡ raw
+      by false false g i j = clip-inside b raw (kept-in b (raw .p0) (sym g)) (kept-in b (raw .p1) (sym i))
       by true n g i j = absurd (let z : _≡_ {A = ℕ} 0 1 = cc in omega arith)
       by false true g i j = absurd (let z : _≡_ {A = ℕ} 0 1 = cc in omega arith)
+
+  pub inside-none : not (t || u) ≡ true → [] ≡ movedEnds raw (cutOf b raw)
+  inside-none h = stays raw (cutOf b raw) (cut-inside b raw (inside-same h))
 
 -- ---- the three returns of `add_boundary_points`
 module _ (kind : ℕ) (b : BBox) (m : MaybePt) (p : Pt) where

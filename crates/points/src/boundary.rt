@@ -15,7 +15,7 @@ pub struct Ends {
 }
 
 // The raw segment cut at the box; one whose clip is refused stays as it is.
-fn clip_raw(raw: Seg, bbox: BBox) -> Seg
+pub fn clip_raw(raw: Seg, bbox: BBox) -> Seg
     ensures { λ r. ⌜ r ≡ cutOf bbox raw ⌝ }
 {
     match clip::clip(raw, bbox) {
@@ -34,7 +34,7 @@ fn if_moved(raw: Pt, end: Pt) -> MaybePt
 }
 
 // Whether a point lies strictly outside an edge.
-fn is_outside(p: Pt, b: BBox) -> bool
+pub fn is_outside(p: Pt, b: BBox) -> bool
     ensures { λ r. ⌜ r ≡ outside b p ⌝ }
 {
     let x = p.x;
@@ -101,7 +101,8 @@ pub fn is_alone(ends: Ends) -> bool
     a & b
 }
 
-fn is_missing(m: MaybePt) -> bool
+// Whether there is no point.
+pub fn is_missing(m: MaybePt) -> bool
     ensures { λ r. ⌜ r ≡ missing m ⌝ }
 {
     match m {

@@ -54,7 +54,8 @@ pub fn make_point(p: Pt, b: BBox) -> Pt
     Pt { x: x, y: y }
 }
 
-fn is_same(p: Pt, q: Pt) -> bool
+// Whether two points are one.
+pub fn is_same(p: Pt, q: Pt) -> bool
     ensures { λ r. ⌜ r ≡ samePt p q ⌝ }
 {
     let px = p.x;
@@ -80,7 +81,8 @@ fn is_strictly(a: i32, m: i32, b: i32) -> bool
     ((a < m) & (m < b)) | ((b < m) & (m < a))
 }
 
-fn is_between(a: Pt, m: Pt, b: Pt) -> bool
+// Whether m lies strictly between a and b, on one horizontal or vertical.
+pub fn is_between(a: Pt, m: Pt, b: Pt) -> bool
     ensures { λ r. ⌜ r ≡ between a m b ⌝ }
 {
     let ax = a.x;

@@ -6,7 +6,7 @@
 use mathlib.Core.Path.{_≡_, refl, sym, _∙_, ap, subst}
 use mathlib.Core.Bool.{Bool, true, false, cond, not, _&&_, _||_}
 use mathlib.Core.List.{List, [], _∷_, _++_}
-use Prim.Native.Nat.{ℕ, _+_, _-_, _*_, _/_, _≤_}
+use Prim.Native.Nat.{ℕ, _+_, _-_, _*_, _≤_}
 use native.Mathlib.Omega.{arith}
 use borrow.Author.Tests.{le-leb, ne-eqb}
 use lib.Dec.{leb, eqb}
@@ -23,32 +23,49 @@ use Rattle.clip.specs.Answer.{areCoords}
 use Rattle.clip.specs.Facts.{Coord}
 use Rattle.clip.specs.Cutting.{clip}
 use Rattle.encoder.specs.declared.GeomEncoder.{GeomEncoder}
-use Rattle.encoder.specs.Emitting.{Emission, clamped, samePt, between, command, steps, popped, skipped, pushed, emittedAt, emission}
-use Rattle.encoder.specs.Adding.{moved, movedEnds, emitted}
-use Rattle.encoder.specs.Planning.{outside}
+use Rattle.commands.specs.Pushed.{command}
+use Rattle.encoder.specs.Emitting.{Emission, steps, popped, pushed, emittedAt, emission}
+use Rattle.points.specs.Points.{clamped, samePt, between}
+use Rattle.points.specs.Boundary.{moved, movedEnds}
+use Rattle.encoder.specs.Adding.{emitted}
+use Rattle.points.specs.Boundary.{outside}
 use Rattle.clip.proofs.Callers.{coord-facts, clip-within}
 use Rattle.encoder.proofs.States.{both}
-use Rattle.encoder.proofs.Boundaries.{inside-none}
+use Rattle.points.proofs.Boundaries.{inside-same, stays}
 use Rattle.words.specs.Params.{param}
 use Rattle.encoder.proofs.Stores.{two-stores}
 use Rattle.stretch.specs.declared.Pen.{Pen}
-use Rattle.stretch.specs.Pens.{stateOf, withRaw, Mark, still, onward, over, mark, laid, marked, markedIf, markedEnds, marks, ends, drawnBy, Able}
+use Rattle.stretch.specs.Pens.{stateOf, withRaw, Mark, still, taken, beforePush, onward, mark, laid, marked, markedIf, markedEnds, marks, ends, drawnBy, Fit, Able}
 use Rattle.stretch.proofs.Tests.{clamped-inside, made-coord, fixed0, fixed1, neither}
 
--- ---- the returns of `emit`
+-- ---- the returns of `before_push` and `emit`
+module _ (ring : Bool) (pen : Pen) (q : Pt) (u : Bool) (f : u ≡ (ring && between (pen .pt0) (pen .pt1) q)) where
+  pub push-taken : u ≡ true → (r : Pen) → r ≡ taken pen → r ≡ beforePush ring pen q
+  push-taken k r e = rw (sym f ∙ k) e
+
+  pub push-kept : u ≡ false → pen ≡ beforePush ring pen q
+  push-kept k = rw (sym f ∙ k)
+
 module _ (ring : Bool) (pen : Pen) (q : Pt) (out : List ℕ) (t : Bool) (e : t ≡ samePt (pen .pt1) q) where
   pub emit-still : t ≡ true → Gives (marked ring pen q out) pen out
   unfolding marked
   emit-still h = rw (sym e ∙ h) (record { answer = refl; memory = sym (lay-nothing (pen .used) out) })
 
-  module _ (h : t ≡ false) (u : Bool) (f : u ≡ (ring && between (pen .pt0) (pen .pt1) q)) (r : Pen) (o : List ℕ) where
-    pub emit-out : u ≡ true → Gives (laid (over pen q) out) r o → Gives (marked ring pen q out) r o
-    unfolding marked
-    emit-out k g = rw (sym e ∙ h, sym f ∙ k) g
+  pub emit-next : t ≡ false → (base : Pen) → base ≡ beforePush ring pen q → (r : Pen) (o : List ℕ) → Gives (laid (onward base q) out) r o → Gives (marked ring pen q out) r o
+  unfolding marked
+  emit-next h base f r o g =
+      let g′ : Gives (laid (onward (beforePush ring pen q) q) out) r o = subst (λ (x : Pen). Gives (laid (onward x q) out) r o) f g in
+      rw (sym e ∙ h) g′
 
-    pub emit-next : u ≡ false → Gives (laid (onward pen q) out) r o → Gives (marked ring pen q out) r o
-    unfolding marked
-    emit-next k g = rw (sym e ∙ h, sym f ∙ k) g
+pub some-used : {n : ℕ} {pen : Pen} → Able 2 pen n → (2 ≤ pen .count) × (2 ≤ pen .used)
+some-used a = (a .two, omega (arith, a .two, a .counted))
+
+pub push-fits : (n : ℕ) (ring : Bool) (pen : Pen) (q : Pt) → Able 2 pen n → (base : Pen) → base ≡ beforePush ring pen q → Fit base n
+push-fits n ring pen q a base e = subst (λ (x : Pen). Fit x n) (sym e) (by (ring && between (pen .pt0) (pen .pt1) q))
+  where
+    by : (u : Bool) → Fit (cond u (taken pen) pen) n
+    by true = record { room = omega (arith, a .room); few = omega (arith, a .few, a .counted); at1 = a .at0 }
+    by false = record { room = a .room; few = omega (arith, a .few, a .counted); at1 = a .at1 }
 
 -- ---- what is asked of a pen
 pub less : {m k n : ℕ} {pen : Pen} → k ≤ m → Able m pen n → Able k pen n
@@ -59,9 +76,11 @@ module _ (m n : ℕ) (ring : Bool) (pen : Pen) (a : Able (m + 2) pen n) where
   unfolding marked
   marked-able q out c = by (samePt (pen .pt1) q) (ring && between (pen .pt0) (pen .pt1) q)
     where
-      by : (t u : Bool) → Able m (cond t (still pen) (cond u (over pen q) (onward pen q)) .pen) n
+      by : (t u : Bool) → Able m (cond t (still pen) (onward (cond u (taken pen) pen) q) .pen) n
       by true u = less (omega arith) a
-      by false true = record { room = omega (arith, a .room); few = omega (arith, a .few); two = a .two; counted = a .counted; at0 = a .at0; at1 = c }
+      by false true =
+          let s : 2 ≤ pen .used = omega (arith, a .two, a .counted) in
+          record { room = omega (arith, a .room); few = omega (arith, a .few); two = omega (arith, a .two); counted = omega (arith, a .counted, a .two); at0 = a .at0; at1 = c }
       by false false = record { room = omega (arith, a .room); few = omega (arith, a .few); two = omega (arith, a .two); counted = omega (arith, a .counted); at0 = a .at1; at1 = c }
 
   pub if-able : (raw end : Pt) (out : List ℕ) → isCoord end ≡ true → Able m (markedIf ring pen raw end out .answer) n
@@ -139,7 +158,7 @@ module _ (b : BBox) (ring : Bool) (pen : Pen) (p : Pt) (out : List ℕ) where
   unfolding drawnBy
   draw-inside t e h last o g r k =
       let f : (outside b (pen .raw) || outside b p) ≡ false = sym e ∙ h in
-      let n : ends b (pen .raw) p ≡ [] = sym (inside-none (record { p0 = pen .raw; p1 = p }) b (outside b (pen .raw)) (outside b p) refl refl (ap not f)) in
+      let n : ends b (pen .raw) p ≡ [] = sym (stays (record { p0 = pen .raw; p1 = p }) _ (inside-same (record { p0 = pen .raw; p1 = p }) b (outside b (pen .raw)) (outside b p) refl refl (ap not f))) in
       let g′ : Gives (marked ring pen (clamped b p) out) last o = subst (λ (x : Pt). Gives (marked ring pen x out) last o) (sym (clamped-inside b p (neither (outside b (pen .raw)) (outside b p) f .1))) g in
       rw n (record { answer = k ∙ ap (λ (x : Pen). withRaw x p) (g′ .answer); memory = g′ .memory })
 
@@ -157,7 +176,6 @@ module _ (b : BBox) (ring : Bool) (pen : Pen) (p : Pt) (out : List ℕ) where
       pub draw-cut : (q : Pt) → q ≡ clamped b p → (last : Pen) (m : List ℕ) → Gives (marked ring after q o) last m → (r : Pen) → r ≡ withRaw last p → Gives (drawnBy b ring pen p out) r m
       unfolding drawnBy
       draw-cut q f last m d r k =
-          let s : Seg = record { p0 = pen .raw; p1 = p } in
           let d′ : Gives (marked ring after (clamped b p) o) last m = subst (λ (x : Pt). Gives (marked ring after x o) last m) f d in
           let v : marks b ring pen (ends b (pen .raw) p) out ≡ kept after o =
           ends-is b ring pen (record { p0 = pen .raw; p1 = p }) out h ∙ ap (λ (x : Seg). markedEnds ring pen (record { p0 = pen .raw; p1 = p }) x out) (sym c) ∙ (λ i. kept (sym (g .answer) i) (sym (g .memory) i)) in
@@ -181,9 +199,9 @@ begun-next : (ring : Bool) (pen : Pen) (q : Pt) (out : List ℕ) → Begun pen �
 unfolding marked
 begun-next ring pen q out B = by (samePt (pen .pt1) q) (ring && between (pen .pt0) (pen .pt1) q)
   where
-    by : (t u : Bool) → Begun (cond t (still pen) (cond u (over pen q) (onward pen q)) .pen)
+    by : (t u : Bool) → Begun (cond t (still pen) (onward (cond u (taken pen) pen) q) .pen)
     by true u = record { two = B .two; some = B .some }
-    by false true = record { two = B .two; some = B .some }
+    by false true = record { two = omega (arith, B .two); some = omega arith }
     by false false = record { two = omega (arith, B .two); some = omega (arith, B .some) }
 
 marks-begun : (b : BBox) (ring : Bool) (ps : List Pt) (pen : Pen) (out : List ℕ) → Begun pen → Begun (marks b ring pen ps out .answer)
@@ -206,16 +224,10 @@ module _ (s : GeomEncoder) where
       let l : leb 2 (pen .count) ≡ true = le-leb 2 (pen .count) (B .two) in
       rw (n, z, l) (by (samePt (pen .pt1) q) (eqb (s .kind) 3) (between (pen .pt0) (pen .pt1) q))
     where
-      out-is : pushed [] (popped (stateOf s pen)) q ≡ emissionOf s (over pen q)
-      out-is =
-          let c : pen .count - 1 + 1 ≡ pen .count = omega (arith, B .two) in
-          let u : pen .used - 2 + 2 ≡ pen .used = omega (arith, B .some) in
-          rw (c, u)
-
       by : (t k w : Bool) → cond t (record { next = stateOf s pen; at = pen .used; run = [] }) (pushed [] (cond (k && true && w) (popped (stateOf s pen)) (stateOf s pen)) q)
-          ≡ emissionOf s (cond t (still pen) (cond (k && w) (over pen q) (onward pen q)))
+          ≡ emissionOf s (cond t (still pen) (onward (cond (k && w) (taken pen) pen) q))
       by true k w = refl
-      by false true true = out-is
+      by false true true = refl
       by false true false = refl
       by false false w = refl
 
@@ -235,9 +247,9 @@ marked-used : (ring : Bool) (pen : Pen) (q : Pt) (out : List ℕ) → marked rin
 unfolding marked
 marked-used ring pen q out = by (samePt (pen .pt1) q) (ring && between (pen .pt0) (pen .pt1) q)
   where
-    by : (t u : Bool) → cond t (still pen) (cond u (over pen q) (onward pen q)) .pen .used ≤ pen .used + 2
+    by : (t u : Bool) → cond t (still pen) (onward (cond u (taken pen) pen) q) .pen .used ≤ pen .used + 2
     by true u = omega arith
-    by false true = omega arith
+    by false true = let h : pen .used - 2 + 2 ≤ pen .used + 2 = omega arith in h
     by false false = omega arith
 
 marks-used : (b : BBox) (ring : Bool) (ps : List Pt) (pen : Pen) (out : List ℕ) → marks b ring pen ps out .answer .used ≤ pen .used + 2 * length ps

@@ -1,7 +1,7 @@
 -- Laws of the tests: a point of the box, a point that is taken, a state that a stretch starts from.
-use mathlib.Core.Path.{_≡_, refl, sym, _∙_, ap, subst}
+use mathlib.Core.Path.{_≡_, refl, sym, subst}
 use mathlib.Core.Bool.{Bool, true, false, cond, not, _&&_, _||_}
-use Prim.Native.Nat.{ℕ, _+_, _/_, _≤_, _<_}
+use Prim.Native.Nat.{ℕ, _+_, _≤_, _<_}
 use native.Mathlib.Omega.{arith}
 use borrow.Author.Tests.{eq-eqb, ne-eqb, le-leb, lt-leb, lt-ltb, le-ltb, eqb-false, ltb-false, not-true, not-false}
 use lib.Dec.{leb, ltb, eqb}
@@ -13,35 +13,27 @@ use Rattle.clip.specs.Domain.{isCoord, isGood}
 use Rattle.clip.specs.Facts.{Coord}
 use Rattle.clip.specs.declared.Seg.{Seg}
 use Rattle.clip.specs.Cutting.{clip}
+use Rattle.clip.specs.Answer.{areCoords}
 use Rattle.clip.specs.Demand3.{Moved, Placed}
 use Rattle.clip.proofs.Demands.{demand-3}
 use Rattle.clip.proofs.Tests.{by-lt}
 use Rattle.clip.proofs.Callers.{Kept, coord-is, good-facts, good-proper}
 use Rattle.whole.proofs.Parts.{zarith}
 use mathlib.Core.Logic.{⊎-elim}
-use Rattle.encoder.specs.declared.MaybePt.{MaybePt}
-use Rattle.encoder.specs.declared.MaybePt.the-variants.{Nowhere, At}
+use Rattle.points.specs.declared.MaybePt.{MaybePt}
+use Rattle.points.specs.declared.MaybePt.the-variants.{Nowhere, At}
 use Rattle.encoder.specs.declared.GeomEncoder.{GeomEncoder}
 use Rattle.encoder.specs.States.{valid}
-use Rattle.encoder.specs.Emitting.{clampTo, clamped, samePt, lastOf}
-use Rattle.encoder.specs.Planning.{outside, missing}
+use Rattle.points.specs.Points.{clampTo, clamped, samePt, lastOf}
+use Rattle.points.specs.Boundary.{outside, missing}
 use Rattle.encoder.proofs.States.{both, Valid, valid-facts}
-use Rattle.encoder.proofs.Points.{eqZ-refl}
-use Rattle.encoder.proofs.Pushing.{clamped-coord}
+use Rattle.points.proofs.Points.{eqZ-refl}
+use Rattle.points.proofs.Coords.{clamped-coord}
+use Rattle.points.proofs.Boundaries.{kept-in}
 use Rattle.stretch.specs.Stretches.{isStart}
 use Rattle.stretch.specs.Pens.{penOf, stateOf}
 
 -- ---- a point of the box
-pub kept-in : (b : BBox) (p : Pt) → outside b p ≡ false → Kept b p
-kept-in b p e = by (ltZ (p .x) (b .«x_min»)) (ltZ (b .«x_max») (p .x)) (ltZ (p .y) (b .«y_min»)) (ltZ (b .«y_max») (p .y)) e refl refl refl refl
-  where
-    by : (m n o q : Bool) → (m || n || o || q) ≡ false → ltZ (p .x) (b .«x_min») ≡ m → ltZ (b .«x_max») (p .x) ≡ n → ltZ (p .y) (b .«y_min») ≡ o → ltZ (b .«y_max») (p .y) ≡ q → Kept b p
-    by false false false false f g h i j = record { left = g; right = h; down = i; up = j }
-    by true n o q f g h i j = absurd (let z : _≡_ {A = ℕ} 0 1 = cc in omega arith)
-    by false true o q f g h i j = absurd (let z : _≡_ {A = ℕ} 0 1 = cc in omega arith)
-    by false false true q f g h i j = absurd (let z : _≡_ {A = ℕ} 0 1 = cc in omega arith)
-    by false false false true f g h i j = absurd (let z : _≡_ {A = ℕ} 0 1 = cc in omega arith)
-
 pub clamped-inside : (b : BBox) (p : Pt) → outside b p ≡ false → clamped b p ≡ p
 clamped-inside b p e = let k = kept-in b p e in rw (k .left, k .right, k .down, k .up)
 
@@ -144,3 +136,7 @@ there (At p) e = refl
 
 pub pen-whole : (s : GeomEncoder) (n : ℕ) → isStart s n ≡ true → stateOf s (penOf s) ≡ s
 pen-whole s n e = let S = start-facts s n e in rw (there (s .«xy_end») (S .end), there (s .pt0) (S .at0), there (s .pt1) (S .at1))
+
+-- the segment of two coordinates
+pub is-seg : (q p : Pt) → isCoord q ≡ true → isCoord p ≡ true → areCoords (record { p0 = q; p1 = p }) ≡ true
+is-seg q p f g = rw (f, g)

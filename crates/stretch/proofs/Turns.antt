@@ -1,8 +1,8 @@
 -- The loop of a stretch, over plain lists and numbers: what is left to take gives the rest of the answer.
-use mathlib.Core.Path.{_≡_, refl, sym, _∙_, ap, subst}
+use mathlib.Core.Path.{_≡_, refl, sym, _∙_, ap}
 use mathlib.Core.Bool.{Bool, true, false, cond, not, _&&_, _||_}
 use mathlib.Core.List.{List}
-use Prim.Native.Nat.{ℕ, zero, suc, _+_, _-_, _*_, _/_, _^_, _≤_, _<_}
+use Prim.Native.Nat.{ℕ, suc, _+_, _-_, _*_, _/_, _^_, _≤_, _<_}
 use native.Mathlib.Omega.{arith}
 use borrow.Author.Tests.{leb-true, not-true, not-false}
 use lib.Dec.{leb, eqb}
@@ -13,7 +13,7 @@ use lib.ListN.{length, getD}
 use mir.Syntax.{w32}
 use mir.Val.{ofZ, toZ}
 use mir.Facts.{toZ-ofZ}
-use Rattle.promise.specs.Answers.{Written, Gives, kept}
+use Rattle.promise.specs.Answers.{Gives, kept}
 use Rattle.promise.proofs.Cases.{gives-kept}
 use Rattle.clip.specs.declared.Pt.{Pt}
 use Rattle.clip.specs.declared.BBox.{BBox}
@@ -23,11 +23,11 @@ use Rattle.words.specs.Geometries.{maxWords, room}
 use Rattle.encoder.specs.declared.GeomEncoder.{GeomEncoder}
 use Rattle.encoder.specs.Adding.{added}
 use Rattle.encoder.proofs.States.{both, room-length, room-cap}
-use Rattle.encoder.specs.Planning.{outside}
+use Rattle.points.specs.Boundary.{outside}
 use Rattle.stretch.specs.declared.Pen.{Pen}
 use Rattle.stretch.specs.declared.Stretch.{Stretch}
 use Rattle.stretch.specs.Stretches.{isStart, pointIn, halted, run, lastPoint, stretched}
-use Rattle.stretch.specs.Pens.{penOf, stateOf, drawnBy, Able, Steady}
+use Rattle.stretch.specs.Pens.{penOf, stateOf, drawnBy, Steady}
 use Rattle.stretch.proofs.Tests.{inside-coord, pen-whole}
 use Rattle.stretch.proofs.Marks.{drawn-raw}
 use Rattle.stretch.proofs.Calls.{Ongoing, ongoing-start, Next, next-is}
@@ -55,7 +55,7 @@ module _ (s : GeomEncoder) (l : List ℤ) (from end : ℕ) (out₀ : List ℕ) (
   pub draw-end : end ≤ i → (r : GeomEncoder) → r ≡ stateOf s pen → Gives (run (end - from) l from (stateOf s start) out₀) (record { state = r; reached = i }) out
   draw-end h r e = let z : end - i ≡ 0 = omega arith in rw (I .rest, z, e) (gives-kept (halted (stateOf s pen) i) out)
 
-  pub good-box : isGood bbox ≡ true
+  good-box : isGood bbox ≡ true
   good-box = rw (I .box) (I .ongoing .sound .valid .good)
 
   few-words : pen .used ≤ maxWords

@@ -12,10 +12,11 @@ use Rattle.clip.specs.Domain.{isCoord}
 use Rattle.clip.specs.Facts.{Coord}
 use Rattle.clip.specs.Cutting.{clip}
 use Rattle.words.specs.Geometries.{maxWords}
-use Rattle.encoder.specs.declared.MaybePt.the-variants.{At}
+use Rattle.points.specs.declared.MaybePt.the-variants.{At}
 use Rattle.encoder.specs.declared.GeomEncoder.{GeomEncoder}
-use Rattle.encoder.specs.Emitting.{clamped, samePt, between, lastOf, steps}
-use Rattle.encoder.specs.Adding.{movedEnds}
+use Rattle.points.specs.Points.{clamped, samePt, between, lastOf}
+use Rattle.encoder.specs.Emitting.{steps}
+use Rattle.points.specs.Boundary.{movedEnds}
 use Rattle.stretch.specs.declared.Pen.{Pen}
 
 abbrev pub penOf : GeomEncoder → Pen
@@ -41,12 +42,15 @@ still pen = record { pen = pen; at = pen .used; run = [] }
 abbrev pub onward : Pen → Pt → Mark
 onward pen q = record { pen = record { raw = pen .raw; pt0 = pen .pt1; pt1 = q; count = pen .count + 1; used = pen .used + 2 }; at = pen .used; run = steps (pen .pt1) q }
 
--- the last one is taken out before it
-abbrev pub over : Pen → Pt → Mark
-over pen q = record { pen = record { raw = pen .raw; pt0 = pen .pt0; pt1 = q; count = pen .count; used = pen .used }; at = pen .used - 2; run = steps (pen .pt0) q }
+-- the last one taken out, if it is one of a ring and strictly between its neighbours
+abbrev pub taken : Pen → Pen
+taken pen = record { raw = pen .raw; pt0 = pen .pt0; pt1 = pen .pt0; count = pen .count - 1; used = pen .used - 2 }
+
+abbrev pub beforePush : Bool → Pen → Pt → Pen
+beforePush ring pen q = cond (ring && between (pen .pt0) (pen .pt1) q) (taken pen) pen
 
 abbrev pub mark : Bool → Pen → Pt → Mark
-mark ring pen q = cond (samePt (pen .pt1) q) (still pen) (cond (ring && between (pen .pt0) (pen .pt1) q) (over pen q) (onward pen q))
+mark ring pen q = cond (samePt (pen .pt1) q) (still pen) (onward (beforePush ring pen q) q)
 
 abbrev pub laid : Mark → List ℕ → Written Pen (List ℕ)
 laid m out = record { answer = m .pen; memory = lay (m .at) (m .run) out }
@@ -76,7 +80,13 @@ drawnBy b ring pen p out =
     let w : Written Pen (List ℕ) = marks b ring pen (ends b (pen .raw) p ++ (p ∷ [])) out in
     record { answer = withRaw (w .answer) p; memory = w .memory }
 
--- ---- what the code asks of a pen: so many words more fit a list of length n, and the figures agree
+-- ---- what the code asks of a pen: a push fits a list of length n
+pub record Fit (pen : Pen) (n : ℕ) : Type 0 where
+  pub room : pen .used + 2 ≤ n
+  pub few : pen .count ≤ maxWords
+  pub at1 : Coord (pen .pt1)
+
+-- so many words more fit a list of length n, and the figures agree
 pub record Able (more : ℕ) (pen : Pen) (n : ℕ) : Type 0 where
   pub room : pen .used + more ≤ n
   pub few : pen .used + more ≤ maxWords

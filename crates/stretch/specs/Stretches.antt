@@ -12,7 +12,7 @@ use Rattle.words.specs.Geometries.{room}
 use Rattle.encoder.specs.declared.GeomEncoder.{GeomEncoder}
 use Rattle.encoder.specs.States.{valid}
 use Rattle.encoder.specs.Adding.{pointAt, added}
-use Rattle.encoder.specs.Planning.{missing}
+use Rattle.points.specs.Boundary.{missing}
 use Rattle.stretch.specs.declared.Stretch.{Stretch}
 
 -- "a lent list of signed 32-bit numbers, x and y by turns": the point at i

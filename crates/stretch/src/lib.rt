@@ -14,16 +14,24 @@ ghost use Rattle.clip.specs.Cutting.{clip};
 ghost use Rattle.clip.specs.Answer.{areCoords};
 ghost use Rattle.words.specs.Geometries.{maxWords};
 ghost use Rattle.words.specs.Params.{param};
-ghost use Rattle.encoder.specs.Emitting.{clampTo, clamped, samePt, strictly, between, lastOf, steps};
-ghost use Rattle.encoder.specs.Planning.{outside, missing};
+ghost use Rattle.points.specs.Points.{clampTo, clamped, samePt, strictly, between, lastOf};
+ghost use Rattle.encoder.specs.Emitting.{steps};
+ghost use Rattle.points.specs.Boundary.{outside, missing};
 ghost use Rattle.stretch.specs.Stretches.{isStart, run, lastPoint, stretched};
-ghost use Rattle.stretch.specs.Pens.{penOf, stateOf, withRaw, onward, over, laid, marked, markedIf, markedEnds, drawnBy, Able, Steady};
+ghost use Rattle.stretch.specs.Pens.{penOf, stateOf, withRaw, taken, beforePush, onward, laid, marked, markedIf, markedEnds, drawnBy, Fit, Able, Steady};
 use clip::BBox;
 use clip::Clipped;
 use clip::Pt;
 use clip::Seg;
 use encoder::GeomEncoder;
-use encoder::MaybePt;
+use points::MaybePt;
+use points::boundary::clip_raw;
+use points::boundary::is_missing;
+use points::boundary::is_outside;
+use points::is_between;
+use points::is_same;
+use points::last_of;
+use points::make_point;
 use words::geometry::Geometry;
 use words::param::ParamInt;
 
@@ -39,70 +47,6 @@ struct Pen {
     pt1: Pt,
     count: u32,
     used: usize,
-}
-
-// ---- points
-fn clamp(z: i32, lo: i32, hi: i32) -> i32
-    ensures { λ r. ⌜ r ≡ clampTo lo hi z ⌝ }
-{
-    if z < lo {
-        return lo;
-    }
-    if hi < z {
-        return hi;
-    }
-    z
-}
-
-fn make_point(p: Pt, b: BBox) -> Pt
-    ensures { λ r. ⌜ r ≡ clamped b p ⌝ }
-{
-    let x = clamp(p.x, b.x_min, b.x_max);
-    let y = clamp(p.y, b.y_min, b.y_max);
-    Pt { x: x, y: y }
-}
-
-fn is_same(p: Pt, q: Pt) -> bool
-    ensures { λ r. ⌜ r ≡ samePt p q ⌝ }
-{
-    let px = p.x;
-    let py = p.y;
-    let qx = q.x;
-    let qy = q.y;
-    (px == qx) & (py == qy)
-}
-
-fn is_strictly(a: i32, m: i32, b: i32) -> bool
-    ensures { λ r. ⌜ r ≡ strictly a m b ⌝ }
-{
-    ((a < m) & (m < b)) | ((b < m) & (m < a))
-}
-
-fn is_between(a: Pt, m: Pt, b: Pt) -> bool
-    ensures { λ r. ⌜ r ≡ between a m b ⌝ }
-{
-    let ax = a.x;
-    let ay = a.y;
-    let mx = m.x;
-    let my = m.y;
-    let bx = b.x;
-    let by = b.y;
-    let up = is_strictly(ay, my, by);
-    let along = is_strictly(ax, mx, bx);
-    ((ax == mx) & (mx == bx) & up) | ((ay == my) & (my == by) & along)
-}
-
-// Whether a point lies strictly outside an edge.
-fn is_outside(p: Pt, b: BBox) -> bool
-    ensures { λ r. ⌜ r ≡ outside b p ⌝ }
-{
-    let x = p.x;
-    let y = p.y;
-    let left = b.x_min;
-    let right = b.x_max;
-    let bottom = b.y_min;
-    let top = b.y_max;
-    (x < left) | (right < x) | (y < bottom) | (top < y)
 }
 
 // ---- writing
@@ -142,9 +86,49 @@ fn write_steps(at: usize, from: Pt, to: Pt, words: &mut [u32])
 }
 
 // ---- one emission
-// The point is laid behind the last one.
-fn emit_onward(pen: Pen, q: Pt, words: &mut [u32]) -> Pen
-    requires { ⌜ Able 2 pen (length (now words)) ⌝ }
+// Whether the last emitted point is taken out before b; only a ring asks.
+fn is_taken_out(ring: bool, a: Pt, m: Pt, b: Pt) -> bool
+    ensures { λ r. ⌜ r ≡ (ring && between a m b) ⌝ }
+{
+    if !ring {
+        return false;
+    }
+    is_between(a, m, b)
+}
+
+fn pop_point(pen: Pen) -> Pen
+    requires { ⌜ 2 ≤ pen .count ⌝ }
+    requires { ⌜ 2 ≤ pen .used ⌝ }
+    ensures { λ r. ⌜ r ≡ taken pen ⌝ }
+{
+    let raw = pen.raw;
+    let pt0 = pen.pt0;
+    Pen {
+        raw: raw,
+        pt0: pt0,
+        pt1: pt0,
+        count: pen.count - 1,
+        used: pen.used - 2,
+    }
+}
+
+// The pen that q is pushed from.
+fn before_push(ring: bool, pen: Pen, q: Pt) -> Pen
+    requires { ⌜ 2 ≤ pen .count ⌝ }
+    requires { ⌜ 2 ≤ pen .used ⌝ }
+    ensures { λ r. ⌜ r ≡ beforePush ring pen q ⌝ }
+{
+    let pt0 = pen.pt0;
+    let pt1 = pen.pt1;
+    if is_taken_out(ring, pt0, pt1, q) {
+        return pop_point(pen);
+    }
+    pen
+}
+
+// The two steps from the last point.
+fn push_point(pen: Pen, q: Pt, words: &mut [u32]) -> Pen
+    requires { ⌜ Fit pen (length (now words)) ⌝ }
     requires { ⌜ Coord q ⌝ }
     ensures { λ r. ⌜ Gives (laid (onward pen q) (now (words .entry))) r (now (words .exit)) ⌝ }
 {
@@ -162,66 +146,21 @@ fn emit_onward(pen: Pen, q: Pt, words: &mut [u32]) -> Pen
     }
 }
 
-// The last point is taken out: the new one is laid over it, from the one before.
-fn emit_over(pen: Pen, q: Pt, words: &mut [u32]) -> Pen
-    requires { ⌜ Able 2 pen (length (now words)) ⌝ }
-    requires { ⌜ Coord q ⌝ }
-    ensures { λ r. ⌜ Gives (laid (over pen q) (now (words .entry))) r (now (words .exit)) ⌝ }
-{
-    let raw = pen.raw;
-    let pt0 = pen.pt0;
-    let used = pen.used;
-    let count = pen.count;
-    write_steps(used - 2, pt0, q, words);
-    Pen {
-        raw: raw,
-        pt0: pt0,
-        pt1: q,
-        count: count,
-        used: used,
-    }
-}
-
-// Whether the last emitted point is taken out before b; only a ring asks.
-fn is_taken_out(ring: bool, a: Pt, m: Pt, b: Pt) -> bool
-    ensures { λ r. ⌜ r ≡ (ring && between a m b) ⌝ }
-{
-    if !ring {
-        return false;
-    }
-    is_between(a, m, b)
-}
-
 // A point of the box.
 fn emit(ring: bool, pen: Pen, q: Pt, words: &mut [u32]) -> Pen
     requires { ⌜ Able 2 pen (length (now words)) ⌝ }
     requires { ⌜ Coord q ⌝ }
     ensures { λ r. ⌜ Gives (marked ring pen q (now (words .entry))) r (now (words .exit)) ⌝ }
 {
-    let pt0 = pen.pt0;
     let pt1 = pen.pt1;
     if is_same(pt1, q) {
         return pen;
     }
-    if is_taken_out(ring, pt0, pt1, q) {
-        return emit_over(pen, q, words);
-    }
-    emit_onward(pen, q, words)
+    let base = before_push(ring, pen, q);
+    push_point(base, q, words)
 }
 
 // ---- a point and what it brings
-// The raw segment cut at the box. A good box and two coordinates are never refused.
-fn clip_raw(raw: Seg, bbox: BBox) -> Seg
-    requires { ⌜ isGood bbox ≡ true ⌝ }
-    requires { ⌜ areCoords raw ≡ true ⌝ }
-    ensures { λ r. ⌜ r ≡ clip bbox raw .seg ⌝ }
-{
-    match clip::clip(raw, bbox) {
-        Clipped::Done(c) => c.seg,
-        Clipped::Refused(_) => raw,
-    }
-}
-
 // An end of the segment, if the clip moved it. A moved end lies on an edge of the box, so it is not clamped.
 fn emit_moved(ring: bool, pen: Pen, raw: Pt, end: Pt, words: &mut [u32]) -> Pen
     requires { ⌜ Able 2 pen (length (now words)) ⌝ }
@@ -291,25 +230,6 @@ fn draw(b: BBox, ring: bool, pen: Pen, p: Pt, crossing: bool, words: &mut [u32])
     }
     let last = emit(ring, pen, p, words);
     set_raw(last, p)
-}
-
-// ---- the state
-fn is_missing(m: MaybePt) -> bool
-    ensures { λ r. ⌜ r ≡ missing m ⌝ }
-{
-    match m {
-        MaybePt::Nowhere => true,
-        MaybePt::At(_) => false,
-    }
-}
-
-fn last_of(m: MaybePt) -> Pt
-    ensures { λ r. ⌜ r ≡ lastOf m ⌝ }
-{
-    match m {
-        MaybePt::Nowhere => Pt { x: 0, y: 0 },
-        MaybePt::At(p) => p,
-    }
 }
 
 // Whether a stretch starts from this state; what is cheap is asked first.

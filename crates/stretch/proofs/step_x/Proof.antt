@@ -2,7 +2,7 @@
 use mir.Syntax.{w32}
 use mir.Val.{SFits}
 use mir.Facts.{toZ-ofZ}
-use Rattle.encoder.proofs.Points.{step-fits, step-is}
+use Rattle.encoder.proofs.Differences.{step-fits, step-is}
 use borrow.Author.Needs.{needs}
 use Rattle.stretch.proofs.step_x.Statement.{statement}
 use Rattle.stretch.proofs.step_x.Tie as tie
