@@ -1,19 +1,10 @@
 -- A clip's answer as five numbers: the refusal's number, and the ends of the clipped segment. A refused clip has no segment, and says 0 for each.
 use Prim.Native.Nat.{ℕ}
 use mathlib.Core.List.{List, [], _∷_}
-use lib.IntN.{ℤ, pos}
+use lib.IntN.{pos}
 use Rattle.refusal.specs.Said.{Said}
-use Rattle.clip.specs.declared.Seg.{Seg}
-use Rattle.clip.specs.declared.BBox.{BBox}
 use Rattle.clip.specs.declared.ClippedSeg.{ClippedSeg}
 use Rattle.brinepost.specs.declared.segment.BpClipped.{BpClipped}
-
--- the order of C's parameters
-abbrev pub segAt : ℤ → ℤ → ℤ → ℤ → Seg
-segAt x0 y0 x1 y1 = record { p0 = record { x = x0; y = y0 }; p1 = record { x = x1; y = y1 } }
-
-abbrev pub boxAt : ℤ → ℤ → ℤ → ℤ → BBox
-boxAt left right bottom top = record { «x_min» = left; «x_max» = right; «y_min» = bottom; «y_max» = top }
 
 abbrev pub ends : ℕ → List ClippedSeg → BpClipped
 ends n [] = record { refusal = n; x0 = pos 0; y0 = pos 0; x1 = pos 0; y1 = pos 0 }

@@ -2,7 +2,7 @@
 ghost use mathlib.Core.Path.{_≡_};
 ghost use Rattle.promise.specs.Answers.{Gives};
 ghost use Rattle.encoder.specs.Answers.{saidStarted, started, saidDrawn};
-ghost use Rattle.brinepost.specs.Segments.{boxAt};
+ghost use Rattle.clip.specs.Numbers.{boxAt};
 ghost use Rattle.brinepost.specs.Drawing.{flatStarted, flatDrawn, flagged, addedFrom, completedFrom};
 use crate::state::BpEncoder;
 use clip::BBox;

@@ -3,7 +3,8 @@ ghost use mathlib.Core.Path.{_≡_};
 ghost use mathlib.Core.List.{[], _∷_};
 ghost use Rattle.refusal.specs.Refusals.{numberOf};
 ghost use Rattle.clip.specs.Answer.{clipped};
-ghost use Rattle.brinepost.specs.Segments.{segAt, boxAt, ends, flatClip};
+ghost use Rattle.clip.specs.Numbers.{segAt, boxAt};
+ghost use Rattle.brinepost.specs.Segments.{ends, flatClip};
 use clip::Clipped;
 use refusal::Refusal;
 

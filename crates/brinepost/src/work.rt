@@ -5,7 +5,7 @@ ghost use lib.ListN.{length};
 ghost use Rattle.promise.specs.Answers.{Gives};
 ghost use Rattle.whole_job.specs.Jobs.{encodedJob, saidEncoded};
 ghost use Rattle.telling.specs.Telling.{told};
-ghost use Rattle.brinepost.specs.Segments.{boxAt};
+ghost use Rattle.clip.specs.Numbers.{boxAt};
 ghost use Rattle.brinepost.specs.Works.{flatJob};
 use clip::BBox;
 use whole_job::Encoded;

@@ -1,5 +1,5 @@
 -- What the encoder said, with the edges as they were given: what the machine reads back from their bits is the edges.
-use Rattle.brinepost.specs.Segments.{boxAt}
+use Rattle.clip.specs.Numbers.{boxAt}
 use mir.Facts.{toZ-ofZ}
 use Rattle.brinepost.proofs.Tellings.{start-told}
 use borrow.Author.Needs.{needs}

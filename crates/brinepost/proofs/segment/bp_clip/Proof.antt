@@ -7,7 +7,7 @@ use Rattle.clip.specs.declared.BBox.{BBox}
 use Rattle.clip.specs.declared.ClippedSeg.{ClippedSeg}
 use Rattle.clip.specs.Domain.{isGood}
 use Rattle.clip.specs.Answer.{saidClipped, clipped}
-use Rattle.brinepost.specs.Segments.{segAt, boxAt}
+use Rattle.clip.specs.Numbers.{segAt, boxAt}
 use Rattle.brinepost.proofs.Tellings.{clip-box, clip-kept, clip-done, clip-not}
 use borrow.Author.Needs.{needs}
 use Rattle.brinepost.proofs.segment.bp_clip.Statement.{statement}
