@@ -115,7 +115,8 @@ mod c {
     }
 }
 
-/// A segment as x0, y0, x1, y1; box edges as x_min, x_max, y_min, y_max, here and below.
+/// A segment as x0, y0, x1, y1; box edges as x_min, x_max, y_min, y_max, here and below. Inlined, as a C compiler would call it.
+#[inline]
 pub fn clip(segment: [i32; 4], edges: [i32; 4]) -> Clipped {
     let ([x0, y0, x1, y1], [x_min, x_max, y_min, y_max]) = (segment, edges);
     unsafe { c::bp_clip(x0, y0, x1, y1, x_min, x_max, y_min, y_max) }
