@@ -1,6 +1,6 @@
 -- An index that is built is the one that its entries, pushed one after the other as the layer grew, left: word by word, so a caller can say the whole list.
 --     keys-again keys-more values-again values-more
-use Prim.Native.Nat.{ℕ, zero, suc, _+_, _*_, _≤_, _<_}
+use Prim.Native.Nat.{ℕ, zero, suc, _+_, _*_, _<_}
 use mathlib.Core.Path.{_≡_, refl, sym, ap, _∙_}
 use mathlib.Core.Bool.{true}
 use mathlib.Core.List.{List, [], _∷_, _++_}

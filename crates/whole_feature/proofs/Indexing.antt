@@ -1,11 +1,11 @@
 -- The indexes while tags are put: what is looked up in one that is right is what a scan finds (`key-looked`, `value-looked`), and with what is new pushed to it, it is
 -- right again (`keys-on`, `values-on`).
-use Prim.Native.Nat.{ℕ, _+_, _*_, _/_, _≤_}
+use Prim.Native.Nat.{ℕ, _+_, _≤_}
 use mathlib.Core.Path.{_≡_, refl, sym, ap, subst, _∙_}
 use mathlib.Core.Bool.{Bool, true, false, cond, _&&_}
-use mathlib.Core.List.{List, [], _∷_, _++_, append-nil, append-assoc}
+use mathlib.Core.List.{List, [], _++_, append-nil, append-assoc}
 use native.Mathlib.Omega.{arith}
-use lib.ListN.{length, take, drop, replicate, length-append, length-replicate}
+use lib.ListN.{length, take, drop, length-append, length-replicate}
 use lib.Seq.{take-at, drop-at}
 use lib.Dec.{ltb, leb, eqb}
 use borrow.Author.Tests.{leb-true}
@@ -24,7 +24,7 @@ use Rattle.layer.specs.declared.Figures.{Figures}
 use Rattle.layer.specs.Held.{maxKeys, maxValues, Seen}
 use Rattle.layer.specs.State.{valid}
 use Rattle.layer.specs.Calls.{Tag, moreOf, putOf, keyWords, storedAs, valueWords}
-use Rattle.tagging.specs.Indexed.{keyFound, valueFound, pushedNew, noted, keyNoted, valueNoted}
+use Rattle.tagging.specs.Indexed.{keyFound, valueFound, pushedNew, noted}
 use Rattle.layer.proofs.Fitting.{both, within}
 use Rattle.layer.proofs.Entries.{length-put}
 use Rattle.layer.proofs.Standing.{parts}
