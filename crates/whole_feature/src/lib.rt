@@ -230,7 +230,7 @@ fn mark(
 }
 
 // A whole feature, where it is known whether the layer breaks no rule of STATE: whoever adds many asks once.
-pub(crate) fn add_known(
+fn add_known(
     s: Layer,
     stands: bool,
     f: Head,
