@@ -1,0 +1,330 @@
+-- Crates `points`, `commands` and `encoder`: wrong points, commands and states, wrong emissions and completions.
+use Prim.Native.Nat.{ℕ, _+_, _/_}
+use mathlib.Core.Path.{_≡_, ap}
+use mathlib.Core.Bool.{true, false, cond, _&&_, _||_}
+use mathlib.Core.List.{List, [], _∷_, _++_}
+use lib.Dec.{leb, ltb, eqb}
+use lib.IntN.{ℤ, pos, negsuc, _-ℤ_}
+use lib.ListN.{length, replicate}
+use lib.Signed.{ltZ, leZ}
+use native.Mathlib.Omega.{arith}
+use Rattle.promise.specs.Answers.{Written, kept}
+use Rattle.refusal.specs.declared.Refusal.the-variants.{Kind, Box, State, Coord, Room}
+use Rattle.refusal.specs.Said.{Said, accepted, refused}
+use Rattle.words.specs.Commands.{commandWord}
+use Rattle.words.specs.Geometries.{isKind, room}
+use Rattle.words.specs.Params.{param}
+use Rattle.clip.specs.declared.Pt.{Pt}
+use Rattle.clip.specs.declared.Seg.{Seg}
+use Rattle.clip.specs.declared.BBox.{BBox}
+use Rattle.clip.specs.Domain.{isCoord, isGood}
+use Rattle.clip.specs.Cutting.{crossAtX, cuts, overlap, clip}
+use Rattle.clip.specs.Numbers.{segAt, boxAt}
+use Rattle.points.specs.declared.MaybePt.{MaybePt}
+use Rattle.points.specs.declared.MaybePt.the-variants.{Nowhere, At}
+use Rattle.points.specs.Points.{inLimit, inLimits, clampTo, clamped, eqZ, samePt, isLast, strictly, between, outBefore, lastBetween, lastOf}
+use Rattle.points.specs.declared.boundary.Ends.{Ends}
+use Rattle.points.specs.Boundary.{moved, movedEnds, cutOf, outside, missing, alone}
+use Rattle.commands.specs.Pushed.{moveTo, lineTo, closePath, command, countWord, closeWord}
+use Rattle.commands.specs.Figures.{figuresFit}
+use Rattle.commands.specs.Ends.{layIf, layEnd}
+use Rattle.encoder.specs.declared.GeomEncoder.{GeomEncoder}
+use Rattle.encoder.specs.States.{fresh, valid}
+use Rattle.encoder.specs.Answers.{done, turned, fitting, started}
+use Rattle.encoder.specs.Emitting.{Emission, takenOut, popped, steps, placeOf, pushed, emittedAt, emission}
+use Rattle.encoder.specs.Adding.{boundary, drawn, pointAt, added}
+use Rattle.encoder.specs.Completing.{counting, closing, cleared, finished, closed, completed}
+use Rattle.ruled_out.specs.Inputs.{bit, size, item, firstY, firstUsed, isThere, ten, hundred, flat, state, point, afterOne, afterTwo}
+
+-- ---- points
+-- the first step starts at (0, 1)
+pub start-elsewhere : lastOf Nowhere ≡ record { x = pos 0; y = pos 1 } → ⊥
+start-elsewhere h = let e : _≡_ {A = ℕ} 0 1 = ap (λ (p : Pt). size (p .y)) h in omega arith
+
+-- the first step starts at (1, 0)
+pub starts-at-one : lastOf Nowhere ≡ record { x = pos 1; y = pos 0 } → ⊥
+starts-at-one h = let e : _≡_ {A = ℕ} 0 1 = ap (λ (p : Pt). size (p .x)) h in omega arith
+
+-- x is clamped to the bottom and the top
+pub clamped-crosswise : ((b : BBox) (p : Pt)
+    → clamped b p ≡ record { x = clampTo (b .«y_min») (b .«y_max») (p .x); y = clampTo (b .«y_min») (b .«y_max») (p .y) }) → ⊥
+clamped-crosswise h =
+    let e : _≡_ {A = ℕ} 3 5 = ap (λ (p : Pt). size (p .x)) (h (boxAt (pos 0) (pos 3) (pos 0) (pos 10)) (pointAt (pos 5) (pos 5))) in omega arith
+
+-- only the lower edges clamp
+pub clamped-low : ((lo hi z : ℤ) → clampTo lo hi z ≡ clampTo lo z z) → ⊥
+clamped-low h = let e : _≡_ {A = ℕ} 10 12 = ap size (h (pos 0) (pos 10) (pos 12)) in omega arith
+
+-- points of one x are the same
+pub same-in-one : ((p q : Pt) → samePt p q ≡ eqZ (p .x) (q .x)) → ⊥
+same-in-one h = let e : _≡_ {A = ℕ} 0 1 = ap bit (h (pointAt (pos 1) (pos 1)) (pointAt (pos 1) (pos 2))) in omega arith
+
+-- points that share x or y are the same
+pub same-in-either : ((p q : Pt) → samePt p q ≡ (eqZ (p .x) (q .x) || eqZ (p .y) (q .y))) → ⊥
+same-in-either h = let e : _≡_ {A = ℕ} 0 1 = ap bit (h (pointAt (pos 1) (pos 1)) (pointAt (pos 2) (pos 1))) in omega arith
+
+-- the point before the first is the same as any
+pub nowhere-is-last : ((p : Pt) → isLast Nowhere p ≡ true) → ⊥
+nowhere-is-last h = let e : _≡_ {A = ℕ} 0 1 = ap bit (h (pointAt (pos 1) (pos 1))) in omega arith
+
+-- every point is the last
+pub equal-to-itself : ((q p : Pt) → isLast (At q) p ≡ samePt p p) → ⊥
+equal-to-itself h = let e : _≡_ {A = ℕ} 0 1 = ap bit (h (pointAt (pos 1) (pos 1)) (pointAt (pos 2) (pos 2))) in omega arith
+
+-- a point that turns back on its line is taken out
+pub taken-out-turning : ((a m b : Pt) → between a m b ≡ ((eqZ (a .x) (m .x) && eqZ (m .x) (b .x)) || (eqZ (a .y) (m .y) && eqZ (m .y) (b .y)))) → ⊥
+taken-out-turning h = let e : _≡_ {A = ℕ} 0 1 = ap bit (h (pointAt (pos 0) (pos 0)) (pointAt (pos 4) (pos 0)) (pointAt (pos 2) (pos 0))) in omega arith
+
+-- only points of a horizontal are taken out
+pub taken-out-level : ((a m b : Pt) → between a m b ≡ (eqZ (a .y) (m .y) && eqZ (m .y) (b .y) && strictly (a .x) (m .x) (b .x))) → ⊥
+taken-out-level h = let e : _≡_ {A = ℕ} 1 0 = ap bit (h (pointAt (pos 0) (pos 0)) (pointAt (pos 0) (pos 4)) (pointAt (pos 0) (pos 9))) in omega arith
+
+-- a point is taken out at a count of 1
+pub taken-out-early : ((kind count : ℕ) (a m : MaybePt) (p : Pt) → outBefore kind count a m p ≡ (eqb kind 3 && leb 1 count && lastBetween a m p)) → ⊥
+taken-out-early h =
+    let e : _≡_ {A = ℕ} 0 1 = ap bit (h 3 1 (point (pos 0) (pos 0)) (point (pos 4) (pos 0)) (pointAt (pos 9) (pos 0))) in omega arith
+
+-- a line's points are taken out too
+pub taken-out-of-lines : ((kind count : ℕ) (a m : MaybePt) (p : Pt) → outBefore kind count a m p ≡ (leb 2 count && lastBetween a m p)) → ⊥
+taken-out-of-lines h =
+    let e : _≡_ {A = ℕ} 0 1 = ap bit (h 2 2 (point (pos 0) (pos 0)) (point (pos 4) (pos 0)) (pointAt (pos 9) (pos 0))) in omega arith
+
+-- the first moved end is left out
+pub first-end-forgotten : ((raw cut : Seg) → movedEnds raw cut ≡ moved (raw .p1) (cut .p1)) → ⊥
+first-end-forgotten h =
+    let e : _≡_ {A = ℕ} 1 0 = ap length (h (segAt (negsuc 4) (pos 3) (pos 5) (pos 5)) (segAt (pos 0) (pos 4) (pos 5) (pos 5))) in omega arith
+
+-- the ends crossed: the second moved end first
+pub ends-crossed : ((raw cut : Seg) → movedEnds raw cut ≡ moved (raw .p1) (cut .p1) ++ moved (raw .p0) (cut .p0)) → ⊥
+ends-crossed h =
+    let e : _≡_ {A = ℕ} 4 7 = ap firstY (h (segAt (negsuc 4) (pos 3) (pos 15) (pos 8)) (segAt (pos 0) (pos 4) (pos 10) (pos 7))) in omega arith
+
+-- a point above the top is not outside
+pub above-the-top : ((b : BBox) (p : Pt) → outside b p ≡ (ltZ (p .x) (b .«x_min») || ltZ (b .«x_max») (p .x) || ltZ (p .y) (b .«y_min»))) → ⊥
+above-the-top h = let e : _≡_ {A = ℕ} 1 0 = ap bit (h ten (pointAt (pos 5) (pos 11))) in omega arith
+
+-- a point on an edge is outside
+pub edge-outside : ((b : BBox) (p : Pt)
+    → outside b p ≡ (leZ (p .x) (b .«x_min») || leZ (b .«x_max») (p .x) || leZ (p .y) (b .«y_min») || leZ (b .«y_max») (p .y))) → ⊥
+edge-outside h = let e : _≡_ {A = ℕ} 0 1 = ap bit (h ten (pointAt (pos 0) (pos 5))) in omega arith
+
+-- the raw segment is not cut
+pub raw-not-cut : ((b : BBox) (raw : Seg) → cutOf b raw ≡ raw) → ⊥
+unfolding isGood isCoord clip overlap cuts crossAtX
+raw-not-cut h = let e : _≡_ {A = ℕ} 10 15 = ap (λ (s : Seg). size (s .p1 .x)) (h ten (segAt (pos 5) (pos 5) (pos 15) (pos 5))) in omega arith
+
+-- the raw segment is turned
+pub segment-turned : ((b : BBox) (raw : Seg) → cutOf b raw ≡ cutOf b (record { p0 = raw .p1; p1 = raw .p0 })) → ⊥
+unfolding isGood isCoord clip overlap cuts crossAtX
+segment-turned h = let e : _≡_ {A = ℕ} 10 5 = ap (λ (s : Seg). size (s .p1 .x)) (h ten (segAt (pos 5) (pos 5) (pos 15) (pos 5))) in omega arith
+
+-- no point is some point
+pub none-is-some : missing Nowhere ≡ false → ⊥
+none-is-some h = let e : _≡_ {A = ℕ} 1 0 = ap bit h in omega arith
+
+-- the second end is forgotten
+pub second-forgotten : ((ends : Ends) → alone ends ≡ missing (ends .first)) → ⊥
+second-forgotten h = let e : _≡_ {A = ℕ} 0 1 = ap bit (h (record { first = Nowhere; second = point (pos 1) (pos 1) })) in omega arith
+
+-- ---- commands
+-- a LineTo before each point of a line
+pub line-to-each : ((kind count : ℕ)
+    → command kind count ≡ cond (eqb count 0) (commandWord moveTo 1 ∷ []) (cond (eqb kind 1) [] (commandWord lineTo 1 ∷ []))) → ⊥
+line-to-each h = let e : _≡_ {A = ℕ} 0 1 = ap length (h 2 2) in omega arith
+
+-- the second point moves
+pub second-moves : ((kind count : ℕ) → command kind count ≡ cond (leb count 1) (commandWord moveTo 1 ∷ []) []) → ⊥
+second-moves h = let e : _≡_ {A = ℕ} 10 9 = ap (item 0) (h 2 1) in omega arith
+
+-- ClosePath goes over the last command
+pub closed-elsewhere : ((kind count place used : ℕ) (l : List ℕ)
+    → layEnd kind count place used l ≡ layIf place (closeWord kind count) (layIf place (countWord kind count) l)) → ⊥
+unfolding layIf
+closed-elsewhere h = let e : _≡_ {A = ℕ} 15 0 = ap (item 6) (h 3 2 3 6 (replicate 8 0)) in omega arith
+
+-- the count goes over the first word
+pub counted-at-the-front : ((kind count place used : ℕ) (l : List ℕ)
+    → layEnd kind count place used l ≡ layIf used (closeWord kind count) (layIf 0 (countWord kind count) l)) → ⊥
+unfolding layIf
+counted-at-the-front h = let e : _≡_ {A = ℕ} 10 0 = ap (item 3) (h 3 2 3 6 (replicate 8 0)) in omega arith
+
+-- ---- GeomEncoder::new
+-- a word is used at the start
+pub fresh-used : ((kind : ℕ) (b : BBox) → started kind b ≡ cond (isKind kind) (cond (isGood b)
+    (accepted (record { kind = kind; bbox = b; «xy_end» = Nowhere; pt0 = Nowhere; pt1 = Nowhere; «cmd_offset» = 0; count = 0; used = 1 } ∷ []))
+    (refused Box [])) (refused Kind [])) → ⊥
+unfolding isGood
+fresh-used h = let e : _≡_ {A = ℕ} 0 1 = ap (λ (a : Said (List GeomEncoder)). firstUsed (a .values)) (h 1 ten) in omega arith
+
+-- BOX is asked before KIND
+pub box-before-kind : ((kind : ℕ) (b : BBox)
+    → started kind b ≡ cond (isGood b) (cond (isKind kind) (accepted (fresh kind b ∷ [])) (refused Kind [])) (refused Box [])) → ⊥
+unfolding isGood
+box-before-kind h = let e : _≡_ {A = ℕ} 2 3 = ap (λ (a : Said (List GeomEncoder)). a .number) (h 0 flat) in omega arith
+
+-- a bad kind is BOX
+pub kind-as-box : ((kind : ℕ) (b : BBox)
+    → started kind b ≡ cond (isKind kind) (cond (isGood b) (accepted (fresh kind b ∷ [])) (refused Box [])) (refused Box [])) → ⊥
+unfolding isGood
+kind-as-box h = let e : _≡_ {A = ℕ} 2 3 = ap (λ (a : Said (List GeomEncoder)). a .number) (h 0 ten) in omega arith
+
+-- ---- is_valid
+-- the rule of the count left out
+pub count-rule-left-out : ((used count place n : ℕ) → figuresFit used count place n ≡ (leb used (room n) && (eqb count 0 || ltb place used))) → ⊥
+count-rule-left-out h = let e : _≡_ {A = ℕ} 0 1 = ap bit (h 3 3 0 8) in omega arith
+
+-- the rule of the last command's place left out
+pub place-rule-left-out : ((used count place n : ℕ) → figuresFit used count place n ≡ (leb used (room n) && leb count (used / 2 + 1))) → ⊥
+place-rule-left-out h = let e : _≡_ {A = ℕ} 0 1 = ap bit (h 3 1 3 8) in omega arith
+
+-- the stored points are not asked
+pub stored-points-unasked : ((s : GeomEncoder) (n : ℕ)
+    → valid s n ≡ (figuresFit (s .used) (s .count) (s .«cmd_offset») n && isKind (s .kind) && isGood (s .bbox))) → ⊥
+unfolding valid isGood isCoord
+stored-points-unasked h = let e : _≡_ {A = ℕ} 0 1 = ap bit (h (state 2 Nowhere Nowhere (point (pos 1073741824) (pos 0)) 0 1 3) 8) in omega arith
+
+-- a missing point is refused
+pub missing-refused : inLimit Nowhere ≡ false → ⊥
+missing-refused h = let e : _≡_ {A = ℕ} 1 0 = ap bit h in omega arith
+
+-- the third stored point is not asked
+pub third-not-asked : ((l m n : MaybePt) → inLimits l m n ≡ (inLimit l && inLimit m)) → ⊥
+unfolding isCoord
+third-not-asked h = let e : _≡_ {A = ℕ} 0 1 = ap bit (h Nowhere Nowhere (point (pos 1073741824) (pos 0))) in omega arith
+
+-- ---- GeomEncoder::add_point: what one point gives
+-- the steps along x are all 0
+pub nought-steps : ((p q : Pt) → steps p q ≡ param (p .x -ℤ p .x) ∷ param (q .y -ℤ p .y) ∷ []) → ⊥
+unfolding param
+nought-steps h = let e : _≡_ {A = ℕ} 10 0 = ap (item 0) (h (pointAt (pos 0) (pos 0)) (pointAt (pos 5) (pos 7))) in omega arith
+
+-- a point outside the box is not clamped
+pub not-clamped : ((s : GeomEncoder) (p : Pt) → emission s p ≡ emittedAt s p) → ⊥
+unfolding emission param
+not-clamped h = let e : _≡_ {A = ℕ} 0 9 = ap (λ (m : Emission). item 1 (m .run)) (h (fresh 1 hundred) (pointAt (negsuc 4) (pos 3))) in omega arith
+
+-- a point equal to the last one is written again
+pub repeated-point-written : ((s : GeomEncoder) (p : Pt) → emittedAt s p ≡ pushed (command (s .kind) (s .count)) (cond (takenOut s p) (popped s) s) p) → ⊥
+unfolding param
+repeated-point-written h = let e : _≡_ {A = ℕ} 0 3 = ap (λ (m : Emission). length (m .run)) (h (afterOne 2) (pointAt (pos 5) (pos 7))) in omega arith
+
+-- no boundary points
+pub boundary-left-out : ((s : GeomEncoder) (p : Pt) → boundary s p ≡ []) → ⊥
+unfolding boundary clip overlap cuts crossAtX
+boundary-left-out h =
+    let e : _≡_ {A = ℕ} 1 0 = ap length (h (state 2 (point (negsuc 4) (pos 3)) Nowhere (point (pos 0) (pos 3)) 0 1 3) (pointAt (pos 15) (pos 8))) in omega arith
+
+-- ---- GeomEncoder::add_point: the call
+-- the state without its last point
+abbrev forgetting : GeomEncoder → GeomEncoder
+forgetting s =
+    record {
+      kind = s .kind;
+      bbox = s .bbox;
+      «xy_end» = s .«xy_end»;
+      pt0 = s .pt0;
+      pt1 = Nowhere;
+      «cmd_offset» = s .«cmd_offset»;
+      count = s .count;
+      used = s .used;
+    }
+
+-- each step is taken from (0, 0)
+pub steps-from-the-origin : ((s : GeomEncoder) (p : Pt) (out : List ℕ) → added s p out .memory ≡ added (forgetting s) p out .memory) → ⊥
+unfolding added valid isGood isCoord boundary emission param
+steps-from-the-origin h = let e : _≡_ {A = ℕ} 3 6 = ap (item 3) (h (afterOne 1) (pointAt (pos 3) (pos 2)) (replicate 8 0)) in omega arith
+
+-- x and y exchanged
+pub x-and-y-exchanged : ((s : GeomEncoder) (x y : ℤ) (out : List ℕ) → added s (pointAt x y) out ≡ added s (pointAt y x) out) → ⊥
+unfolding added valid isGood isCoord boundary emission param
+x-and-y-exchanged h = let e : _≡_ {A = ℕ} 10 14 = ap (λ w. item 1 (w .memory)) (h (fresh 1 hundred) (pos 5) (pos 7) (replicate 8 0)) in omega arith
+
+-- STATE is not asked
+pub state-unasked : ((s : GeomEncoder) (p : Pt) (out : List ℕ)
+    → added s p out ≡ cond (isCoord p) (fitting s out (drawn s p out)) (kept (turned Coord s) out)) → ⊥
+unfolding added valid isGood isCoord boundary emission param
+state-unasked h =
+    let e : _≡_ {A = ℕ} 4 0 = ap (λ w. w .answer .number) (h (state 1 Nowhere Nowhere Nowhere 3 1 3) (pointAt (pos 5) (pos 7)) (replicate 8 0)) in omega arith
+
+-- a refused call counts the words used
+pub refused-counts : ((s : GeomEncoder) (p : Pt) (out : List ℕ) → added s p out .answer .values .count ≡ added s p out .answer .values .state .used) → ⊥
+unfolding added valid isGood isCoord boundary emission param
+refused-counts h = let e : _≡_ {A = ℕ} 0 3 = h (afterOne 1) (pointAt (pos 1073741824) (pos 7)) (replicate 8 0) in omega arith
+
+-- the given state comes back
+pub given-state-returned : ((s : GeomEncoder) (p : Pt) (out : List ℕ) → added s p out .answer .values .state ≡ s) → ⊥
+unfolding added valid isGood isCoord boundary emission param
+given-state-returned h =
+    let e : _≡_ {A = ℕ} 1 0 = ap (λ (s : GeomEncoder). s .count) (h (fresh 1 hundred) (pointAt (pos 5) (pos 7)) (replicate 8 0)) in omega arith
+
+-- a refused call advances the state
+pub refused-state-advanced : ((s : GeomEncoder) (p : Pt) (out : List ℕ) → added s p out .answer .values .state ≡ drawn s p out .answer) → ⊥
+unfolding added valid isGood isCoord boundary emission param
+refused-state-advanced h = let e : _≡_ {A = ℕ} 0 1 = ap (λ (s : GeomEncoder). s .count) (h (fresh 1 hundred) (pointAt (pos 5) (pos 7)) []) in omega arith
+
+-- ROOM that writes, of any call
+pub room-writes : ((s : GeomEncoder) (out : List ℕ) (w : Written GeomEncoder (List ℕ)) → fitting s out w
+    ≡ cond (leb (w .answer .used) (room (length out))) (kept (done (w .answer)) (w .memory)) (kept (turned Room s) (w .memory))) → ⊥
+room-writes h = let e : _≡_ {A = ℕ} 0 9 = ap (λ w. item 0 (w .memory)) (h (fresh 1 hundred) (0 ∷ []) (kept (afterOne 1) (9 ∷ []))) in omega arith
+
+-- ---- GeomEncoder::complete_geom
+-- LineTo's count is the count, not one less
+pub line-count : ((s : GeomEncoder) → counting s ≡ cond (eqb (s .kind) 1) (commandWord moveTo (s .count) ∷ [])
+    (cond (ltb 1 (s .count)) (commandWord lineTo (s .count) ∷ []) [])) → ⊥
+line-count h = let e : _≡_ {A = ℕ} 10 18 = ap (item 0) (h (afterTwo 2)) in omega arith
+
+-- LineTo's count is not set
+pub count-not-set : ((s : GeomEncoder) → counting s ≡ []) → ⊥
+count-not-set h = let e : _≡_ {A = ℕ} 1 0 = ap length (h (afterTwo 2)) in omega arith
+
+-- ClosePath is 23
+pub close-path-23 : ((s : GeomEncoder) → closing s ≡ cond (eqb (s .kind) 3 && ltb 1 (s .count)) (commandWord closePath 2 ∷ []) []) → ⊥
+close-path-23 h = let e : _≡_ {A = ℕ} 15 23 = ap (item 0) (h (afterTwo 3)) in omega arith
+
+-- a line is closed too
+pub line-closed : ((s : GeomEncoder) → closing s ≡ cond (ltb 1 (s .count)) (commandWord closePath 1 ∷ []) []) → ⊥
+line-closed h = let e : _≡_ {A = ℕ} 0 1 = ap length (h (afterTwo 2)) in omega arith
+
+-- the last point is cleared
+pub last-point-cleared : ((s : GeomEncoder) → finished s .pt1 ≡ Nowhere) → ⊥
+unfolding finished
+last-point-cleared h = let e : _≡_ {A = ℕ} 1 0 = ap isThere (h (afterTwo 2)) in omega arith
+
+-- points are reset too
+pub points-reset : ((s : GeomEncoder) → finished s ≡ cleared s (placeOf (closing s) s) (s .used + length (closing s))) → ⊥
+unfolding finished
+points-reset h = let e : _≡_ {A = ℕ} 1 0 = ap (λ (s : GeomEncoder). s .count) (h (afterOne 1)) in omega arith
+
+-- an empty point geometry is ROOM
+pub empty-as-room : ((s : GeomEncoder) (out : List ℕ) → completed s out ≡ cond (valid s (length out))
+    (cond (eqb (s .kind) 1 && eqb (s .count) 0) (kept (turned Room s) out) (fitting s out (closed s out))) (kept (turned State s) out)) → ⊥
+unfolding completed valid isGood isCoord finished
+empty-as-room h = let e : _≡_ {A = ℕ} 6 7 = ap (λ w. w .answer .number) (h (fresh 1 ten) []) in omega arith
+
+-- ROOM is not asked
+pub completed-without-room : ((s : GeomEncoder) (out : List ℕ)
+    → completed s out .answer .number ≡ cond (valid s (length out)) (cond (eqb (s .kind) 1 && eqb (s .count) 0) 6 0) 4) → ⊥
+unfolding completed valid isGood isCoord finished
+completed-without-room h = let e : _≡_ {A = ℕ} 7 0 = h (afterTwo 3) (replicate 6 0) in omega arith
+
+-- completing writes nothing
+pub completed-unwritten : ((s : GeomEncoder) (out : List ℕ) → completed s out .memory ≡ out) → ⊥
+unfolding completed valid isGood isCoord finished
+completed-unwritten h = let e : _≡_ {A = ℕ} 15 0 = ap (item 6) (h (afterTwo 3) (replicate 8 0)) in omega arith
+
+-- ---- GeomEncoder::count, len
+-- the count is the kind
+pub count-is-kind : ((s : GeomEncoder) → s .count ≡ s .kind) → ⊥
+count-is-kind h = let e : _≡_ {A = ℕ} 1 3 = h (afterOne 3) in omega arith
+
+-- the length is the last command's place
+pub len-is-place : ((s : GeomEncoder) → s .used ≡ s .«cmd_offset») → ⊥
+len-is-place h = let e : _≡_ {A = ℕ} 3 0 = h (afterOne 3) in omega arith
+
+-- the count is that of the words
+pub count-is-used : ((s : GeomEncoder) → s .count ≡ s .used) → ⊥
+count-is-used h = let e : _≡_ {A = ℕ} 1 3 = h (afterOne 3) in omega arith
+
+-- the length is the count
+pub len-is-count : ((s : GeomEncoder) → s .used ≡ s .count) → ⊥
+len-is-count h = let e : _≡_ {A = ℕ} 3 1 = h (afterOne 3) in omega arith

@@ -1,0 +1,15 @@
+pub mod Inputs
+pub mod ByName
+pub mod Promises
+pub mod Words
+pub mod Clips
+pub mod Encoding
+pub mod Jobs
+pub mod Reading
+pub mod Tables
+pub mod Layers
+pub mod Features
+pub mod Wire
+pub mod Messages
+pub mod Tiles
+pub mod Programs
