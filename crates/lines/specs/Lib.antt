@@ -1,3 +1,4 @@
 pub mod Decimal
 pub mod Printed
+pub mod Row
 pub mod Tiles

@@ -1,11 +1,13 @@
-// What the programs print, laid out in lent bytes: lines of numbers in decimal, of a tile's outcomes, and of bytes in hexadecimal.
+// What the programs print, laid out in lent bytes: lines of numbers in decimal, rows of them, lines of a tile's outcomes, and of bytes in hexadecimal.
 ghost use mathlib.Core.Path.{_≡_};
 ghost use Prim.Native.Nat.{_+_, _*_, _<_, _≤_};
 ghost use lib.ListN.{length};
+ghost use lib.IntN.{natAbs};
 ghost use Rattle.promise.specs.Answers.{Gives};
 ghost use Rattle.promise.specs.Laid.{lay};
 ghost use Rattle.lines.specs.Decimal.{ended};
 ghost use Rattle.lines.specs.Printed.{column, shown, wordsText, wordsRoom, refusedText, refusedRoom};
+ghost use Rattle.lines.specs.Row.{signedEnded, behind, rowRoom, rowText};
 ghost use Rattle.lines.specs.Tiles.{outcomeLine, outcomeLines, hexDigit, hexByte, endsLine, hexLines, tileText, tileRoom};
 
 // Lays `bytes` at a place of the text.
@@ -80,6 +82,58 @@ pub fn show_refused(number: u32, points: usize, text: &mut [u8]) -> usize
     let at = append_number(number as u64, b' ', 8, text);
     append(b"at ", at, text);
     append_number(points as u64, b'\n', at + 3, text)
+}
+
+// How far a number is from zero. The least i64 has no opposite, but the number above it has.
+fn magnitude(n: i64) -> u64
+    ensures { λ r. ⌜ r ≡ natAbs n ⌝ }
+{
+    if n < 0 {
+        return ((-1 - n) as u64) + 1;
+    }
+    n as u64
+}
+
+// Lays a number in decimal, `-` before a negative one, and then `end` at a place of the text: the place after them.
+fn append_signed(n: i64, end: u8, at: usize, text: &mut [u8]) -> usize
+    requires { ⌜ at + 22 ≤ length (now text) ⌝ }
+    ensures { λ r. ⌜ Gives (record { answer = at + length (signedEnded n end); memory = lay at (signedEnded n end) (now (text .entry)) }) r (now (text .exit)) ⌝ }
+{
+    let size = magnitude(n);
+    if n < 0 {
+        append(b"-", at, text);
+        return append_number(size, end, at + 1, text);
+    }
+    append_number(size, end, at, text)
+}
+
+// What stands behind the number at index i, of n numbers: a blank, or the line's end.
+fn separator(i: usize, n: usize) -> u8
+    requires { ⌜ i < n ⌝ }
+    ensures { λ r. ⌜ r ≡ behind i n ⌝ }
+{
+    if i + 1 == n {
+        return b'\n';
+    }
+    b' '
+}
+
+// The numbers on one line, a blank between them: how many bytes it is. A text of fewer than 22 bytes for each number stays as it is, and the answer is 0.
+pub fn show_row(numbers: &[i64], text: &mut [u8]) -> usize
+    ensures { λ r. ⌜ Gives (shown (rowRoom (now (numbers .entry))) (rowText (now (numbers .entry))) (now (text .entry))) r (now (text .exit)) ⌝ }
+{
+    let n = numbers.len();
+    if text.len() / 22 < n {
+        return 0;
+    }
+    let mut next = 0;
+    let mut i = 0;
+    while i < n {
+        let end = separator(i, n);
+        next = append_signed(numbers[i], end, next, text);
+        i += 1;
+    }
+    next
 }
 
 // `ok` or `refused N` on a line of its own, at a place of the text: the place after it.

@@ -1,67 +1,61 @@
-// Replays the Rust's answers on clips: each segment is cut at its box, and the result compared with the Rust's.
+// Replays clips: prints for each segment and box the segment after the cuts, or the refusal.
 use clip::BBox;
 use clip::Clipped;
 use clip::Pt;
 use clip::Seg;
-use numbers::signed;
+use replay::long;
+use replay::signed_at;
 
-fn same(a: Pt, b: Pt) -> bool {
-    (a.x == b.x) & (a.y == b.y)
+// The segment of a case.
+fn segment(case: &[u32]) -> Seg {
+    Seg {
+        p0: Pt {
+            x: signed_at(case, 0),
+            y: signed_at(case, 1),
+        },
+        p1: Pt {
+            x: signed_at(case, 2),
+            y: signed_at(case, 3),
+        },
+    }
 }
 
-fn agrees(seg: Seg, bbox: BBox, p0: Pt, p1: Pt) -> bool {
-    match clip::clip(seg, bbox) {
-        Clipped::Done(c) => {
-            let cut = c.seg;
-            same(cut.p0, p0) & same(cut.p1, p1)
+// The box of a case.
+fn box_of(case: &[u32]) -> BBox {
+    BBox {
+        x_min: signed_at(case, 4),
+        x_max: signed_at(case, 5),
+        y_min: signed_at(case, 6),
+        y_max: signed_at(case, 7),
+    }
+}
+
+fn print_segment(s: Seg) {
+    let p0 = s.p0;
+    let p1 = s.p1;
+    let row = [long(p0.x), long(p0.y), long(p1.x), long(p1.y)];
+    replay::print_row(&row);
+}
+
+fn print_case(case: &[u32]) {
+    match clip::clip(segment(case), box_of(case)) {
+        Clipped::Refused(r) => {
+            replay::print_refused(r, 0);
         }
-        Clipped::Refused(_) => false,
+        Clipped::Done(c) => print_segment(c.seg),
     }
 }
 
-// Two numbers as a point.
-fn point(x: u32, y: u32) -> Pt {
-    Pt {
-        x: signed(x),
-        y: signed(y),
+fn print_all(cases: &[u32]) {
+    let mut at = 0;
+    while at < cases.len() {
+        print_case(replay::body(cases, at));
+        at = replay::past(cases, at);
     }
-}
-
-// One record: the segment, the box, the segment after the cuts.
-fn record_agrees(answers: &[u32], i: usize) -> bool {
-    if answers.len() / 12 <= i {
-        return false;
-    }
-    let at = 12 * i;
-    let seg = Seg {
-        p0: point(answers[at], answers[at + 1]),
-        p1: point(answers[at + 2], answers[at + 3]),
-    };
-    let bbox = BBox {
-        x_min: signed(answers[at + 4]),
-        x_max: signed(answers[at + 5]),
-        y_min: signed(answers[at + 6]),
-        y_max: signed(answers[at + 7]),
-    };
-    let p0 = point(answers[at + 8], answers[at + 9]);
-    let p1 = point(answers[at + 10], answers[at + 11]);
-    agrees(seg, bbox, p0, p1)
-}
-
-// How many records agree before the first that does not.
-fn agreed(answers: &[u32]) -> usize {
-    let mut i = 0;
-    while i < answers.len() / 12 {
-        if !record_agrees(answers, i) {
-            return i;
-        }
-        i += 1;
-    }
-    i
 }
 
 fn main() {
-    let mut answers = [0u32; 16384];
-    let n = replay::load(b"clips-1.bin", &mut answers);
-    replay::report(b"clips", agreed(&answers[..n]), n / 12);
+    let mut cases = [0u32; 16384];
+    let n = replay::load(b"clips-1.bin", &mut cases);
+    print_all(&cases[..n]);
 }

@@ -1,64 +1,78 @@
-// Replays the Rust's answers on words: each parameter and each command is encoded, compared with the Rust's word, and read back.
-use numbers::signed;
+// Replays words. Prints for each number its word and the number read back from it; for each command its word, and the id and the count read back from it,
+// or the refusal.
 use words::command::Command;
 use words::command::CommandInt;
 use words::command::CommandRead;
 use words::command::CommandWord;
 use words::param::ParamInt;
 
-// Whether a number has this word, and this word that number.
-fn param_agrees(n: i32, word: u32) -> bool {
-    let made = ParamInt { value: n }.encode();
+fn print_param(n: i32) {
+    let word = ParamInt { value: n }.encode();
     let back = ParamInt::decode(word).value;
-    (made == word) & (back == n)
+    let row = [word as i64, replay::long(back)];
+    replay::print_row(&row);
 }
 
-// How many records (number, word) agree before the first that does not.
-fn params_agreed(answers: &[u32]) -> usize {
-    let mut i = 0;
-    while i < answers.len() / 2 {
-        if !param_agrees(signed(answers[2 * i]), answers[2 * i + 1]) {
-            return i;
-        }
-        i += 1;
-    }
-    i
-}
-
-fn command_word(command: Command, count: u32) -> u32 {
-    match (CommandInt { id: command, count }).encode() {
-        CommandWord::Word(w) => w,
-        CommandWord::Refused(_) => 0,
-    }
-}
-
-// Whether the word of this id and count is this one: the id is read off the word.
-fn command_agrees(id: u32, count: u32, word: u32) -> bool {
+fn print_word(word: u32) {
     match CommandInt::decode(word) {
+        CommandRead::Refused(r) => {
+            replay::print_refused(r, 0);
+        }
         CommandRead::Read(c) => {
             let command = c.id;
-            (command.number() == id) & (c.count == count) & (command_word(command, count) == word)
+            let count = c.count;
+            let row = [word as i64, command.number() as i64, count as i64];
+            replay::print_row(&row);
         }
-        CommandRead::Refused(_) => false,
     }
 }
 
-// How many records (id, count, word) agree before the first that does not.
-fn commands_agreed(answers: &[u32]) -> usize {
-    let mut i = 0;
-    while i < answers.len() / 3 {
-        if !command_agrees(answers[3 * i], answers[3 * i + 1], answers[3 * i + 2]) {
-            return i;
+fn print_encoded(command: Command, count: u32) {
+    match (CommandInt { id: command, count }).encode() {
+        CommandWord::Refused(r) => {
+            replay::print_refused(r, 0);
         }
-        i += 1;
+        CommandWord::Word(word) => print_word(word),
     }
-    i
+}
+
+// The command is the one of the word that has this id and no count.
+fn print_command(id: u32, count: u32) {
+    match CommandInt::decode(id) {
+        CommandRead::Refused(r) => {
+            replay::print_refused(r, 0);
+        }
+        CommandRead::Read(c) => {
+            let command = c.id;
+            print_encoded(command, count);
+        }
+    }
+}
+
+// A case of one number is a parameter, one of two is a command's id and count.
+fn print_case(case: &[u32]) {
+    if case.len() == 1 {
+        print_param(replay::signed_at(case, 0));
+        return;
+    }
+    print_command(replay::number(case, 0), replay::number(case, 1));
+}
+
+fn print_all(cases: &[u32]) {
+    let mut at = 0;
+    while at < cases.len() {
+        print_case(replay::body(cases, at));
+        at = replay::past(cases, at);
+    }
+}
+
+fn replay_file(path: &[u8]) {
+    let mut cases = [0u32; 16384];
+    let n = replay::load(path, &mut cases);
+    print_all(&cases[..n]);
 }
 
 fn main() {
-    let mut answers = [0u32; 16384];
-    let n = replay::load(b"params-1.bin", &mut answers);
-    replay::report(b"params", params_agreed(&answers[..n]), n / 2);
-    let m = replay::load(b"commands-1.bin", &mut answers);
-    replay::report(b"commands", commands_agreed(&answers[..m]), m / 3);
+    replay_file(b"params-1.bin");
+    replay_file(b"commands-1.bin");
 }

@@ -1,31 +1,19 @@
 -- What is read has no more numbers than the list.
 use native.Mathlib.Omega.{arith}
-use borrow.Author.Needs.{needs}
 use Rattle.io.proofs.Counting.{counts}
 use Rattle.numbers.proofs.Places.{read-within}
+use borrow.Author.Needs.{needs}
 use Rattle.replay.proofs.load.Statement.{statement}
 use Rattle.replay.proofs.load.Tie as tie
-
-open-read-requires : tie.Need-open-read-requires
-open-read-requires c κs = search needs
-
-fail-requires : tie.Need-fail-requires
-fail-requires c κs = search needs
-
-returns : tie.Need-returns
-returns c = search needs
 
 large-buffer-requires : tie.Need-large-buffer-requires
 large-buffer-requires c κs = search needs
 
-slice-aggregate-read-full : tie.Need-slice-aggregate-read-full
-slice-aggregate-read-full c = search needs
+slice-aggregate-read-file : tie.Need-slice-aggregate-read-file
+slice-aggregate-read-file c = search needs
 
-read-full-requires : tie.Need-read-full-requires
-read-full-requires c κs = search needs
-
-close-requires : tie.Need-close-requires
-close-requires c κs = search needs
+read-file-requires : tie.Need-read-file-requires
+read-file-requires c κs = search needs
 
 array-share-prefix-bytes : tie.Need-array-share-prefix-bytes
 array-share-prefix-bytes c = search needs
@@ -45,35 +33,28 @@ enum-told c = search needs
 same-length : tie.Need-same-length
 same-length c = search needs
 
-returns-2 : tie.Need-returns-2
-returns-2 c =
-    let n = c .before .before .before .before .before in
-    let g = rw (c .before .k .given .1) at (n .read-numbers .ensures) in
-    counts _ _ (omega (arith, read-within _ _ _ _ g))
+returns : tie.Need-returns
+returns c = let n = c .before .before .before .before .before in let g = rw (c .before .k .given .1) at (n .read-numbers .ensures) in counts _ _ (omega (arith, read-within _ _ _ _ g))
 
 same-length-2 : tie.Need-same-length-2
 same-length-2 c = search needs
 
-returns-3 : tie.Need-returns-3
-returns-3 c = search needs
+returns-2 : tie.Need-returns-2
+returns-2 c = search needs
 
 pub load-spec : {M : Type 1} → statement M
 load-spec =
     tie.close
     (tie.spec
-    open-read-requires
-    fail-requires
-    returns
     large-buffer-requires
-    slice-aggregate-read-full
-    read-full-requires
-    close-requires
+    slice-aggregate-read-file
+    read-file-requires
     array-share-prefix-bytes
     slice-aggregate-read-numbers
     read-numbers-requires
     enum-known-k
     enum-told
     same-length
-    returns-2
+    returns
     same-length-2
-    returns-3)
+    returns-2)

@@ -1,0 +1,174 @@
+"""Cases that document 01 refuses, and their nearest accepted neighbours. The Rust is never asked about them: what they
+answer are the rules of document.py, and for words those of reading.py. Each kind says what its cases are.
+"""
+
+from cases import (ADD, BOOL, CLOSE, INT, LIMIT, LINE, POINT, POLYGON, TEXT, create, job, le, open_feature, script,
+                   set_id, tag)
+
+TEN = (0, 10, 0, 10)
+BEYOND = (LIMIT + 1, -LIMIT - 1, 2**31 - 1, -2**31)
+BAD_BOXES = [(0, 0, 0, 10), (0, 10, 5, 5), (10, 0, 0, 10), (0, 10, 10, 0), (-LIMIT - 1, 10, 0, 10),
+             (0, LIMIT + 1, 0, 10), (0, 10, -LIMIT - 1, 10), (0, 10, 0, LIMIT + 1), (-2**31, 2**31 - 1, 0, 10)]
+CORNER = [(2, 2), (2, 10), (10, 10)]
+
+
+def replaced(items, at, item):
+    return (*items[:at], item, *items[at + 1:])
+
+
+# Job files
+
+def jobs():
+    head = [LINE, *TEN]
+    yield le([])
+    yield le(head)
+    yield le([*head, 0])  # no parts
+    yield le([*head, 0, 1, 2])
+    yield le([*head, 1])  # cut before the ends, and in them
+    yield le([*head, 2, 0])
+    yield le([*head, 2**32 - 1, 0])
+    yield le([*head, 2, 1, 0])  # ends descend
+    yield le([*head, 3, 1, 0, 1, 1, 2])
+    yield le([*head, 1, 2, 1, 2])  # the last end is not the point count: cut short, too long
+    yield le([*head, 1, 1, 1, 2, 3, 4])
+    yield le([*head, 1, 1, 1])  # a coordinate list that is odd
+    yield le([*head, 1, 1, 1, 2, 3])
+    yield le([0, 0, 0, 0, 0, 0])  # JOB before KIND and BOX
+    for kind in (0, 4, 2**32 - 1):
+        yield job(kind, TEN, [[(1, 2)]])
+    yield job(0, BAD_BOXES[0], [[(LIMIT + 1, 2)]])  # KIND before BOX and COORD
+    for box in BAD_BOXES:
+        yield job(LINE, box, [[(1, 2)]])
+    yield job(LINE, BAD_BOXES[0], [[(LIMIT + 1, 2)]])  # BOX before COORD
+    for kind in (POINT, LINE, POLYGON):
+        for n in BEYOND:
+            yield job(kind, TEN, [[(1, 2), (3, 4), (n, 5)], [(6, 7)]])
+            yield job(kind, TEN, [[(1, n)]])
+    yield job(POINT, TEN, [[], [(LIMIT + 1, 2)]])  # at the first refused call: EMPTY
+    yield job(POINT, TEN, [[(LIMIT + 1, 2)], []])  # and COORD
+    # Crossing the box costs six words a point. Of 16,384 words a line's 2,732nd point is too much, and a ring of 2,731 points wants one more for ClosePath.
+    across = [(13, 9) if at % 2 else (-3, 1) for at in range(2_732)]
+    yield job(LINE, TEN, [across])
+    yield job(POLYGON, TEN, [across[:-1]])
+
+
+# Clips: x1, y1, x2, y2, x_min, x_max, y_min, y_max
+
+def clips():
+    for box in BAD_BOXES:
+        yield (-5, 3, 15, 8, *box)
+        yield (LIMIT + 1, 3, 15, 8, *box)  # BOX before COORD
+    for at in range(4):
+        for n in BEYOND:
+            yield replaced((-5, 3, 15, 8), at, n) + TEN
+        yield replaced((-5, 3, 15, 8), at, LIMIT) + TEN
+    yield -LIMIT, LIMIT, LIMIT, -LIMIT, -LIMIT, LIMIT, -LIMIT, LIMIT
+
+
+# Commands: id, count
+
+def commands():
+    for name in (0, 3, 4, 5, 6):
+        for count in (0, 2**29 - 1, 2**29, 2**32 - 1):  # COMMAND before ROOM
+            yield name, count
+    for name in (1, 2, 7):
+        for count in (2**29, 2**29 + 1, 2**32 - 1):
+            yield name, count
+
+
+# Calls of the encoder with the lent list's length: ("new", kind, box), ("add", point), ("end",), and ("carry", state),
+# which is no call but puts a state in place. A state is kind, box, raw end, point before last, last point, last command's
+# place, count, used words.
+
+def drawn(kind, points, room):
+    """The calls of a part that is not completed."""
+    return [(room, "new", kind, TEN), *((room, "add", point) for point in points)]
+
+
+def bad_states():
+    """A line of eight words with one rule of STATE broken, in a list of eight."""
+    good = (LINE, TEN, (10, 10), (2, 10), (10, 10), 3, 3, 8)
+    yield from (replaced(good, 0, kind) for kind in (0, 4, 2**32 - 1))
+    yield from (replaced(good, 1, box) for box in BAD_BOXES)
+    for at in (2, 3, 4):
+        for n in BEYOND:
+            yield replaced(good, at, (n, 10))
+            yield replaced(good, at, (10, n))
+    yield from (replaced(good, 5, place) for place in (8, 9, 2**32 - 1))
+    yield from (replaced(good, 6, count) for count in (6, 7, 2**32 - 1))
+    yield from (replaced(good, 7, used) for used in (9, 2**32 - 1))
+    yield replaced(replaced(good, 7, 3), 6, 3)  # count above used / 2 + 1, rounded down
+
+
+def states():
+    for state in bad_states():
+        yield [*drawn(LINE, CORNER, 8), (8, "carry", state), (8, "add", (5, 5)), (8, "add", (LIMIT + 1, 5)), (8, "end")]
+    for kind in (POINT, LINE, POLYGON):
+        for n in BEYOND:  # COORD, also before ROOM
+            yield [*drawn(kind, CORNER[:2], 16), (16, "add", (n, 5)), (16, "add", (5, n)), (6, "add", (n, n)), (16, "end")]
+        # Room for one word less than a call asks; the next call goes on from the state given back.
+        for room in range(10):
+            yield [*drawn(kind, CORNER[:1], room), (room, "add", (-5, 3)), (room, "end")]
+            yield [*drawn(kind, CORNER, 16), (max(room, 8), "add", (15, 8)), (max(room, 8), "end")]
+        yield [(8, "new", kind, box) for box in BAD_BOXES]
+    # A carried state that keeps every rule, in a longer list; a place beyond the used words is looked at only where the count is not zero.
+    yield [*drawn(LINE, CORNER, 8), (16, "carry", (LINE, TEN, (10, 10), (2, 10), (10, 10), 3, 3, 8)), (16, "add", (5, 5)), (16, "end")]
+    yield [*drawn(LINE, CORNER, 8), (8, "carry", (LINE, TEN, None, None, (10, 10), 99, 0, 8)), (8, "end")]
+    yield [(8, "new", kind, BAD_BOXES[0]) for kind in (0, 4, 2**32 - 1)]  # KIND before BOX
+    yield [*drawn(POINT, [], 8), (8, "end"), (0, "end"), (8, "add", (5, 5)), (8, "end")]  # EMPTY
+
+
+# Words to be read, with the lent list's length
+
+def readings():
+    least, most = 2**32 - 1, 2**32 - 2  # the parameters of the least and the greatest i32
+    for name in (0, 3, 4, 5, 6):
+        for count in (0, 1, 2**29 - 1):
+            yield 99, [name + 8 * count]
+            yield 99, [9, 2, 2, name + 8 * count, 9]  # left to right: COMMAND before CUT
+    yield 0, [9, 2, 2, 3]  # COMMAND before ROOM
+    for name in (1, 2):
+        for count, follow in ((1, 0), (1, 1), (2, 3), (3, 5), (2**29 - 1, 4)):
+            yield 99, [name + 8 * count, *[2] * follow]
+            yield 0, [9, 2, 2, name + 8 * count, *[2] * follow]  # CUT before ROOM
+    yield 99, [25, most, 0, 2, 0]  # CUT before STEP, at one command
+    for end, on in ((most, 2), (least, 1)):
+        yield 99, [9, end, end]
+        yield 99, [17, end, 0, on, 0]
+        yield 99, [17, 0, end, 0, on]
+        yield 0, [9, end, end, 10, on, 0]  # STEP before ROOM
+        yield 99, [17, end, 0, on, 0, 3]  # left to right: STEP before COMMAND
+    for words, room in (([9, 2, 2], 3), ([15], 3), ([9, 2, 2, 18, 2, 2, 4, 4, 15], 12)):
+        yield room, words
+        yield room - 1, words
+        yield 0, words
+    yield 0, []
+    yield 0, [1, 2]  # a count of 0 gives nothing
+    yield 9, [9, 2, 2, 7, 23]  # a ClosePath's count is not looked at
+
+
+# Tile scripts
+
+def tiles():
+    point, good = open_feature(POINT, [9, 10, 14]), tag(b"k", INT, 1)
+    long_text = b"v" * 1025
+    for kind in (0, 4, 2**32 - 1):
+        yield script(create(b"a"), open_feature(kind), point, good, CLOSE, ADD)
+        yield script(create(b"a"), point, open_feature(kind), CLOSE, ADD)  # KIND before TURN
+    # A refused tag leaves the tables as they were, and a refused layer the one at hand.
+    yield script(create(b"a"), point, tag(long_text, INT, 2), tag(b"new", TEXT, long_text), good, CLOSE, ADD)
+    yield script(create(b"a"), tag(long_text, INT, 2), tag(b"k", TEXT, long_text), point, good, CLOSE, ADD)  # TEXT before TURN
+    yield script(create(b"a"), point, good, create(long_text), CLOSE, ADD)
+    yield script(create(b"a"), point, point, ADD, good, CLOSE, set_id(1), good, CLOSE, ADD, ADD)  # TURN, and on
+    yield script(create(b"a", 1), point, ADD, CLOSE, ADD, create(b"a"), ADD, create(b"a", 1), ADD, ADD)  # TURN, EXTENT, NAME in this order
+    yield script(create(b"a"), ADD, create(b"a"), point, ADD, CLOSE, ADD, ADD)
+    # What cannot be read ends the script; the bytes so far follow.
+    added = [create(b"a"), point, good, CLOSE, ADD]
+    for damage in (le([0]), le([8]), le([2**32 - 1]), le([1, 4096]), le([1, 4096, 5, 0]), le([1, 4096, 1, 0x6161]),
+                   le([2, POINT]), le([2, POINT, 2, 9]), le([2, POINT, 2**32 - 1]), le([3, 1]), tag(b"k", 0, 0),
+                   tag(b"k", 8, 0), tag(b"k", BOOL, 2), tag(b"k", INT, 1)[:-4]):
+        yield script(*added, damage)
+    yield b""
+
+
+KINDS = {f.__name__: f for f in (jobs, clips, commands, states, readings, tiles)}
