@@ -84,13 +84,13 @@ def callers(crate_functions, names):
     return found - set(names)
 
 
-def called(crate_functions, function):
-    """The private functions that a function calls, at first hand or through others that are private."""
+def callees(crate_functions, function, private_only=False):
+    """The functions of the crate that a function calls, at first hand or through others."""
     found, bodies = set(), [function.body]
     while bodies:
         names = set(re.findall(r"\b(\w+)\s*\(", bodies.pop()))
         for f in crate_functions:
-            if not f.public and f.name not in found and f.name.rsplit("::")[-1] in names:
+            if f.name not in found and f.name.rsplit("::")[-1] in names and not (private_only and f.public):
                 found.add(f.name)
                 bodies.append(f.body)
     return found
