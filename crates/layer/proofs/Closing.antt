@@ -1,12 +1,10 @@
--- `intoLayer`, `abandoned` and `markedIn` where they are not refused.
+-- `intoLayer`, `abandoned` and `setId` where they are not refused.
 use Prim.Native.Nat.{ℕ, _+_, _*_, _≤_}
-use mathlib.Core.Path.{_≡_, refl, sym, _∙_}
+use mathlib.Core.Path.{_≡_, refl, sym}
 use mathlib.Core.Bool.{Bool, true, false, not}
 use mathlib.Core.List.{List, [], _∷_}
 use native.Mathlib.Omega.{arith}
 use lib.ListN.{length}
-use lib.Dec.{leb}
-use borrow.Author.Tests.{not-false, leb-true}
 use Rattle.promise.specs.Answers.{Gives}
 use Rattle.runs.specs.Fitting.{laidIn}
 use Rattle.runs.proofs.Laws.{laid-fits}
@@ -14,11 +12,11 @@ use Rattle.layer.specs.declared.Figures.{Figures}
 use Rattle.layer.specs.declared.Open.the-variants.{Shut, Since}
 use Rattle.layer.specs.declared.Layer.{Layer}
 use Rattle.layer.specs.declared.Changed.the-variants.{Done}
-use Rattle.layer.specs.Held.{mem, roomOf, fits, seen, written}
+use Rattle.layer.specs.Held.{mem, seen, written}
 use Rattle.layer.specs.Answers.{saidChanged}
 use Rattle.layer.specs.State.{valid}
-use Rattle.layer.specs.Calls.{withUsed, markedIn, intoLayer, abandoned}
-use Rattle.layer.proofs.Fitting.{Fit, told-fit}
+use Rattle.layer.specs.Calls.{withUsed, setId, intoLayer, abandoned}
+use Rattle.layer.proofs.Fitting.{Fit}
 use Rattle.layer.proofs.Fronts.{front-take, front-lay, held-onto, cut-onto}
 use Rattle.layer.proofs.Standing.{answered, valid-fit, OpenAt, open-at}
 
@@ -29,7 +27,7 @@ module _ (s : Layer) (ks vs ts fs : List ℕ) (t : Bool) (g : t ≡ valid (seen 
   opening : OpenAt o (s .used) fs
   opening = open-at s o ks vs ts fs ok f
 
-  fitting : Fit (s .used) (length ks) (length vs) (length ts) (length fs)
+  pub fitting : Fit (s .used) (length ks) (length vs) (length ts) (length fs)
   fitting = valid-fit s ks vs ts fs ok
 
   pub closed : Gives (written (intoLayer (seen s (mem ks vs ts fs))) s (mem ks vs ts fs)) (saidChanged (Done (withUsed s (s .used) Shut))) (mem ks vs ts fs)
@@ -38,20 +36,16 @@ module _ (s : Layer) (ks vs ts fs : List ℕ) (t : Bool) (g : t ≡ valid (seen 
   pub cut-back : Gives (written (abandoned (seen s (mem ks vs ts fs))) s (mem ks vs ts fs)) (saidChanged (Done (withUsed s o Shut))) (mem ks vs ts fs)
   cut-back = rw (ok, f) (record { answer = refl; memory = sym (cut-onto o (s .used) ks vs ts fs fitting (opening .within)) })
 
--- ---- `mark_id`
-module _ (s : Layer) (o : Figures) (ks vs ts fs : List ℕ) (t : Bool) (g : t ≡ fits (s .used) (roomOf (length ks) (length vs) (length ts) (length fs))) (h : not t ≡ false) (q : Bool) (p : q ≡ leb (o .features + 4) (s .used .features)) (n : not q ≡ false) where
-  pub mark-fit : Fit (s .used) (length ks) (length vs) (length ts) (length fs)
-  mark-fit = told-fit (s .used) (length ks) (length vs) (length ts) (length fs) t g h
+  -- ---- `set_id`
+  pub id-there : o .features + 6 ≤ s .used .features
+  id-there = omega (arith, opening .six)
 
-  pub mark-four : o .features + 4 ≤ s .used .features
-  mark-four = leb-true _ _ (sym p ∙ not-false q n)
-
-  pub id-set : (low high a b : ℕ) → a ≡ low → b ≡ high → (fs₂ : List ℕ) → fs₂ ≡ laidIn (o .features + 1) (1 ∷ a ∷ b ∷ []) fs → Gives (written (markedIn low high (seen s (mem ks vs ts fs)) o) s (mem ks vs ts fs)) (saidChanged (Done s)) (mem ks vs ts fs₂)
+  pub id-set : (low high a b : ℕ) → a ≡ low → b ≡ high → (fs₂ : List ℕ) → fs₂ ≡ laidIn (o .features + 1) (1 ∷ a ∷ b ∷ []) fs → Gives (written (setId low high (seen s (mem ks vs ts fs))) s (mem ks vs ts fs)) (saidChanged (Done s)) (mem ks vs ts fs₂)
   id-set low high a b x y fs₂ e =
-      let F = mark-fit in
-      let k = front-lay (s .used .features) (o .features + 1) (1 ∷ low ∷ high ∷ []) fs (F .in-features) (omega (arith, mark-four)) in
-      let w = laid-fits (o .features + 1) (1 ∷ a ∷ b ∷ []) fs (omega (arith, mark-four, F .in-features)) fs₂ e in
-      rw (← g, not-false t h, ← p, not-false q n)
+      let F = fitting in
+      let k = front-lay (s .used .features) (o .features + 1) (1 ∷ low ∷ high ∷ []) fs (F .in-features) (omega (arith, id-there)) in
+      let w = laid-fits (o .features + 1) (1 ∷ a ∷ b ∷ []) fs (omega (arith, id-there, F .in-features)) fs₂ e in
+      rw (ok, f)
       (record {
         answer = refl;
         memory = rw (front-take (s .used .keys * 2) ks (F .in-keys), front-take (s .used .values * 3) vs (F .in-values), front-take (s .used .texts) ts (F .in-texts), k, w, x, y);

@@ -6,5 +6,11 @@ pub mod Standing
 pub mod Closing
 pub mod Opening
 pub mod Telling
-pub mod Asked
 pub mod Entries
+pub mod Entering
+pub mod Tagging
+pub mod Bits
+pub mod ByKind
+pub mod Noting
+pub mod Keeping
+pub mod After

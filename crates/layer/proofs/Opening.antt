@@ -1,5 +1,5 @@
--- `opened` at each return of `open_feature`, and `created` at each of `Layer::new`.
-use Prim.Native.Nat.{ℕ, _+_, _*_, _≤_, _<_}
+-- `opened` at each return of `put_record`, and `created` at each of `Layer::new`.
+use Prim.Native.Nat.{ℕ, _+_, _*_, _/_, _%_, _≤_, _<_}
 use mathlib.Core.Path.{_≡_, refl, sym, ap, _∙_}
 use mathlib.Core.Bool.{Bool, true, false, not}
 use mathlib.Core.List.{List, [], _∷_}
@@ -8,6 +8,7 @@ use lib.ListN.{length}
 use lib.Dec.{leb}
 use borrow.Author.Tests.{not-true, not-false, le-leb, lt-leb}
 use Rattle.promise.specs.Answers.{Gives}
+use Rattle.promise.specs.Laid.{lay}
 use Rattle.promise.proofs.Laying.{length-lay, lay-next}
 use Rattle.words.specs.Geometries.{maxWords}
 use Rattle.runs.specs.Fitting.{laidIn}
@@ -20,7 +21,7 @@ use Rattle.layer.specs.declared.Changed.the-variants.{Done, Refused}
 use Rattle.layer.specs.declared.Created.the-variants.{Done as CreatedDone, Refused as CreatedRefused}
 use Rattle.layer.specs.Held.{mem, smaller, roomOf, fits, seen, written, maxTexts}
 use Rattle.layer.specs.Answers.{saidChanged, saidCreated}
-use Rattle.layer.specs.Calls.{moreWords, withUsed, newRecord, opened, newLayer, created}
+use Rattle.layer.specs.Calls.{moreWords, withUsed, recordWith, newRecord, opened, newLayer, created}
 use Rattle.layer.proofs.Fitting.{Fit, fit, smaller-le}
 use Rattle.layer.proofs.Fronts.{front-take, front-run}
 
@@ -38,19 +39,25 @@ module _ (s : Layer) (kind : ℕ) (words ks vs ts fs : List ℕ) (few : length w
     pub open-fit : not q ≡ false → Fit (moreWords (s .used) (6 + length words)) (length ks) (length vs) (length ts) (length fs)
     open-fit n = fit (moreWords (s .used) (6 + length words)) (length ks) (length vs) (length ts) (length fs) (sym w ∙ not-false q n)
 
-    pub open-done : not q ≡ false → (fs₁ fs₂ : List ℕ) → fs₁ ≡ laidIn (s .used .features) (kind ∷ 0 ∷ 0 ∷ 0 ∷ 0 ∷ length words ∷ []) fs → fs₂ ≡ laidIn (s .used .features + 6) words fs₁ → Gives (written (opened kind words (seen s (mem ks vs ts fs))) s (mem ks vs ts fs)) (saidChanged (Done (withUsed s (moreWords (s .used) (6 + length words)) (Since (s .used))))) (mem ks vs ts fs₂)
-    open-done n fs₁ fs₂ a b =
+    pub open-done : not q ≡ false → (fs₂ : List ℕ) → fs₂ ≡ lay (s .used .features) (newRecord kind words) fs → Gives (written (opened kind words (seen s (mem ks vs ts fs))) s (mem ks vs ts fs)) (saidChanged (Done (withUsed s (moreWords (s .used) (6 + length words)) (Since (s .used))))) (mem ks vs ts fs₂)
+    open-done n fs₂ e =
         let F = open-fit n in
-        let x = laid-fits (s .used .features) (kind ∷ 0 ∷ 0 ∷ 0 ∷ 0 ∷ length words ∷ []) fs (omega (arith, F .in-features)) fs₁ a in
-        let l : length fs₁ ≡ length fs = ap length x ∙ length-lay (s .used .features) (kind ∷ 0 ∷ 0 ∷ 0 ∷ 0 ∷ length words ∷ []) fs (omega (arith, F .in-features)) in
-        let y = laid-fits (s .used .features + 6) words fs₁ (omega (arith, F .in-features, l)) fs₂ b in
-        let k = lay-next (s .used .features) (kind ∷ 0 ∷ 0 ∷ 0 ∷ 0 ∷ length words ∷ []) words fs (omega (arith, F .in-features)) in
         let c = front-run (s .used .features) fs (omega (arith, F .in-features)) (newRecord kind words) in
         rw (may, ← w, not-false q n)
         (record {
           answer = refl;
-          memory = rw (front-take (s .used .keys * 2) ks (F .in-keys), front-take (s .used .values * 3) vs (F .in-values), front-take (s .used .texts) ts (F .in-texts), c, y, x) (ap (mem ks vs ts) k);
+          memory = rw (front-take (s .used .keys * 2) ks (F .in-keys), front-take (s .used .values * 3) vs (F .in-values), front-take (s .used .texts) ts (F .in-texts), c, e);
         })
+
+-- ---- `lay_record`: the six words and then the geometry are the record
+module _ (at kind mark id : ℕ) (words fs : List ℕ) (a b n : ℕ) (x : a ≡ id % 4294967296) (y : b ≡ id / 4294967296) (z : n ≡ length words) where
+  pub record-laid : at + (6 + length words) ≤ length fs → (fs₁ fs₂ : List ℕ) → fs₁ ≡ laidIn at (kind ∷ mark ∷ a ∷ b ∷ 0 ∷ n ∷ []) fs → fs₂ ≡ laidIn (at + 6) words fs₁ → fs₂ ≡ lay at (recordWith kind mark id words) fs
+  record-laid h fs₁ fs₂ p q =
+      let u = laid-fits at (kind ∷ mark ∷ a ∷ b ∷ 0 ∷ n ∷ []) fs (omega arith) fs₁ p in
+      let l : length fs₁ ≡ length fs = ap length u ∙ length-lay at (kind ∷ mark ∷ a ∷ b ∷ 0 ∷ n ∷ []) fs (omega arith) in
+      let v = laid-fits (at + 6) words fs₁ (omega (arith, l)) fs₂ q in
+      let k = lay-next at (kind ∷ mark ∷ a ∷ b ∷ 0 ∷ n ∷ []) words fs (omega arith) in
+      v ∙ ap (lay (at + 6) words) u ∙ k ∙ rw (x, y, z)
 
 -- ---- `Layer::new`
 module _ (name : List ℕ) (extent : ℕ) (ts : List ℕ) (t : Bool) (g : t ≡ shortText (length name)) where

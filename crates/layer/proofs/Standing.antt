@@ -7,7 +7,8 @@ use native.Mathlib.Omega.{arith}
 use lib.ListN.{length, take, getD}
 use lib.Seq.{length-take-le, getD-take}
 use lib.Dec.{leb}
-use borrow.Author.Tests.{not-false}
+use borrow.Author.Tests.{not-false, leb-true}
+use Rattle.table.specs.Texts.{maxBytes, shortText}
 use Rattle.table.specs.Keys.{keysIn}
 use Rattle.table.specs.Values.{valuesIn}
 use Rattle.records.specs.Records.{follow, oneRecord}
@@ -16,8 +17,9 @@ use Rattle.layer.specs.declared.Figures.{Figures}
 use Rattle.layer.specs.declared.Open.{Open}
 use Rattle.layer.specs.declared.Open.the-variants.{Since}
 use Rattle.layer.specs.declared.Layer.{Layer}
-use Rattle.layer.specs.Held.{mem, fits, Seen, seen}
+use Rattle.layer.specs.Held.{mem, roomOf, fits, Seen, seen}
 use Rattle.layer.specs.State.{recordsOk, valid}
+use Rattle.layer.specs.Steps.{Ready}
 use Rattle.layer.proofs.Fitting.{both, Within, within, Fit, fit}
 
 pub record Parts (v : Seen) : Type 0 where
@@ -50,6 +52,11 @@ answered t b g h = sym g ∙ not-false t h
 
 pub valid-fit : (s : Layer) (ks vs ts fs : List ℕ) → valid (seen s (mem ks vs ts fs)) ≡ true → Fit (s .used) (length ks) (length vs) (length ts) (length fs)
 valid-fit s ks vs ts fs e = fit (s .used) (length ks) (length vs) (length ts) (length fs) (parts (seen s (mem ks vs ts fs)) e .room)
+
+-- where a function answered it
+module _ (s : Layer) (ks vs ts fs : List ℕ) (t : Bool) (g : t ≡ valid (seen s (mem ks vs ts fs))) (h : not t ≡ false) where
+  pub valid-room : fits (s .used) (roomOf (length ks) (length vs) (length ts) (length fs)) ≡ true
+  valid-room = parts (seen s (mem ks vs ts fs)) (answered t (valid (seen s (mem ks vs ts fs))) g h) .room
 
 -- an open feature
 pub record OpenParts (o used : Figures) (ws : List ℕ) : Type 0 where
@@ -85,3 +92,14 @@ open-at s o ks vs ts fs e f =
   where
     by : o .features + 6 ≤ s .used .features → o .features + 6 + getD (take (s .used .features) fs) (o .features + 4) 0 ≤ s .used .features → o .features + 6 + getD fs (o .features + 4) 0 ≤ s .used .features
     by h g = omega (arith, g, getD-take (s .used .features) fs (o .features + 4) 0 (omega arith))
+
+-- a tag may be put
+module _ (s : Layer) (ks vs ts fs : List ℕ) (t : Bool) (g : t ≡ valid (seen s (mem ks vs ts fs))) (h : not t ≡ false) where
+  pub tag-ready : (key text : ℕ) (a b : Bool) → a ≡ shortText key → not a ≡ false → b ≡ shortText text → not b ≡ false → (o : Figures) → s .feature ≡ Since o → Ready s o key text (mem ks vs ts fs)
+  tag-ready key text a b p i q j o f =
+      record {
+        room = valid-room s ks vs ts fs t g h;
+        six = open-at s o ks vs ts fs (answered t (valid (seen s (mem ks vs ts fs))) g h) f .six;
+        small-key = leb-true key maxBytes (answered a (shortText key) p i);
+        small-text = leb-true text maxBytes (answered b (shortText text) q j);
+      }

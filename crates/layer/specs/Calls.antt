@@ -14,7 +14,7 @@ use Rattle.table.specs.declared.Found.the-variants.{At, Nothing}
 use Rattle.table.specs.declared.Value.{Value}
 use Rattle.table.specs.Texts.{shortText}
 use Rattle.table.specs.Keys.{findKey}
-use Rattle.table.specs.Values.{findValue}
+use Rattle.table.specs.Values.{findValue, valueOk}
 use Rattle.words.specs.Geometries.{isKind, maxWords}
 use Rattle.table.specs.declared.Text.{Text}
 use Rattle.records.specs.Records.{recordsIn}
@@ -42,9 +42,13 @@ withUsed s u f = record { extent = s .extent; name = s .name; used = u; feature 
 abbrev pub withFeatures : Memory → List ℕ → Memory
 withFeatures h fs = record { keys = h .keys; values = h .values; texts = h .texts; features = fs }
 
--- a new record: kind, no id, no tags, and its geometry as given
+-- a record without tags: kind, id mark, the halves of the id, no tag words, and its geometry as given
+abbrev pub recordWith : ℕ → ℕ → ℕ → List ℕ → List ℕ
+recordWith kind mark id words = kind ∷ mark ∷ id % 4294967296 ∷ id / 4294967296 ∷ 0 ∷ length words ∷ words
+
+-- a new record: no id
 abbrev pub newRecord : ℕ → List ℕ → List ℕ
-newRecord kind words = kind ∷ 0 ∷ 0 ∷ 0 ∷ 0 ∷ length words ∷ words
+newRecord kind words = recordWith kind 0 0 words
 
 abbrev pub opened : ℕ → List ℕ → Seen → Change
 opened kind words v =
@@ -54,10 +58,6 @@ opened kind words v =
     (withUsed (v .layer) (moreWords (v .layer .used) (6 + length words)) (Since (v .layer .used)))
     (withFeatures (v .held) (v .held .features ++ newRecord kind words))))
 
--- the same, asking of STATE only what costs nothing: what a caller does who has asked the rest
-abbrev pub openedIn : ℕ → List ℕ → Seen → Change
-openedIn kind words v = check (fits (v .layer .used) (v .room)) State (opened kind words v)
-
 abbrev pub intoFeature : ℕ → List ℕ → Seen → Change
 intoFeature kind words v =
     check (isKind kind) Kind (check (valid v) State (check (isShut (v .layer .feature)) Turn (opened kind words v)))
@@ -65,12 +65,6 @@ intoFeature kind words v =
 -- ---- setting the id: STATE, TURN. The id mark and the two halves are words 1 to 3 of the open record
 abbrev pub marked : ℕ → ℕ → Seen → Figures → Change
 marked low high v o = holds (v .layer) (withFeatures (v .held) (lay (o .features + 1) (1 ∷ low ∷ high ∷ []) (v .held .features)))
-
--- asking only that the lists hold the used parts, and these the four words of a record at o
-abbrev pub markedIn : ℕ → ℕ → Seen → Figures → Change
-markedIn low high v o =
-    check (fits (v .layer .used) (v .room)) State
-    (check (leb (o .features + 4) (v .layer .used .features)) State (marked low high v o))
 
 abbrev pub setId : ℕ → ℕ → Seen → Change
 setId low high v = check (valid v) State (whenOpen (v .layer .feature) (λ o. marked low high v o))
@@ -92,6 +86,10 @@ pub record Tag : Type 0 where
   pub key : List ℕ
   pub value : Value
   pub text : List ℕ
+
+-- a value as the seven tag calls make it: a text, or a content of its kind
+abbrev pub isValue : Value → Bool
+isValue v = cond (eqb (v .kind) 1) true (valueOk 0 (v .kind) (v .low) (v .high))
 
 -- the index of what was found, or of what goes last
 abbrev pub indexOf : Found → ℕ → ℕ
@@ -145,30 +143,33 @@ heldWith u o h t kf vf =
       features = withTag (o .features) (indexOf kf (u .keys)) (indexOf vf (u .values)) (h .features);
     }
 
+-- what is seen after a tag of the feature opened at o, whatever the room; kf and vf are what was found
+abbrev pub tagPutBy : Figures → Tag → Seen → Found → Found → Seen
+tagPutBy o t v kf vf =
+    record {
+      layer = withUsed (v .layer) (grownBy (v .layer .used) kf vf (length (t .key)) (length (t .text))) (v .layer .feature);
+      held = heldWith (v .layer .used) o (v .held) t kf vf;
+      room = v .room;
+    }
+
+abbrev pub keyFound : Tag → Seen → Found
+keyFound t v = findKey 0 (v .held .keys) (v .held .texts) (t .key)
+
+abbrev pub valueFound : Tag → Seen → Found
+valueFound t v = findValue 0 (v .held .values) (v .held .texts) (t .value) (t .text)
+
+abbrev pub tagPut : Figures → Tag → Seen → Seen
+tagPut o t v = tagPutBy o t v (keyFound t v) (valueFound t v)
+
+-- ROOM: the result, reckoned without a limit on room, exceeds the room
+abbrev pub ifRoom : Seen → Change
+ifRoom w = check (fits (w .layer .used) (w .room)) Room (holds (w .layer) (w .held))
+
 abbrev pub taggedBy : Tag → Seen → Figures → Found → Found → Change
-taggedBy t v o kf vf =
-    check (fits (grownBy (v .layer .used) kf vf (length (t .key)) (length (t .text))) (v .room)) Room
-    (holds
-    (withUsed (v .layer) (grownBy (v .layer .used) kf vf (length (t .key)) (length (t .text))) (v .layer .feature))
-    (heldWith (v .layer .used) o (v .held) t kf vf))
+taggedBy t v o kf vf = ifRoom (tagPutBy o t v kf vf)
 
 abbrev pub tagged : Tag → Seen → Figures → Change
-tagged t v o =
-    taggedBy t v o (findKey 0 (v .held .keys) (v .held .texts) (t .key)) (findValue 0 (v .held .values) (v .held .texts) (t .value) (t .text))
-
--- asking of STATE only that the lists hold the used parts, and these a record at o with its tag words
-abbrev pub recordAt : List ℕ → ℕ → ℕ → Bool
-recordAt ws at end = leb (at + 6 + getD ws (at + 4) 0) end
-
-abbrev pub hasRecord : Seen → Figures → Bool
-hasRecord v o = recordAt (v .held .features) (o .features) (v .layer .used .features)
-
-abbrev pub taggedIn : Tag → Seen → Figures → Change
-taggedIn t v o =
-    check (fits (v .layer .used) (v .room)) State
-    (check (hasRecord v o) State
-    (check (shortText (length (t .key))) TextRefusal
-    (check (shortText (length (t .text))) TextRefusal (tagged t v o))))
+tagged t v o = ifRoom (tagPut o t v)
 
 abbrev pub addTag : Tag → Seen → Change
 addTag t v =

@@ -111,3 +111,8 @@ onto h m =
 abbrev pub written : Change → Layer → Memory → Written (Said Layer) Memory
 written (refuses r) s m = kept (refused r s) m
 written (holds t h) s m = record { answer = accepted t; memory = onto h m }
+
+-- what is seen after a call
+abbrev pub next : Change → Seen → Seen
+next (refuses r) v = v
+next (holds t h) v = record { layer = t; held = h; room = v .room }

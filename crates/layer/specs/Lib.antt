@@ -2,3 +2,9 @@ pub mod Held
 pub mod Answers
 pub mod State
 pub mod Calls
+pub mod TagLists
+pub mod Whole
+pub mod Lookup
+pub mod Many
+pub mod Steps
+pub mod Lending

@@ -1,8 +1,8 @@
 // What a layer can be asked.
 ghost use mathlib.Core.Path.{_≡_};
-ghost use Rattle.layer.specs.Held.{mem, seen};
 ghost use Rattle.layer.specs.Answers.{saidCounted, saidNamed};
 ghost use Rattle.layer.specs.Calls.{indexOf, complete, numFeatures, numTags, nameOf};
+ghost use Rattle.layer.specs.Lending.{sees};
 use crate::Counted;
 use crate::Figures;
 use crate::Layer;
@@ -14,7 +14,7 @@ use table::Found;
 use table::Text;
 
 // The index of what was found, or of what goes last.
-pub fn index_of(f: Found, next: usize) -> usize
+pub(crate) fn index_of(f: Found, next: usize) -> usize
     ensures { λ r. ⌜ r ≡ indexOf f next ⌝ }
 {
     match f {
@@ -40,7 +40,7 @@ pub fn num_features(
     texts: &[u8],
     features: &[u32],
 ) -> Counted
-    ensures { λ r. ⌜ saidCounted r ≡ numFeatures (seen s (mem (now (keys .entry)) (now (values .entry)) (now (texts .entry)) (now (features .entry)))) ⌝ }
+    ensures { λ r. ⌜ saidCounted r ≡ numFeatures (sees s keys values texts features) ⌝ }
 {
     if !is_valid(s, keys, values, texts, features) {
         return Counted::Refused(Refusal::State, s);
@@ -53,7 +53,7 @@ pub fn num_features(
 
 // How many tag words the open feature has, two a tag.
 pub fn num_tags(s: Layer, keys: &[u32], values: &[u32], texts: &[u8], features: &[u32]) -> Counted
-    ensures { λ r. ⌜ saidCounted r ≡ numTags (seen s (mem (now (keys .entry)) (now (values .entry)) (now (texts .entry)) (now (features .entry)))) ⌝ }
+    ensures { λ r. ⌜ saidCounted r ≡ numTags (sees s keys values texts features) ⌝ }
 {
     if !is_valid(s, keys, values, texts, features) {
         return Counted::Refused(Refusal::State, s);
@@ -68,7 +68,7 @@ pub fn num_tags(s: Layer, keys: &[u32], values: &[u32], texts: &[u8], features: 
 
 // Where the name stands among the texts.
 pub fn name(s: Layer, keys: &[u32], values: &[u32], texts: &[u8], features: &[u32]) -> Named
-    ensures { λ r. ⌜ saidNamed r ≡ nameOf (seen s (mem (now (keys .entry)) (now (values .entry)) (now (texts .entry)) (now (features .entry)))) ⌝ }
+    ensures { λ r. ⌜ saidNamed r ≡ nameOf (sees s keys values texts features) ⌝ }
 {
     if !is_valid(s, keys, values, texts, features) {
         return Named::Refused(Refusal::State, s);

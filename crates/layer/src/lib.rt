@@ -1,17 +1,22 @@
 // A layer and its open feature (in the Rust: Layer and Feature of tile.rs). The layer's own record goes in and comes back by value; keys, values, texts
 // and feature records stand in four lent lists, of which the record says how much is used.
 // What a call costs: its STATE check reads the used part of every list once, so each call costs what the layer holds, and n features made by single calls
-// cost about n times that. `open_feature` and `mark_id` (and `tag` of crate tagging) are the same steps without that check.
+// cost about n times that. Whole features (`whole_feature`, `many`) ask it once.
 pub mod state; // the STATE check
-pub mod halves; // the two words of a 64-bit number
 pub mod feature; // opening, marking, completing and abandoning a feature
+pub mod tags; // a tag, one call for each kind of value
 pub mod asking; // the number of features and of tags, the name's place
+pub mod whole_feature; // a whole feature in one call
+pub mod many; // many whole features in one call
+mod value; // the value of a tag
+mod putting; // the steps of a tag
+mod lookup; // looking up by an index
 
 ghost use mathlib.Core.Path.{_≡_};
 ghost use Rattle.promise.specs.Answers.{Gives};
 ghost use Rattle.layer.specs.Held.{smaller, roomOf, fits};
 ghost use Rattle.layer.specs.Answers.{saidCreated};
-ghost use Rattle.layer.specs.Calls.{created};
+ghost use Rattle.layer.specs.Calls.{isShut, created};
 use refusal::Refusal;
 use table::Text;
 
@@ -27,6 +32,18 @@ pub struct Figures {
 pub enum Open {
     Shut,
     Since(Figures),
+}
+
+impl Open {
+    // Whether none is open.
+    pub fn is_shut(self) -> bool
+        ensures { λ r. ⌜ r ≡ isShut self ⌝ }
+    {
+        match self {
+            Open::Shut => true,
+            Open::Since(_) => false,
+        }
+    }
 }
 
 // The name is the first text, and so long.

@@ -3,8 +3,8 @@ ghost use mathlib.Core.Path.{_≡_};
 ghost use lib.ListN.{length};
 ghost use Rattle.records.specs.Records.{isFound};
 ghost use Rattle.layer.specs.declared.Open.the-variants.{Since};
-ghost use Rattle.layer.specs.Held.{mem, seen};
 ghost use Rattle.layer.specs.State.{recordsOk, valid};
+ghost use Rattle.layer.specs.Lending.{sees};
 use crate::Figures;
 use crate::Layer;
 use crate::Open;
@@ -45,7 +45,7 @@ fn records_ok(f: Open, used: Figures, ws: &[u32]) -> bool
 
 // Whether a layer and its lists break no rule of STATE.
 pub fn is_valid(s: Layer, keys: &[u32], values: &[u32], texts: &[u8], features: &[u32]) -> bool
-    ensures { λ r. ⌜ r ≡ valid (seen s (mem (now (keys .entry)) (now (values .entry)) (now (texts .entry)) (now (features .entry)))) ⌝ }
+    ensures { λ r. ⌜ r ≡ valid (sees s keys values texts features) ⌝ }
 {
     let used = s.used;
     let f = s.feature;

@@ -106,8 +106,8 @@ pub follow-one : (l r : List ℕ) → follow l ≡ true → whole r ≡ true →
 follow-one l r h w = found-more 0 0 l r h w
 
 -- ---- one record
-pub one-new : (kind : ℕ) (words : List ℕ) → isKind kind ≡ true → whole (kind ∷ 0 ∷ 0 ∷ 0 ∷ 0 ∷ length words ∷ words) ≡ true
-one-new kind words h = whole-of kind 0 0 0 0 (length words) words (rw h) (omega arith)
+pub one-new : (kind mark low high : ℕ) (words : List ℕ) → headOk kind mark ≡ true → whole (kind ∷ mark ∷ low ∷ high ∷ 0 ∷ length words ∷ words) ≡ true
+one-new kind mark low high words h = whole-of kind mark low high 0 (length words) words h (omega arith)
 
 pub one-tagged : (l : List ℕ) (k v : ℕ) → whole l ≡ true → whole (set (l ++ (k ∷ v ∷ [])) 4 (getD l 4 0 + 2)) ≡ true
 one-tagged l k v h = cases (λ (x : List ℕ). whole (set (x ++ (k ∷ v ∷ [])) 4 (getD x 4 0 + 2)) ≡ true) l h (λ a b c d e g r p m q. rw p (by a b c d e g r m q))

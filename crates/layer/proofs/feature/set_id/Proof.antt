@@ -1,9 +1,23 @@
--- The refusals are the chain's, and what follows it is what `mark_id` answers.
+-- The refusals are the chain's; else three words of the open record are laid anew, and they are there.
+use native.Mathlib.Omega.{arith}
 use Rattle.layer.proofs.Chains.{chain}
-use Rattle.layer.proofs.Asked.{marked-by}
+use Rattle.layer.proofs.Closing.{fitting, id-there, id-set}
 use borrow.Author.Needs.{needs}
 use Rattle.layer.proofs.feature.set_id.Statement.{statement}
 use Rattle.layer.proofs.feature.set_id.Tie as tie
+
+-- the places on the way
+abbrev start-before-is-valid : tie.After-is-valid → tie.Start
+start-before-is-valid c = c .before .before .before .before .before .before
+
+abbrev start-before-high : tie.After-high → tie.Start
+start-before-high c = start-before-is-valid (c .before .before .before .before .before .before)
+
+abbrev is-valid-before-high : tie.After-high → tie.After-is-valid
+is-valid-before-high c = c .before .before .before .before .before .before
+
+abbrev else1-before-words : tie.After-words → tie.Else1
+else1-before-words c = c .before .before .before .before .before .before
 
 is-valid-requires : tie.Need-is-valid-requires
 is-valid-requires c κs = search needs
@@ -26,14 +40,31 @@ same-length-2 c = search needs
 returns-2 : tie.Need-returns-2
 returns-2 c = search (needs, chain)
 
-mark-id-requires : tie.Need-mark-id-requires
-mark-id-requires c κs = search needs
+low-requires : tie.Need-low-requires
+low-requires c κs = search needs
+
+high-requires : tie.Need-high-requires
+high-requires c κs = search needs
+
+slice-aggregate-lay-words : tie.Need-slice-aggregate-lay-words
+slice-aggregate-lay-words c = search needs
+
+add-lay-words : tie.Need-add-lay-words
+add-lay-words c =
+    let g = start-before-high (c .before .before .before) .args in
+    let h = is-valid-before-high (c .before .before .before) .is-valid .ensures in
+    let l = else1-before-words (c .before .before) .if1 .left in
+    let o = c .before .before .before .before .before .before .f .given .1 in
+    omega (arith, fitting (g .s) (g .keys .now) (g .values .now) (g .texts .now) (g .features .now) _ h l _ o, id-there (g .s) (g .keys .now) (g .values .now) (g .texts .now) (g .features .now) _ h l _ o)
+
+lay-words-requires : tie.Need-lay-words-requires
+lay-words-requires c κs = search needs
 
 same-length-3 : tie.Need-same-length-3
 same-length-3 c = search needs
 
 returns-3 : tie.Need-returns-3
-returns-3 c = search (needs, chain, marked-by)
+returns-3 c = search (needs, id-set)
 
 pub set-id-spec : {M : Type 1} → statement M
 set-id-spec =
@@ -46,6 +77,10 @@ set-id-spec =
     enum-told
     same-length-2
     returns-2
-    mark-id-requires
+    low-requires
+    high-requires
+    slice-aggregate-lay-words
+    add-lay-words
+    lay-words-requires
     same-length-3
     returns-3)

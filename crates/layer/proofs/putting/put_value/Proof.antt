@@ -1,0 +1,50 @@
+-- Where the value was found nothing is put; else three words and the text have room and are laid.
+use Rattle.layer.proofs.Entering.{put-none, put-value}
+use borrow.Author.Needs.{needs}
+use Rattle.layer.proofs.putting.put_value.Statement.{statement}
+use Rattle.layer.proofs.putting.put_value.Tie as tie
+
+enum-told : tie.Need-enum-told
+enum-told c = search needs
+
+enum-told-2 : tie.Need-enum-told-2
+enum-told-2 c = search needs
+
+stored-as-requires : tie.Need-stored-as-requires
+stored-as-requires c κs = search needs
+
+slice-aggregate-lay-words : tie.Need-slice-aggregate-lay-words
+slice-aggregate-lay-words c = search needs
+
+lay-words-requires : tie.Need-lay-words-requires
+lay-words-requires c κs = search needs
+
+lay-bytes-requires : tie.Need-lay-bytes-requires
+lay-bytes-requires c κs = search needs
+
+returns : tie.Need-returns
+returns c = search (needs, put-none)
+
+same-length : tie.Need-same-length
+same-length c = search needs
+
+same-length-2 : tie.Need-same-length-2
+same-length-2 c = search needs
+
+returns-2 : tie.Need-returns-2
+returns-2 c = search (needs, put-value)
+
+pub put-value-spec : {M : Type 1} → statement M
+put-value-spec =
+    tie.close
+    (tie.spec
+    enum-told
+    enum-told-2
+    stored-as-requires
+    slice-aggregate-lay-words
+    lay-words-requires
+    lay-bytes-requires
+    returns
+    same-length
+    same-length-2
+    returns-2)

@@ -1,0 +1,201 @@
+// The tags of a layer's open feature (in the Rust: add_tag_string to add_tag_bool of Feature): one call for each kind of value. Floats and doubles are
+// given by their bits, since values are equal by bits. Each call costs its STATE check, which reads the used part of every list once, and a scan of the
+// keys and of the values.
+ghost use lib.ListN.{length};
+ghost use Rattle.layer.specs.Held.{mem};
+ghost use Rattle.layer.specs.Calls.{tagged, addTag, bitsOf, bitOf, tagString, tagBits};
+ghost use Rattle.layer.specs.Steps.{Ready};
+ghost use Rattle.layer.specs.Lending.{Does, given};
+use crate::Changed;
+use crate::Figures;
+use crate::Layer;
+use crate::Open;
+use crate::putting::grown;
+use crate::putting::put_tag;
+use crate::state::is_valid;
+use crate::value::bit_of;
+use crate::value::bits_of;
+use crate::value::value_of;
+use refusal::Refusal;
+use table::Text;
+use table::Value;
+
+// A tag of the feature opened at o, if it has room.
+fn tag(
+    s: Layer,
+    o: Figures,
+    key: &[u8],
+    v: Value,
+    text: &[u8],
+    keys: &mut [u32],
+    values: &mut [u32],
+    texts: &mut [u8],
+    features: &mut [u32],
+) -> Changed
+    requires { ⌜ Ready s o (length (now key)) (length (now text)) (mem (now keys) (now values) (now texts) (now features)) ⌝ }
+    ensures { λ r. ⌜ Does (λ w. tagged (given key v text) w o) s r keys values texts features ⌝ }
+{
+    let u = s.used;
+    let k = u.keys * 2;
+    let e = u.values * 3;
+    let t = u.texts;
+    let kf = table::key_pos(&keys[..k], &texts[..t], key);
+    let vf = table::val_pos(&values[..e], &texts[..t], v, text);
+    let after = grown(u, kf, vf, key.len(), text.len());
+    if !Layer::has_room_for(after, keys.len(), values.len(), texts.len(), features.len()) {
+        return Changed::Refused(Refusal::Room, s);
+    }
+    put_tag(u, o, kf, vf, key, v, text, keys, values, texts, features);
+    let f = s.feature;
+    Changed::Done(Layer {
+        extent: s.extent,
+        name: s.name,
+        used: after,
+        feature: f,
+    })
+}
+
+// The one tag call behind the seven: v is the value, and text its text where it is one.
+fn add_tag(
+    s: Layer,
+    key: &[u8],
+    v: Value,
+    text: &[u8],
+    keys: &mut [u32],
+    values: &mut [u32],
+    texts: &mut [u8],
+    features: &mut [u32],
+) -> Changed
+    ensures { λ r. ⌜ Does (addTag (given key v text)) s r keys values texts features ⌝ }
+{
+    if !is_valid(s, &keys[..], &values[..], &texts[..], &features[..]) {
+        return Changed::Refused(Refusal::State, s);
+    }
+    if !Text::may_have(key.len()) {
+        return Changed::Refused(Refusal::Text, s);
+    }
+    if !Text::may_have(text.len()) {
+        return Changed::Refused(Refusal::Text, s);
+    }
+    let f = s.feature;
+    let Open::Since(o) = f else {
+        return Changed::Refused(Refusal::Turn, s);
+    };
+    tag(s, o, key, v, text, keys, values, texts, features)
+}
+
+// A tag whose value is a text.
+pub fn add_tag_string(
+    s: Layer,
+    key: &[u8],
+    val: &[u8],
+    keys: &mut [u32],
+    values: &mut [u32],
+    texts: &mut [u8],
+    features: &mut [u32],
+) -> Changed
+    ensures { λ r. ⌜ Does (addTag (tagString (now (key .entry)) (now (val .entry)))) s r keys values texts features ⌝ }
+{
+    let v = Value {
+        kind: Value::TEXT,
+        low: 0,
+        high: 0,
+    };
+    add_tag(s, key, v, val, keys, values, texts, features)
+}
+
+// A tag whose value is a float, given by its bits.
+pub fn add_tag_float(
+    s: Layer,
+    key: &[u8],
+    bits: u32,
+    keys: &mut [u32],
+    values: &mut [u32],
+    texts: &mut [u8],
+    features: &mut [u32],
+) -> Changed
+    ensures { λ r. ⌜ Does (addTag (tagBits 2 (now (key .entry)) bits)) s r keys values texts features ⌝ }
+{
+    let v = value_of(Value::FLOAT, bits as u64);
+    add_tag(s, key, v, b"", keys, values, texts, features)
+}
+
+// A tag whose value is a double, given by its bits.
+pub fn add_tag_double(
+    s: Layer,
+    key: &[u8],
+    bits: u64,
+    keys: &mut [u32],
+    values: &mut [u32],
+    texts: &mut [u8],
+    features: &mut [u32],
+) -> Changed
+    ensures { λ r. ⌜ Does (addTag (tagBits 3 (now (key .entry)) bits)) s r keys values texts features ⌝ }
+{
+    let v = value_of(Value::DOUBLE, bits);
+    add_tag(s, key, v, b"", keys, values, texts, features)
+}
+
+// A tag whose value is an int.
+pub fn add_tag_int(
+    s: Layer,
+    key: &[u8],
+    val: i64,
+    keys: &mut [u32],
+    values: &mut [u32],
+    texts: &mut [u8],
+    features: &mut [u32],
+) -> Changed
+    ensures { λ r. ⌜ Does (addTag (tagBits 4 (now (key .entry)) (bitsOf val))) s r keys values texts features ⌝ }
+{
+    let v = value_of(Value::INT, bits_of(val));
+    add_tag(s, key, v, b"", keys, values, texts, features)
+}
+
+// A tag whose value is a uint.
+pub fn add_tag_uint(
+    s: Layer,
+    key: &[u8],
+    val: u64,
+    keys: &mut [u32],
+    values: &mut [u32],
+    texts: &mut [u8],
+    features: &mut [u32],
+) -> Changed
+    ensures { λ r. ⌜ Does (addTag (tagBits 5 (now (key .entry)) val)) s r keys values texts features ⌝ }
+{
+    let v = value_of(Value::UINT, val);
+    add_tag(s, key, v, b"", keys, values, texts, features)
+}
+
+// A tag whose value is a sint.
+pub fn add_tag_sint(
+    s: Layer,
+    key: &[u8],
+    val: i64,
+    keys: &mut [u32],
+    values: &mut [u32],
+    texts: &mut [u8],
+    features: &mut [u32],
+) -> Changed
+    ensures { λ r. ⌜ Does (addTag (tagBits 6 (now (key .entry)) (bitsOf val))) s r keys values texts features ⌝ }
+{
+    let v = value_of(Value::SINT, bits_of(val));
+    add_tag(s, key, v, b"", keys, values, texts, features)
+}
+
+// A tag whose value is a bool.
+pub fn add_tag_bool(
+    s: Layer,
+    key: &[u8],
+    val: bool,
+    keys: &mut [u32],
+    values: &mut [u32],
+    texts: &mut [u8],
+    features: &mut [u32],
+) -> Changed
+    ensures { λ r. ⌜ Does (addTag (tagBits 7 (now (key .entry)) (bitOf val))) s r keys values texts features ⌝ }
+{
+    let v = value_of(Value::BOOL, bit_of(val));
+    add_tag(s, key, v, b"", keys, values, texts, features)
+}
