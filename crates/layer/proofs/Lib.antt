@@ -14,3 +14,6 @@ pub mod ByKind
 pub mod Noting
 pub mod Keeping
 pub mod After
+pub mod Indexing
+pub mod Listing
+pub mod Placing

@@ -7,4 +7,5 @@ pub mod Whole
 pub mod Lookup
 pub mod Many
 pub mod Steps
+pub mod WholeSteps
 pub mod Lending

@@ -2,7 +2,7 @@
 -- serve, since it has no slots or fewer than its table has room for, is not used: its table is looked up by scan, and it stays as it is.
 use Prim.Native.Nat.{ℕ}
 use mathlib.Core.Path.{_≡_}
-use mathlib.Core.Bool.{cond}
+use mathlib.Core.Bool.{false, cond}
 use mathlib.Core.List.{List}
 use lib.ListN.{length}
 use Rattle.table.specs.declared.Found.{Found}
@@ -12,6 +12,7 @@ use Rattle.table.specs.Keys.{findKey}
 use Rattle.table.specs.Values.{findValue}
 use Rattle.index.specs.Chains.{serves, pushed}
 use Rattle.index.specs.Entries.{builtKeys, walkedKey, builtValues, walkedValue}
+use Rattle.layer.specs.declared.Figures.{Figures}
 use Rattle.layer.specs.Held.{Seen}
 
 pub record Index : Type 0 where
@@ -50,3 +51,10 @@ noted l room f n h = cond (serves (length l) room) (pushedNew f l n h) l
 pub record Current (v : Seen) (x : Index) : Type 0 where
   pub keys : x .keys ≡ keyIndex v (x .keys)
   pub values : x .values ≡ valueIndex v (x .values)
+
+-- lists as long as they were, and the same where they do not serve
+pub record Kept (room : Figures) (x y : Index) : Type 0 where
+  pub keys-long : length (y .keys) ≡ length (x .keys)
+  pub values-long : length (y .values) ≡ length (x .values)
+  pub keys-same : serves (length (x .keys)) (room .keys) ≡ false → y .keys ≡ x .keys
+  pub values-same : serves (length (x .values)) (room .values) ≡ false → y .values ≡ x .values

@@ -11,6 +11,7 @@ pub mod many; // many whole features in one call
 mod value; // the value of a tag
 mod putting; // the steps of a tag
 mod lookup; // looking up by an index
+mod tag_list; // a lent list of tags
 
 ghost use mathlib.Core.Path.{_≡_};
 ghost use Rattle.promise.specs.Answers.{Gives};

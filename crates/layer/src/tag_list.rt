@@ -1,0 +1,122 @@
+// A lent list of tags, five words each: where the key starts and how long it is, the value's kind, and then where its text starts and how long it is, or the
+// low and the high half of its content. The texts stand in a lent list of bytes.
+ghost use mathlib.Core.Path.{_≡_};
+ghost use Prim.Native.Nat.{_+_, _≤_};
+ghost use lib.ListN.{length};
+ghost use Rattle.layer.specs.TagLists.{okAt, tagsOk, shortAt, tagsShort, valueGiven, textPlace};
+ghost use Rattle.layer.specs.WholeSteps.{placeAt};
+use table::Text;
+use table::Value;
+
+// Where the parts of a tag stand.
+pub(crate) struct Place {
+    pub(crate) key: Text,
+    pub(crate) value: Value,
+    pub(crate) text: Text,
+}
+
+// Whether the five words at index i are a tag whose texts lie within so many bytes.
+fn tag_ok(tags: &[u32], i: usize, bytes: usize) -> bool
+    requires { ⌜ i + 5 ≤ length (now tags) ⌝ }
+    ensures { λ r. ⌜ r ≡ okAt bytes (now (tags .entry)) i ⌝ }
+{
+    let start = table::wide(tags[i]);
+    let len = table::wide(tags[i + 1]);
+    let value = [tags[i + 2], tags[i + 3], tags[i + 4]];
+    runs::has_room(start, len, bytes) & table::values_in(&value, bytes)
+}
+
+// Whether every five words are a tag, and the texts of all lie within so many bytes.
+pub(crate) fn is_tag_list(tags: &[u32], bytes: usize) -> bool
+    ensures { λ r. ⌜ r ≡ tagsOk bytes (now (tags .entry)) ⌝ }
+{
+    let mut i = 0;
+    while i < tags.len() {
+        if tags.len() - i < 5 {
+            return false;
+        }
+        if !tag_ok(tags, i, bytes) {
+            return false;
+        }
+        i += 5;
+    }
+    true
+}
+
+// The value of three words as its tag call makes it. Where a text stands is found when it is stored.
+fn value_given(kind: u32, low: u32, high: u32) -> Value
+    ensures { λ r. ⌜ r ≡ valueGiven kind low high ⌝ }
+{
+    if kind == Value::TEXT {
+        return Value {
+            kind: Value::TEXT,
+            low: 0,
+            high: 0,
+        };
+    }
+    Value {
+        kind: kind,
+        low: low,
+        high: high,
+    }
+}
+
+// Where the text of three words stands. What is no text has an empty one.
+fn text_of(kind: u32, low: u32, high: u32) -> Text
+    ensures { λ r. ⌜ r ≡ textPlace kind low high ⌝ }
+{
+    if kind == Value::TEXT {
+        return Text {
+            start: table::wide(low),
+            len: table::wide(high),
+        };
+    }
+    Text { start: 0, len: 0 }
+}
+
+// Whether neither the key nor the text of the five words at index i has more bytes than a text may have.
+fn is_short(tags: &[u32], i: usize) -> bool
+    requires { ⌜ i + 5 ≤ length (now tags) ⌝ }
+    ensures { λ r. ⌜ r ≡ shortAt (now (tags .entry)) i ⌝ }
+{
+    let len = table::wide(tags[i + 1]);
+    let text = text_of(tags[i + 2], tags[i + 3], tags[i + 4]);
+    Text::may_have(len) & Text::may_have(text.len)
+}
+
+// The same of every tag.
+pub(crate) fn are_short(tags: &[u32]) -> bool
+    ensures { λ r. ⌜ r ≡ tagsShort (now (tags .entry)) ⌝ }
+{
+    let mut i = 0;
+    while i < tags.len() {
+        if tags.len() - i < 5 {
+            return true;
+        }
+        if !is_short(tags, i) {
+            return false;
+        }
+        i += 5;
+    }
+    true
+}
+
+// Where the parts of the tag of the five words at index i stand.
+pub(crate) fn place_at(tags: &[u32], i: usize) -> Place
+    requires { ⌜ i + 5 ≤ length (now tags) ⌝ }
+    ensures { λ r. ⌜ r ≡ placeAt (now (tags .entry)) i ⌝ }
+{
+    let start = table::wide(tags[i]);
+    let len = table::wide(tags[i + 1]);
+    let kind = tags[i + 2];
+    let low = tags[i + 3];
+    let high = tags[i + 4];
+    Place {
+        key: Text {
+            start: start,
+            len: len,
+        },
+        value: value_given(kind, low, high),
+        text: text_of(kind, low, high),
+    }
+}
