@@ -48,4 +48,3 @@ seen-lengths s m e =
       texts = length-take-le (s .used .texts) (m .texts) (F .in-texts);
       features = length-take-le (s .used .features) (m .features) (F .in-features);
     }
-

@@ -17,3 +17,7 @@ pub mod After
 pub mod Indexing
 pub mod Listing
 pub mod Placing
+pub mod ByIndex
+pub mod Growth
+pub mod Filled
+pub mod Barring

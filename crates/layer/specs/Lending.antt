@@ -13,6 +13,7 @@ use Rattle.layer.specs.Held.{Memory, mem, Seen, seen, Change, written}
 use Rattle.layer.specs.Answers.{saidChanged}
 use Rattle.layer.specs.Calls.{Tag}
 use Rattle.layer.specs.Steps.{Puts}
+use Rattle.layer.specs.Lookup.{Index, idx}
 
 -- a lent list, at entry and at exit
 abbrev pub Lent : Type 0
@@ -40,3 +41,10 @@ given key v text = record { key = now (key .entry); value = v; text = now (text 
 abbrev pub Lays : Found → List ℕ → List ℕ → ℕ → ℕ → Lent → Lent → Type 0
 Lays f words text at start entries texts =
     Puts f words text at start (now (entries .entry)) (now (texts .entry)) (now (entries .exit)) (now (texts .exit))
+
+-- the two indexes lent beside the lists
+abbrev pub enteredIndex : Lent → Lent → Index
+enteredIndex k v = idx (now (k .entry)) (now (v .entry))
+
+abbrev pub leftIndex : Lent → Lent → Index
+leftIndex k v = idx (now (k .exit)) (now (v .exit))

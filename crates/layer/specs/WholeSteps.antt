@@ -1,19 +1,31 @@
 -- What the private steps of a whole feature ask for and leave behind. No promise of a public function rests on this.
 use Prim.Native.Nat.{ℕ, _+_, _≤_}
 use mathlib.Core.Path.{_≡_}
-use mathlib.Core.Bool.{Bool, true}
+use mathlib.Core.Bool.{Bool, true, false, cond}
 use mathlib.Core.List.{List}
 use lib.ListN.{length, getD}
-use Rattle.words.specs.Geometries.{maxWords}
+use lib.Dec.{leb}
+use Rattle.promise.specs.Answers.{Gives}
+use Rattle.refusal.specs.declared.Refusal.the-variants.{Job, Kind, State, Room, Text as TextRefusal, Turn}
+use Rattle.table.specs.Texts.{maxBytes}
+use Rattle.words.specs.Geometries.{isKind, maxWords}
+use Rattle.layer.specs.declared.Figures.{Figures}
+use Rattle.layer.specs.declared.Open.{Open}
+use Rattle.layer.specs.declared.Open.the-variants.{Shut, Since}
+use Rattle.layer.specs.declared.Changed.{Changed}
+use Rattle.layer.specs.declared.Changed.the-variants.{Done, Refused}
+use Rattle.layer.specs.declared.whole_feature.Asked.{Asked}
+use Rattle.layer.specs.declared.whole_feature.Asked.the-variants.{Fine, Barred}
 use Rattle.layer.specs.declared.tag_list.Place.{Place}
 use Rattle.layer.specs.declared.whole_feature.Head.{Head}
 use Rattle.layer.specs.declared.Layer.{Layer}
-use Rattle.layer.specs.Held.{Memory, fits, Seen, seen}
+use Rattle.layer.specs.Held.{Memory, fits, Seen, seen, Change, onto, written}
+use Rattle.layer.specs.Answers.{saidChanged}
 use Rattle.layer.specs.State.{valid}
-use Rattle.layer.specs.Calls.{Tag}
+use Rattle.layer.specs.Calls.{isShut, Tag, tagPut}
 use Rattle.layer.specs.TagLists.{valueGiven, textPlace, okAt, tagsOk, tagsShort, shortAt, tagsOf}
-use Rattle.layer.specs.Whole.{featurePut}
-use Rattle.layer.specs.Lookup.{Index, Current}
+use Rattle.layer.specs.Whole.{tagsPut, featurePut}
+use Rattle.layer.specs.Lookup.{Index, Current, Kept}
 
 -- where the parts of the tag of five words stand
 abbrev pub placeAt : List ℕ → ℕ → Place
@@ -42,3 +54,88 @@ pub record Asking (s : Layer) (words : ℕ) (ws bytes : List ℕ) (m : Memory) (
 -- r says whether the figures after a feature of so many words and of these tags fit, whatever else the feature is
 pub record Decides (r : Bool) (n : ℕ) (ts : List Tag) (v : Seen) : Type 0 where
   pub decides : (f : Head) (words : List ℕ) → length words ≡ n → r ≡ fits (featurePut f words ts v .layer .used) (v .room)
+
+-- ---- the checks before ROOM, as the one answer of `first_refusal`
+abbrev pub asked : Bool → Bool → Bool → Bool → Bool → Bool → Asked
+asked list kind stands short shut few =
+    cond list
+    (cond kind
+    (cond stands
+    (cond short (cond shut (cond few Fine (Barred Room)) (Barred Turn)) (Barred TextRefusal))
+    (Barred State))
+    (Barred Kind))
+    (Barred Job)
+
+abbrev pub asks : Open → Bool → ℕ → ℕ → List ℕ → ℕ → Asked
+asks f stands kind words ws bytes = asked (tagsOk bytes ws) (isKind kind) stands (tagsShort ws) (isShut f) (leb words maxWords)
+
+-- ---- putting
+-- what a step leaves behind of the lists m and the indexes x: what is seen then, with its indexes
+pub record Leaves (w : Seen) (r : Layer) (m n : Memory) (x y : Index) : Type 0 where
+  pub layer : r ≡ w .layer
+  pub memory : n ≡ onto (w .held) m
+  pub kept : Kept (w .room) x y
+  pub current : Current w y
+
+-- lists as long as they were
+pub record Long (m n : Memory) : Type 0 where
+  pub keys : length (n .keys) ≡ length (m .keys)
+  pub values : length (n .values) ≡ length (m .values)
+  pub texts : length (n .texts) ≡ length (m .texts)
+  pub features : length (n .features) ≡ length (m .features)
+
+-- a tag may be put: the layer breaks no rule of STATE, its feature was opened at o, and the figures after the tag fit
+pub record MayTag (s : Layer) (o : Figures) (t : Tag) (m : Memory) (x : Index) : Type 0 where
+  pub stands : valid (seen s m) ≡ true
+  pub since : s .feature ≡ Since o
+  pub room : fits (tagPut o t (seen s m) .layer .used) (seen s m .room) ≡ true
+  pub small-key : length (t .key) ≤ maxBytes
+  pub small-text : length (t .text) ≤ maxBytes
+  pub current : Current (seen s m) x
+
+-- so may the tags of a list
+pub record MayFill (s : Layer) (o : Figures) (ws bytes : List ℕ) (m : Memory) (x : Index) : Type 0 where
+  pub stands : valid (seen s m) ≡ true
+  pub since : s .feature ≡ Since o
+  pub list : tagsOk (length bytes) ws ≡ true
+  pub short : tagsShort ws ≡ true
+  pub room : fits (tagsPut o (tagsOf bytes ws) (seen s m) .layer .used) (seen s m .room) ≡ true
+  pub current : Current (seen s m) x
+
+-- nothing but ROOM can refuse the feature
+pub record Welcome (s : Layer) (kind : ℕ) (words ws bytes : List ℕ) (m : Memory) : Type 0 where
+  pub list : tagsOk (length bytes) ws ≡ true
+  pub kind-good : isKind kind ≡ true
+  pub stands : valid (seen s m) ≡ true
+  pub short : tagsShort ws ≡ true
+  pub shut : s .feature ≡ Shut
+  pub few : length words ≤ maxWords
+
+-- and it has room
+pub record MayPut (s : Layer) (f : Head) (words ws bytes : List ℕ) (m : Memory) (x : Index) : Type 0 where
+  pub welcome : Welcome s (f .kind) words ws bytes m
+  pub room : fits (featurePut f words (tagsOf bytes ws) (seen s m) .layer .used) (seen s m .room) ≡ true
+  pub current : Current (seen s m) x
+
+-- ---- a whole feature
+-- the indexes are those of what the layer holds where they are built, and there is no more to ask of them where they are not
+abbrev pub CurrentIf : Bool → Seen → Index → Type 0
+CurrentIf true v x = Current v x
+CurrentIf false v x = Unit {0}
+
+pub record Known (s : Layer) (stands built : Bool) (m : Memory) (x : Index) : Type 0 where
+  pub state : stands ≡ valid (seen s m)
+  pub current : CurrentIf built (seen s m) x
+
+pub record Given (s : Layer) (built : Bool) (f : Head) (words ws bytes : List ℕ) (m : Memory) (x : Index) : Type 0 where
+  pub welcome : Welcome s (f .kind) words ws bytes m
+  pub current : CurrentIf built (seen s m) x
+
+-- an accepted feature leaves the indexes right, and a refused one as they were
+abbrev pub IndexAfter : Changed → Memory → Figures → Index → Index → Type 0
+IndexAfter (Done t) n room x y = Kept room x y × Current (seen t n) y
+IndexAfter (Refused q s) n room x y = y ≡ x
+
+pub record LeavesFeature (c : Change) (s : Layer) (r : Changed) (m n : Memory) (x y : Index) : Type 0 where
+  pub gives : Gives (written c s m) (saidChanged r) n
+  pub index : IndexAfter r n (seen s m .room) x y

@@ -12,6 +12,7 @@ mod value; // the value of a tag
 mod putting; // the steps of a tag
 mod lookup; // looking up by an index
 mod tag_list; // a lent list of tags
+mod filling; // putting the tags of a list
 
 ghost use mathlib.Core.Path.{_≡_};
 ghost use Rattle.promise.specs.Answers.{Gives};

@@ -1,7 +1,138 @@
-// A whole feature in one call.
+// A whole feature in one call (in the Rust: a feature opened, tagged and closed). Everything that it was given is asked first, ROOM last; then it is written. The
+// single calls check the layer's STATE each; this one checks it once, so a feature costs what the layer holds and no more.
+ghost use mathlib.Core.Path.{_≡_};
+ghost use lib.ListN.{length};
+ghost use Rattle.layer.specs.Held.{mem};
+ghost use Rattle.layer.specs.TagLists.{tagsOf};
+ghost use Rattle.layer.specs.Whole.{markOf, idOf, featurePut, addFeature};
+ghost use Rattle.layer.specs.Lookup.{idx};
+ghost use Rattle.layer.specs.WholeSteps.{asks, Leaves, MayPut, Known, Given, LeavesFeature};
+ghost use Rattle.layer.specs.Lending.{Does, entered, left, sees, enteredIndex, leftIndex};
+use crate::Changed;
+use crate::Figures;
+use crate::Layer;
+use crate::Open;
+use crate::feature::lay_record;
+use crate::filling::put_tags;
+use crate::tag_list::are_short;
+use crate::tag_list::is_tag_list;
+use refusal::Refusal;
+use words::geometry::Geometry;
+
 // What a feature is besides its lists: its kind, and its id if it has one.
 pub struct Head {
     pub kind: u32,
     pub has_id: bool,
     pub id: u64,
+}
+
+// Whether a feature may be put, ROOM apart.
+pub(crate) enum Asked {
+    Fine,
+    Barred(Refusal),
+}
+
+// The first refusal but ROOM, in the order of the checks; stands says whether the layer breaks no rule of STATE.
+fn first_refusal(
+    f: Open,
+    stands: bool,
+    kind: u32,
+    words: usize,
+    tags: &[u32],
+    bytes: usize,
+) -> Asked
+    ensures { λ r. ⌜ r ≡ asks f stands kind words (now (tags .entry)) bytes ⌝ }
+{
+    if !is_tag_list(tags, bytes) {
+        return Asked::Barred(Refusal::Job);
+    }
+    let geometry = Geometry { kind: kind };
+    if !geometry.is_good() {
+        return Asked::Barred(Refusal::Kind);
+    }
+    if !stands {
+        return Asked::Barred(Refusal::State);
+    }
+    if !are_short(tags) {
+        return Asked::Barred(Refusal::Text);
+    }
+    if !f.is_shut() {
+        return Asked::Barred(Refusal::Turn);
+    }
+    if Geometry::MAX_WORDS < words {
+        return Asked::Barred(Refusal::Room);
+    }
+    Asked::Fine
+}
+
+fn mark_of(f: Head) -> u32
+    ensures { λ r. ⌜ r ≡ markOf f ⌝ }
+{
+    if f.has_id {
+        return 1;
+    }
+    0
+}
+
+fn id_of(f: Head) -> u64
+    ensures { λ r. ⌜ r ≡ idOf f ⌝ }
+{
+    if f.has_id {
+        return f.id;
+    }
+    0
+}
+
+// A feature that has room: its record, then its tags.
+fn put_feature(
+    s: Layer,
+    f: Head,
+    words: &[u32],
+    tags: &[u32],
+    bytes: &[u8],
+    keys: &mut [u32],
+    values: &mut [u32],
+    texts: &mut [u8],
+    features: &mut [u32],
+    ki: &mut [u32],
+    vi: &mut [u32],
+) -> Layer
+    requires { ⌜ MayPut s f (now words) (now tags) (now bytes) (mem (now keys) (now values) (now texts) (now features)) (idx (now ki) (now vi)) ⌝ }
+    ensures { λ r. ⌜ Leaves (featurePut f (now (words .entry)) (tagsOf (now (bytes .entry)) (now (tags .entry))) (sees s keys values texts features)) r (entered keys values texts features) (left keys values texts features) (enteredIndex ki vi) (leftIndex ki vi) ⌝ }
+{
+    let o = s.used;
+    let mark = mark_of(f);
+    let id = id_of(f);
+    lay_record(o.features, f.kind, mark, id, words, features);
+    let used = Figures {
+        keys: o.keys,
+        values: o.values,
+        texts: o.texts,
+        features: o.features + (6 + words.len()),
+    };
+    let opened = Layer {
+        extent: s.extent,
+        name: s.name,
+        used: used,
+        feature: Open::Since(o),
+    };
+    let t = put_tags(
+        opened,
+        o,
+        tags,
+        bytes,
+        keys,
+        values,
+        texts,
+        features,
+        ki,
+        vi,
+    );
+    let last = t.used;
+    Layer {
+        extent: t.extent,
+        name: t.name,
+        used: last,
+        feature: Open::Shut,
+    }
 }

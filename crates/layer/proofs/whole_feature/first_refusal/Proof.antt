@@ -1,0 +1,54 @@
+-- The early returns are the definition's tests in their order.
+use Rattle.layer.proofs.Barring.{bar-list, bar-kind, bar-state, bar-text, bar-turn, bar-words, bar-none, words-many, words-few}
+use borrow.Author.Needs.{needs}
+use Rattle.layer.proofs.whole_feature.first_refusal.Statement.{statement}
+use Rattle.layer.proofs.whole_feature.first_refusal.Tie as tie
+
+is-tag-list-requires : tie.Need-is-tag-list-requires
+is-tag-list-requires c κs = search needs
+
+returns : tie.Need-returns
+returns c = search (needs, bar-list)
+
+is-good-requires : tie.Need-is-good-requires
+is-good-requires c κs = search needs
+
+returns-2 : tie.Need-returns-2
+returns-2 c = search (needs, bar-kind)
+
+returns-3 : tie.Need-returns-3
+returns-3 c = search (needs, bar-state)
+
+are-short-requires : tie.Need-are-short-requires
+are-short-requires c κs = search needs
+
+returns-4 : tie.Need-returns-4
+returns-4 c = search (needs, bar-text)
+
+is-shut-requires : tie.Need-is-shut-requires
+is-shut-requires c κs = search needs
+
+returns-5 : tie.Need-returns-5
+returns-5 c = search (needs, bar-turn)
+
+returns-6 : tie.Need-returns-6
+returns-6 c = search (needs, bar-words, words-many)
+
+returns-7 : tie.Need-returns-7
+returns-7 c = search (needs, bar-none, words-few)
+
+pub first-refusal-spec : {M : Type 1} → statement M
+first-refusal-spec =
+    tie.close
+    (tie.spec
+    is-tag-list-requires
+    returns
+    is-good-requires
+    returns-2
+    returns-3
+    are-short-requires
+    returns-4
+    is-shut-requires
+    returns-5
+    returns-6
+    returns-7)
