@@ -42,7 +42,7 @@ module _ (bytes ws : List ℕ) (i : ℕ) (p : Place) (e : p ≡ placeAt ws i) wh
   sliced-left o v r m n x y L = subst (λ (t : Tag). Leaves (tagPut o t v) r m n x y) (tag-there bytes ws i p e) L
 
 -- ---- a tag of the list is one that the tag calls make
-value-given : (bytes kind low high : ℕ) (t : Bool) → eqb kind 1 ≡ t → valueOk bytes kind low high ≡ true → isValue (valueGiven kind low high) ≡ true
+pub value-given : (bytes kind low high : ℕ) (t : Bool) → eqb kind 1 ≡ t → valueOk bytes kind low high ≡ true → isValue (valueGiven kind low high) ≡ true
 value-given bytes kind low high true q e = rw q
 value-given bytes kind low high false q e = rw (q, q) (rw q at e)
 
@@ -197,7 +197,7 @@ module _ (s : Layer) (o : Figures) (ws bytes : List ℕ) (m : Memory) (x : Index
             kept = kept-on (seen s m .room) x y z (I .kept) (rw (I .room) at (L .kept));
             room = ap (λ (w : Seen). w .room) now ∙ I .room;
             long =
-            (let B = I .long in
-            let A = left-long after r n l y z L after-sound tag-room refl in
-            record { keys = A .keys ∙ B .keys; values = A .values ∙ B .values; texts = A .texts ∙ B .texts; features = A .features ∙ B .features });
+                (let B = I .long in
+                let A = left-long after r n l y z L after-sound tag-room refl in
+                record { keys = A .keys ∙ B .keys; values = A .values ∙ B .values; texts = A .texts ∙ B .texts; features = A .features ∙ B .features });
           }

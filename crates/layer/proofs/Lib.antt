@@ -21,3 +21,13 @@ pub mod ByIndex
 pub mod Growth
 pub mod Filled
 pub mod Barring
+pub mod Building
+pub mod Features
+pub mod Welcoming
+pub mod Walking
+pub mod Knowing
+pub mod Finding
+pub mod Needing
+pub mod Deciding
+pub mod Heads
+pub mod Going

@@ -45,7 +45,7 @@ pub step : (bytes : ℕ) (ws : List ℕ) (i : ℕ) → i + 5 ≤ length ws → t
 step bytes ws i h = rw (five ws i h)
 
 -- of a list that is one: the five words at an index, and the rest
-yes : (b t : Bool) → cond b t false ≡ true → (b ≡ true) × (t ≡ true)
+pub yes : (b t : Bool) → cond b t false ≡ true → (b ≡ true) × (t ≡ true)
 yes true t e = (refl, e)
 yes false t e = absurd (let z : _≡_ {A = ℕ} 0 1 = cc in omega arith)
 

@@ -14,6 +14,7 @@ use Rattle.layer.specs.Answers.{saidChanged}
 use Rattle.layer.specs.Calls.{Tag}
 use Rattle.layer.specs.Steps.{Puts}
 use Rattle.layer.specs.Lookup.{Index, idx}
+use Rattle.layer.specs.Many.{Lists, withIndex}
 
 -- a lent list, at entry and at exit
 abbrev pub Lent : Type 0
@@ -48,3 +49,6 @@ enteredIndex k v = idx (now (k .entry)) (now (v .entry))
 
 abbrev pub leftIndex : Lent → Lent → Index
 leftIndex k v = idx (now (k .exit)) (now (v .exit))
+
+abbrev pub leftLists : Lent → Lent → Lent → Lent → Lent → Lent → Lists
+leftLists k v t f ki vi = withIndex (left k v t f) (leftIndex ki vi)

@@ -8,4 +8,5 @@ pub mod Lookup
 pub mod Many
 pub mod Steps
 pub mod WholeSteps
+pub mod NeedSteps
 pub mod Lending

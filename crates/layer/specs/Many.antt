@@ -82,11 +82,13 @@ pub record Lists : Type 0 where
 abbrev pub withIndex : Memory → Index → Lists
 withIndex m x = record { lists = m; index = x }
 
--- the same, and the indexes are those of the layer that is answered, unless no feature was accepted
-abbrev pub addIndexed : List ℕ → List ℕ → List ℕ → List ℕ → Layer → Memory → Index → Written (Said Many) Lists
-addIndexed heads words ws bytes s m x =
-    let w = addFeatures heads words ws bytes s m in
+-- the indexes are those of the layer that is answered, unless no feature was accepted
+abbrev pub alongIndex : Written (Said Many) Memory → Index → Written (Said Many) Lists
+alongIndex w x =
     record {
       answer = w .answer;
       memory = withIndex (w .memory) (cond (eqb (w .answer .values .count) 0) x (indexed (seen (w .answer .values .layer) (w .memory)) x));
     }
+
+abbrev pub addIndexed : List ℕ → List ℕ → List ℕ → List ℕ → Layer → Memory → Index → Written (Said Many) Lists
+addIndexed heads words ws bytes s m x = alongIndex (addFeatures heads words ws bytes s m) x

@@ -5,7 +5,7 @@ use mathlib.Core.Bool.{Bool, true, false, cond}
 use mathlib.Core.List.{List}
 use lib.ListN.{length, getD}
 use lib.Dec.{leb}
-use Rattle.promise.specs.Answers.{Gives}
+use Rattle.refusal.specs.declared.Refusal.{Refusal}
 use Rattle.refusal.specs.declared.Refusal.the-variants.{Job, Kind, State, Room, Text as TextRefusal, Turn}
 use Rattle.table.specs.Texts.{maxBytes}
 use Rattle.words.specs.Geometries.{isKind, maxWords}
@@ -19,8 +19,7 @@ use Rattle.layer.specs.declared.whole_feature.Asked.the-variants.{Fine, 
 use Rattle.layer.specs.declared.tag_list.Place.{Place}
 use Rattle.layer.specs.declared.whole_feature.Head.{Head}
 use Rattle.layer.specs.declared.Layer.{Layer}
-use Rattle.layer.specs.Held.{Memory, fits, Seen, seen, Change, onto, written}
-use Rattle.layer.specs.Answers.{saidChanged}
+use Rattle.layer.specs.Held.{Memory, fits, Seen, seen, Change, refuses, holds, onto}
 use Rattle.layer.specs.State.{valid}
 use Rattle.layer.specs.Calls.{isShut, Tag, tagPut}
 use Rattle.layer.specs.TagLists.{valueGiven, textPlace, okAt, tagsOk, tagsShort, shortAt, tagsOf}
@@ -131,11 +130,24 @@ pub record Given (s : Layer) (built : Bool) (f : Head) (words ws bytes : List �
   pub welcome : Welcome s (f .kind) words ws bytes m
   pub current : CurrentIf built (seen s m) x
 
--- an accepted feature leaves the indexes right, and a refused one as they were
-abbrev pub IndexAfter : Changed → Memory → Figures → Index → Index → Type 0
-IndexAfter (Done t) n room x y = Kept room x y × Current (seen t n) y
-IndexAfter (Refused q s) n room x y = y ≡ x
+-- an accepted feature leaves a layer that breaks no rule of STATE, and the indexes right
+pub record Accepted (c : Change) (s t : Layer) (m n : Memory) (x y : Index) : Type 0 where
+  pub held : Memory
+  pub is : c ≡ holds t held
+  pub memory : n ≡ onto held m
+  pub stood : valid (seen s m) ≡ true
+  pub stands : valid (seen t n) ≡ true
+  pub long : Long m n
+  pub kept : Kept (seen s m .room) x y
+  pub current : Current (seen t n) y
 
-pub record LeavesFeature (c : Change) (s : Layer) (r : Changed) (m n : Memory) (x y : Index) : Type 0 where
-  pub gives : Gives (written c s m) (saidChanged r) n
-  pub index : IndexAfter r n (seen s m .room) x y
+-- a refused one leaves everything as it was
+pub record NotAccepted (c : Change) (q : Refusal) (s u : Layer) (m n : Memory) (x y : Index) : Type 0 where
+  pub is : c ≡ refuses q
+  pub layer : u ≡ s
+  pub memory : n ≡ m
+  pub index : y ≡ x
+
+abbrev pub LeavesFeature : Change → Layer → Changed → Memory → Memory → Index → Index → Type 0
+LeavesFeature c s (Done t) m n x y = Accepted c s t m n x y
+LeavesFeature c s (Refused q u) m n x y = NotAccepted c q s u m n x y

@@ -13,6 +13,8 @@ mod putting; // the steps of a tag
 mod lookup; // looking up by an index
 mod tag_list; // a lent list of tags
 mod filling; // putting the tags of a list
+mod indexes; // building the indexes
+mod need; // whether a whole feature has room
 
 ghost use mathlib.Core.Path.{_≡_};
 ghost use Rattle.promise.specs.Answers.{Gives};

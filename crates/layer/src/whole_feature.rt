@@ -1,6 +1,7 @@
 // A whole feature in one call (in the Rust: a feature opened, tagged and closed). Everything that it was given is asked first, ROOM last; then it is written. The
 // single calls check the layer's STATE each; this one checks it once, so a feature costs what the layer holds and no more.
 ghost use mathlib.Core.Path.{_≡_};
+ghost use mathlib.Core.Bool.{cond};
 ghost use lib.ListN.{length};
 ghost use Rattle.layer.specs.Held.{mem};
 ghost use Rattle.layer.specs.TagLists.{tagsOf};
@@ -14,6 +15,9 @@ use crate::Layer;
 use crate::Open;
 use crate::feature::lay_record;
 use crate::filling::put_tags;
+use crate::indexes::build_index;
+use crate::need::has_room;
+use crate::state::is_valid;
 use crate::tag_list::are_short;
 use crate::tag_list::is_tag_list;
 use refusal::Refusal;
@@ -135,4 +139,147 @@ fn put_feature(
         used: last,
         feature: Open::Shut,
     }
+}
+
+// So much of an index is used as is built of it.
+fn reach(built: bool, len: usize) -> usize
+    ensures { λ r. ⌜ r ≡ cond built len 0 ⌝ }
+{
+    if built {
+        return len;
+    }
+    0
+}
+
+// A feature that only ROOM can refuse. The indexes are built when the first one is accepted.
+fn add_welcome(
+    s: Layer,
+    built: bool,
+    f: Head,
+    words: &[u32],
+    tags: &[u32],
+    bytes: &[u8],
+    keys: &mut [u32],
+    values: &mut [u32],
+    texts: &mut [u8],
+    features: &mut [u32],
+    ki: &mut [u32],
+    vi: &mut [u32],
+) -> Changed
+    requires { ⌜ Given s built f (now words) (now tags) (now bytes) (mem (now keys) (now values) (now texts) (now features)) (idx (now ki) (now vi)) ⌝ }
+    ensures { λ r. ⌜ LeavesFeature (addFeature f (now (words .entry)) (now (tags .entry)) (now (bytes .entry)) (sees s keys values texts features)) s r (entered keys values texts features) (left keys values texts features) (enteredIndex ki vi) (leftIndex ki vi) ⌝ }
+{
+    let a = reach(built, ki.len());
+    let b = reach(built, vi.len());
+    if !has_room(
+        s,
+        words.len(),
+        tags,
+        bytes,
+        &keys[..],
+        &values[..],
+        &texts[..],
+        &features[..],
+        &ki[..a],
+        &vi[..b],
+    ) {
+        return Changed::Refused(Refusal::Room, s);
+    }
+    build_index(
+        s,
+        built,
+        &keys[..],
+        &values[..],
+        &texts[..],
+        &features[..],
+        ki,
+        vi,
+    );
+    Changed::Done(put_feature(
+        s,
+        f,
+        words,
+        tags,
+        bytes,
+        keys,
+        values,
+        texts,
+        features,
+        ki,
+        vi,
+    ))
+}
+
+// A whole feature, where it is known whether the layer breaks no rule of STATE: whoever adds many asks once.
+pub(crate) fn add_known(
+    s: Layer,
+    stands: bool,
+    built: bool,
+    f: Head,
+    words: &[u32],
+    tags: &[u32],
+    bytes: &[u8],
+    keys: &mut [u32],
+    values: &mut [u32],
+    texts: &mut [u8],
+    features: &mut [u32],
+    ki: &mut [u32],
+    vi: &mut [u32],
+) -> Changed
+    requires { ⌜ Known s stands built (mem (now keys) (now values) (now texts) (now features)) (idx (now ki) (now vi)) ⌝ }
+    ensures { λ r. ⌜ LeavesFeature (addFeature f (now (words .entry)) (now (tags .entry)) (now (bytes .entry)) (sees s keys values texts features)) s r (entered keys values texts features) (left keys values texts features) (enteredIndex ki vi) (leftIndex ki vi) ⌝ }
+{
+    let q = s.feature;
+    match first_refusal(q, stands, f.kind, words.len(), tags, bytes.len()) {
+        Asked::Barred(r) => Changed::Refused(r, s),
+        Asked::Fine => add_welcome(
+            s,
+            built,
+            f,
+            words,
+            tags,
+            bytes,
+            keys,
+            values,
+            texts,
+            features,
+            ki,
+            vi,
+        ),
+    }
+}
+
+// A whole feature of this head, with these geometry words and tags. The tags are five words each: where the key starts and how long it is, the value's kind, and
+// then where its text starts and how long it is, or the low and the high half of its content; the texts stand in bytes.
+pub fn add_feature(
+    s: Layer,
+    f: Head,
+    words: &[u32],
+    tags: &[u32],
+    bytes: &[u8],
+    keys: &mut [u32],
+    values: &mut [u32],
+    texts: &mut [u8],
+    features: &mut [u32],
+) -> Changed
+    ensures { λ r. ⌜ Does (addFeature f (now (words .entry)) (now (tags .entry)) (now (bytes .entry))) s r keys values texts features ⌝ }
+{
+    let stands = is_valid(s, &keys[..], &values[..], &texts[..], &features[..]);
+    let mut none = [0u32; 1];
+    let mut nothing = [0u32; 1];
+    add_known(
+        s,
+        stands,
+        true,
+        f,
+        words,
+        tags,
+        bytes,
+        keys,
+        values,
+        texts,
+        features,
+        &mut none,
+        &mut nothing,
+    )
 }

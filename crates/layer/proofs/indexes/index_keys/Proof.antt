@@ -1,0 +1,30 @@
+-- Built where it is used, and else as it was.
+use Rattle.layer.proofs.Building.{not-used, is-used}
+use borrow.Author.Needs.{needs}
+use Rattle.layer.proofs.indexes.index_keys.Statement.{statement}
+use Rattle.layer.proofs.indexes.index_keys.Tie as tie
+
+serves-requires : tie.Need-serves-requires
+serves-requires c κs = search needs
+
+returns : tie.Need-returns
+returns c = not-used _ _ _ _ (c .before .serves .ensures) (c .if1 .taken)
+
+build-keys-requires : tie.Need-build-keys-requires
+build-keys-requires c κs = search needs
+
+same-length : tie.Need-same-length
+same-length c = search needs
+
+returns-2 : tie.Need-returns-2
+returns-2 c = is-used _ _ _ _ (c .before .before .before .before .before .serves .ensures) (c .before .before .before .before .if1 .left) _ (c .before .before .build-keys .ensures)
+
+pub index-keys-spec : {M : Type 1} → statement M
+index-keys-spec =
+    tie.close
+    (tie.spec
+    serves-requires
+    returns
+    build-keys-requires
+    same-length
+    returns-2)

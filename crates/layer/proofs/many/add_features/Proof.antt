@@ -1,0 +1,102 @@
+-- JOB, where the heads are none; else STATE is asked once, and what follows is what `add_each` answers.
+use Rattle.layer.specs.Held.{mem}
+use Rattle.layer.specs.Lookup.{idx}
+use Rattle.layer.proofs.Going.{no-heads, heads-ok, all-added}
+use borrow.Author.Needs.{needs}
+use Rattle.layer.proofs.many.add_features.Statement.{statement}
+use Rattle.layer.proofs.many.add_features.Tie as tie
+
+-- the places on the way
+abbrev start-before-slice-known2 : tie.After-slice-known2 → tie.Start
+start-before-slice-known2 c = c .before .before .before .before .before .before
+
+abbrev start-before-else1 : tie.Else1 → tie.Start
+start-before-else1 c = start-before-slice-known2 (c .before .before .before .before .before .before)
+
+abbrev start-before-add-each-arg : tie.After-add-each-arg → tie.Start
+start-before-add-each-arg c = start-before-else1 (c .before .before .before .before .before .before)
+
+abbrev is-head-list-before-is-valid : tie.After-is-valid → tie.After-is-head-list
+is-head-list-before-is-valid c = c .before .before .before .before .before .before
+
+abbrev else1-before-add-each-arg : tie.After-add-each-arg → tie.Else1
+else1-before-add-each-arg c = c .before .before .before .before .before .before
+
+abbrev start-before-add-each : tie.After-add-each → tie.Start
+start-before-add-each c = start-before-add-each-arg (c .before .before .before .before .before .before)
+
+abbrev start-before-slice-known9 : tie.After-slice-known9 → tie.Start
+start-before-slice-known9 c = start-before-add-each (c .before .before .before .before .before .before)
+
+abbrev is-head-list-before-add-each-arg6 : tie.After-add-each-arg6 → tie.After-is-head-list
+is-head-list-before-add-each-arg6 c = is-head-list-before-is-valid (c .before .before .before .before .before .before)
+
+abbrev is-head-list-before-texts : tie.After-texts → tie.After-is-head-list
+is-head-list-before-texts c = is-head-list-before-add-each-arg6 (c .before .before .before .before .before .before)
+
+abbrev is-head-list-before-vi : tie.After-vi → tie.After-is-head-list
+is-head-list-before-vi c = is-head-list-before-texts (c .before .before .before .before .before .before)
+
+abbrev else1-before-add-each : tie.After-add-each → tie.Else1
+else1-before-add-each c = else1-before-add-each-arg (c .before .before .before .before .before .before)
+
+abbrev else1-before-slice-known9 : tie.After-slice-known9 → tie.Else1
+else1-before-slice-known9 c = else1-before-add-each (c .before .before .before .before .before .before)
+
+abbrev add-each-before-slice-known9 : tie.After-slice-known9 → tie.After-add-each
+add-each-before-slice-known9 c = c .before .before .before .before .before .before
+
+is-head-list-requires : tie.Need-is-head-list-requires
+is-head-list-requires c κs = search needs
+
+returns : tie.Need-returns
+returns c =
+    let g = start-before-slice-known2 (c .before .before .before .before .before .before) .args in
+    no-heads (g .heads .now) (g .words .now) (g .tags .now) (g .bytes .now) (g .s) (mem (g .keys .now) (g .values .now) (g .texts .now) (g .features .now)) (idx (g .ki .now) (g .vi .now)) _ (c .before .is-head-list .ensures) (c .if1 .taken)
+
+is-valid-requires : tie.Need-is-valid-requires
+is-valid-requires c κs = search needs
+
+add-each-requires : tie.Need-add-each-requires
+add-each-requires c κs =
+    let g = start-before-add-each-arg (c .before .before .before .before .before) .args in
+    (heads-ok (g .heads .now) (g .words .now) (g .tags .now) (g .bytes .now) (g .s) (mem (g .keys .now) (g .values .now) (g .texts .now) (g .features .now)) (idx (g .ki .now) (g .vi .now)) _ (is-head-list-before-is-valid (c .before .before .before .before .before .before) .is-head-list .ensures) (else1-before-add-each-arg (c .before .before .before .before .before) .if1 .left), c .before .before .before .before .before .before .is-valid .ensures)
+
+same-length : tie.Need-same-length
+same-length c = search needs
+
+same-length-2 : tie.Need-same-length-2
+same-length-2 c = search needs
+
+same-length-3 : tie.Need-same-length-3
+same-length-3 c = search needs
+
+same-length-4 : tie.Need-same-length-4
+same-length-4 c = search needs
+
+same-length-5 : tie.Need-same-length-5
+same-length-5 c = search needs
+
+same-length-6 : tie.Need-same-length-6
+same-length-6 c = search needs
+
+returns-2 : tie.Need-returns-2
+returns-2 c =
+    let g = start-before-slice-known9 (c .before .before .before .before .before .before) .args in
+    all-added (g .heads .now) (g .words .now) (g .tags .now) (g .bytes .now) (g .s) (mem (g .keys .now) (g .values .now) (g .texts .now) (g .features .now)) (idx (g .ki .now) (g .vi .now)) _ (is-head-list-before-vi (c .before) .is-head-list .ensures) (else1-before-slice-known9 (c .before .before .before .before .before .before) .if1 .left) _ _ _ (add-each-before-slice-known9 (c .before .before .before .before .before .before) .add-each .ensures)
+
+pub add-features-spec : {M : Type 1} → statement M
+add-features-spec =
+    tie.close
+    (tie.spec
+    is-head-list-requires
+    returns
+    is-valid-requires
+    add-each-requires
+    same-length
+    same-length-2
+    same-length-3
+    same-length-4
+    same-length-5
+    same-length-6
+    returns-2)
