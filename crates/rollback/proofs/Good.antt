@@ -1,238 +1,44 @@
 -- Every accepted call but abandoning gives a layer that breaks no rule of STATE, and parts as long as its figures say: `good`. Abandoning gives what was
--- held at opening; of a layer as calls make it, that breaks no rule either (crate rollback, proofs/Rolled).
-use Prim.Native.Nat.{ℕ, _+_, _*_, _≤_}
-use mathlib.Core.Path.{_≡_, refl, sym, ap, _∙_}
-use mathlib.Core.Bool.{Bool, true, false}
-use mathlib.Core.List.{List, [], _∷_, _++_, append-assoc}
-use native.Mathlib.Omega.{arith}
-use lib.ListN.{length, take, drop, getD, set, length-append, length-set, take-append-drop}
-use lib.Seq.{length-take-le, take-at, drop-at, take-append-le, drop-append-le, take-set-le, drop-set-add, getD-drop, take-take, take-add, drop-drop}
-use lib.Dec.{leb, eqb}
-use borrow.Author.Tests.{le-leb, leb-true}
+-- held at opening; of a layer as calls make it, that breaks no rule either (proofs/Rolled).
+use Prim.Native.Nat.{ℕ, _+_}
+use mathlib.Core.Path.{_≡_, refl}
+use mathlib.Core.Bool.{true}
+use mathlib.Core.List.{List, [], _∷_, _++_}
+use lib.ListN.{length}
+use lib.Dec.{leb}
 use Rattle.promise.specs.Laid.{lay}
-use Rattle.promise.proofs.Laying.{length-lay}
-use Rattle.refusal.specs.declared.Refusal.{Refusal}
 use Rattle.refusal.specs.declared.Refusal.the-variants.{Kind, State, Room, Text as TextRefusal, Turn}
-use Rattle.table.specs.declared.Found.{Found}
-use Rattle.table.specs.declared.Found.the-variants.{At, Nothing}
-use Rattle.table.specs.declared.Value.{Value}
 use Rattle.table.specs.Texts.{shortText}
-use Rattle.table.specs.Keys.{findKey, keysIn}
-use Rattle.table.specs.Values.{findValue, valuesIn}
-use Rattle.table.proofs.Growing.{keys-more, values-more}
 use Rattle.words.specs.Geometries.{isKind, maxWords}
-use Rattle.records.specs.Records.{follow, oneRecord}
-use Rattle.records.proofs.Growing.{whole as whole-record, one-whole, last-six, follow-one, one-new, one-tagged, one-marked}
 use Rattle.layer.specs.declared.Figures.{Figures}
-use Rattle.layer.specs.declared.Open.{Open}
 use Rattle.layer.specs.declared.Open.the-variants.{Shut, Since}
-use Rattle.layer.specs.Held.{Memory, Seen, Change, refuses, holds, check, whenOpen, fits}
-use Rattle.layer.specs.State.{valid, recordsOk}
-use Rattle.layer.specs.Calls.{isShut, moreWords, withUsed, withFeatures, newRecord, Tag, indexOf, moreOf, putOf, keyWords, valueWords, grownBy, heldWith}
-use Rattle.layer.proofs.Fitting.{Within, within, fits-yes}
-use Rattle.layer.proofs.Standing.{parts, whole, OpenParts, open-parts}
-use Rattle.layer.proofs.Entries.{length-put, twice, thrice}
-use Rattle.rollback.specs.Runs.{isValue, Call, opens, marks, tags, closes, abandons, does, next}
-
--- the parts are as long as the figures say
-pub record Lengths (v : Seen) : Type 0 where
-  pub keys : length (v .held .keys) ≡ v .layer .used .keys * 2
-  pub values : length (v .held .values) ≡ v .layer .used .values * 3
-  pub texts : length (v .held .texts) ≡ v .layer .used .texts
-  pub features : length (v .held .features) ≡ v .layer .used .features
-
-pub record Fine (v : Seen) : Type 0 where
-  pub stands : valid v ≡ true
-  pub lengths : Lengths v
+use Rattle.layer.specs.Held.{Seen, Change, refuses, holds, fits, next}
+use Rattle.layer.specs.State.{valid}
+use Rattle.layer.specs.Calls.{isShut, moreWords, withUsed, withFeatures, newRecord, Tag, isValue, keyFound, valueFound, tagPut}
+use Rattle.layer.proofs.Standing.{parts}
+use Rattle.layer.proofs.Keeping.{Lengths, Fine, sound, fine, by-check, by-open, is-shut, opened-sound, marked-sound, tag-sound, closed-sound}
+use Rattle.rollback.specs.Runs.{Call, opens, marks, tags, closes, abandons, does}
 
 -- of a change: nothing, where it refuses
 abbrev pub All : (Seen → Type 0) → Change → Seen → Type 0
 All P (refuses r) v = Unit {0}
 All P (holds t h) v = P (next (holds t h) v)
 
--- a change by its checks
-pub by-check : (P : Change → Type 0) (b : Bool) (r : Refusal) (c : Change) → P (refuses r) → (b ≡ true → P c) → P (check b r c)
-by-check P true r c f g = g refl
-by-check P false r c f g = f
+-- what each step keeps, with its room
+module _ (v : Seen) (L : Lengths v) (e : valid v ≡ true) where
+  pub opened-fine : (kind : ℕ) (words : List ℕ) → isKind kind ≡ true → v .layer .feature ≡ Shut → fits (moreWords (v .layer .used) (6 + length words)) (v .room) ≡ true → Fine (next (holds (withUsed (v .layer) (moreWords (v .layer .used) (6 + length words)) (Since (v .layer .used))) (withFeatures (v .held) (v .held .features ++ newRecord kind words))) v)
+  opened-fine kind words k f h = fine _ (opened-sound kind 0 0 words v (sound v e L) (rw k) f) h
 
-pub by-open : (P : Change → Type 0) (f : Open) (go : Figures → Change) → P (refuses Turn) → ((o : Figures) → f ≡ Since o → P (go o)) → P (whenOpen f go)
-by-open P Shut go f g = f
-by-open P (Since o) go f g = g o refl
+  module _ (o : Figures) (f : v .layer .feature ≡ Since o) where
+    pub closed-fine : Fine (next (holds (withUsed (v .layer) (v .layer .used) Shut) (v .held)) v)
+    closed-fine = fine _ (closed-sound v (sound v e L) o f) (parts v e .room)
 
-pub is-shut : (f : Open) → isShut f ≡ true → f ≡ Shut
-is-shut Shut e = refl
-is-shut (Since o) e = absurd (let z : _≡_ {A = ℕ} 0 1 = cc in omega arith)
+    pub marked-fine : (low high : ℕ) → Fine (next (holds (v .layer) (withFeatures (v .held) (lay (o .features + 1) (1 ∷ low ∷ high ∷ []) (v .held .features)))) v)
+    marked-fine low high = fine _ (marked-sound v (sound v e L) o f low high) (parts v e .room)
 
--- ---- runs laid into a list, before and behind a place
-pub take-lay-before : (n i : ℕ) (run l : List ℕ) → n ≤ i → i + length run ≤ length l → take n (lay i run l) ≡ take n l
-take-lay-before n i run l h k =
-    let e : length (take i l) ≡ i = length-take-le i l (omega arith) in
-    rw append-assoc (take-append-le n (take i l) (run ++ drop (i + length run) l) (omega arith) ∙ take-take n i l h)
+    pub tag-fine : (t : Tag) → isValue (t .value) ≡ true → fits (tagPut o t v .layer .used) (v .room) ≡ true → Fine (tagPut o t v)
+    tag-fine t g h = fine (tagPut o t v) (tag-sound v (sound v e L) o f t g (keyFound t v) (valueFound t v)) h
 
-drop-take : (n i : ℕ) (l : List ℕ) → n ≤ length l → drop n (take (n + i) l) ≡ take i (drop n l)
-drop-take n i l h = ap (drop n) (take-add n i l) ∙ drop-at (take n l) (take i (drop n l)) n (length-take-le n l h)
-
-pub drop-lay-add : (n i : ℕ) (run l : List ℕ) → n + i + length run ≤ length l → drop n (lay (n + i) run l) ≡ lay i run (drop n l)
-drop-lay-add n i run l h =
-    let e : length (take (n + i) l) ≡ n + i = length-take-le (n + i) l (omega arith) in
-    let a : drop n (take (n + i) l ++ run ++ drop (n + i + length run) l) ≡ drop n (take (n + i) l ++ run) ++ drop (n + i + length run) l =
-    drop-append-le n (take (n + i) l ++ run) (drop (n + i + length run) l) (omega (arith, length-append (take (n + i) l) run)) in
-    let b : drop n (take (n + i) l ++ run) ≡ drop n (take (n + i) l) ++ run = drop-append-le n (take (n + i) l) run (omega arith) in
-    let m : n + (i + length run) ≡ n + i + length run = omega arith in
-    let c : drop (i + length run) (drop n l) ≡ drop (n + i + length run) l = drop-drop (i + length run) n l ∙ ap (λ (k : ℕ). drop k l) m in
-    a ∙ rw (b, drop-take n i l (omega arith), c)
-
--- ---- new entries
-new-key : (f : Found) (start : ℕ) (key : List ℕ) (more : ℕ) → keysIn (start + moreOf f (length key) + more) (putOf f (keyWords start key)) ≡ true
-new-key (At j) start key more = refl
-new-key Nothing start key more = rw (le-leb (start + length key) (start + length key + more) (omega arith))
-
-value-of : (start : ℕ) (v : Value) (text : List ℕ) (t : Bool) → eqb (v .kind) 1 ≡ t → isValue v ≡ true → valuesIn (start + length text) (valueWords start v text) ≡ true
-value-of start v text true q g = rw (q, le-leb (start + length text) (start + length text) (omega arith))
-value-of start v text false q g = rw q (cc (rw q at g))
-
-new-value : (f : Found) (start : ℕ) (v : Value) (text : List ℕ) → isValue v ≡ true → valuesIn (start + moreOf f (length text)) (putOf f (valueWords start v text)) ≡ true
-new-value (At j) start v text g = refl
-new-value Nothing start v text g = value-of start v text (eqb (v .kind) 1) refl g
-
--- ---- opening
-module _ (kind : ℕ) (words : List ℕ) (v : Seen) (L : Lengths v) (e : valid v ≡ true) (k : isKind kind ≡ true) (f : v .layer .feature ≡ Shut) (h : fits (moreWords (v .layer .used) (6 + length words)) (v .room) ≡ true) where
-  abbrev opened-seen : Seen
-  opened-seen = next (holds (withUsed (v .layer) (moreWords (v .layer .used) (6 + length words)) (Since (v .layer .used))) (withFeatures (v .held) (v .held .features ++ newRecord kind words))) v
-
-  opened-records : recordsOk (Since (v .layer .used)) (moreWords (v .layer .used) (6 + length words)) (v .held .features ++ newRecord kind words) ≡ true
-  opened-records =
-      let n = v .layer .used .features in
-      let ws = v .held .features in
-      let p : follow ws ≡ true = rw f at (parts v e .records) in
-      let a = fits-yes (v .layer .used) (moreWords (v .layer .used) (6 + length words)) (record { keys = omega arith; values = omega arith; texts = omega arith; features = omega arith }) in
-      let b : take n (ws ++ newRecord kind words) ≡ ws = take-at ws (newRecord kind words) n (L .features) in
-      let d : drop n (ws ++ newRecord kind words) ≡ newRecord kind words = drop-at ws (newRecord kind words) n (L .features) in
-      let o : oneRecord (ws ++ newRecord kind words) n ≡ true =
-      one-whole (ws ++ newRecord kind words) n (omega (arith, length-append ws (newRecord kind words), L .features)) ∙ ap whole-record d ∙ one-new kind words k in
-      rw (a, b, p, o)
-
-  pub opened-fine : Fine opened-seen
-  opened-fine =
-      let P = parts v e in
-      record {
-        stands = whole opened-seen (record { room = h; name = P .name; keys = P .keys; values = P .values; records = opened-records });
-        lengths = record {
-          keys = L .keys;
-          values = L .values;
-          texts = L .texts;
-          features = omega (arith, length-append (v .held .features) (newRecord kind words), L .features);
-        };
-      }
-
--- ---- with a feature open
-module _ (v : Seen) (L : Lengths v) (e : valid v ≡ true) (o : Figures) (f : v .layer .feature ≡ Since o) where
-  open-of : OpenParts o (v .layer .used) (v .held .features)
-  open-of = open-parts (v .layer .feature) o (v .layer .used) (v .held .features) f (parts v e .records)
-
-  pub opening-in : Within o (v .layer .used)
-  opening-in = within o (v .layer .used) (open-of .room)
-
-  pub at-in : o .features ≤ length (v .held .features)
-  at-in = omega (arith, opening-in .features, L .features)
-
-  last-whole : whole-record (drop (o .features) (v .held .features)) ≡ true
-  last-whole = sym (one-whole (v .held .features) (o .features) at-in) ∙ open-of .last
-
-  pub six-in : o .features + 6 ≤ v .layer .used .features
-  six-in = omega (arith, last-six (v .held .features) (o .features) at-in (open-of .last), L .features)
-
-  pub closed-fine : Fine (next (holds (withUsed (v .layer) (v .layer .used) Shut) (v .held)) v)
-  closed-fine =
-      let P = parts v e in
-      let g : follow (v .held .features) ≡ true = rw take-append-drop at (follow-one (take (o .features) (v .held .features)) (drop (o .features) (v .held .features)) (open-of .before) last-whole) in
-      record {
-        stands = whole (next (holds (withUsed (v .layer) (v .layer .used) Shut) (v .held)) v) (record { room = P .room; name = P .name; keys = P .keys; values = P .values; records = g });
-        lengths = record { keys = L .keys; values = L .values; texts = L .texts; features = L .features };
-      }
-
-  -- a run laid within the open record
-  module _ (low high : ℕ) where
-    abbrev marked : List ℕ
-    marked = lay (o .features + 1) (1 ∷ low ∷ high ∷ []) (v .held .features)
-
-    pub marked-in : o .features + 1 + 3 ≤ length (v .held .features)
-    marked-in = omega (arith, six-in, L .features)
-
-    marked-records : recordsOk (v .layer .feature) (v .layer .used) marked ≡ true
-    marked-records =
-        let n = o .features in
-        let ws = v .held .features in
-        let a = take-lay-before n (o .features + 1) (1 ∷ low ∷ high ∷ []) ws (omega arith) marked-in in
-        let d = drop-lay-add n 1 (1 ∷ low ∷ high ∷ []) ws marked-in in
-        let l = length-lay (o .features + 1) (1 ∷ low ∷ high ∷ []) ws marked-in in
-        let w : oneRecord marked n ≡ true = one-whole marked n (omega (arith, at-in, l)) ∙ ap whole-record d ∙ one-marked (drop n ws) low high last-whole in
-        rw (f, open-of .room, a, open-of .before, w)
-
-    pub marked-fine : Fine (next (holds (v .layer) (withFeatures (v .held) marked)) v)
-    marked-fine =
-        let P = parts v e in
-        record {
-          stands = whole (next (holds (v .layer) (withFeatures (v .held) marked)) v) (record { room = P .room; name = P .name; keys = P .keys; values = P .values; records = marked-records });
-          lengths = record { keys = L .keys; values = L .values; texts = L .texts; features = length-lay (o .features + 1) (1 ∷ low ∷ high ∷ []) (v .held .features) marked-in ∙ L .features };
-        }
-
-  -- a tag
-  module _ (t : Tag) (g : isValue (t .value) ≡ true) (kf vf : Found) (h : fits (grownBy (v .layer .used) kf vf (length (t .key)) (length (t .text))) (v .room) ≡ true) where
-    abbrev grown : Figures
-    grown = grownBy (v .layer .used) kf vf (length (t .key)) (length (t .text))
-
-    abbrev after-tag : Memory
-    after-tag = heldWith (v .layer .used) o (v .held) t kf vf
-
-    pub tag-take : take (o .features) (after-tag .features) ≡ take (o .features) (v .held .features)
-    tag-take =
-        let ws = v .held .features in
-        let pair = indexOf kf (v .layer .used .keys) ∷ indexOf vf (v .layer .used .values) ∷ [] in
-        take-set-le (o .features) (ws ++ pair) (o .features + 4) (getD ws (o .features + 4) 0 + 2) (omega arith)
-        ∙ take-append-le (o .features) ws pair at-in
-
-    tag-drop : drop (o .features) (after-tag .features) ≡ set (drop (o .features) (v .held .features) ++ (indexOf kf (v .layer .used .keys) ∷ indexOf vf (v .layer .used .values) ∷ [])) 4 (getD (drop (o .features) (v .held .features)) 4 0 + 2)
-    tag-drop =
-        let ws = v .held .features in
-        let pair = indexOf kf (v .layer .used .keys) ∷ indexOf vf (v .layer .used .values) ∷ [] in
-        drop-set-add (o .features) (ws ++ pair) 4 (getD ws (o .features + 4) 0 + 2)
-        ∙ rw (drop-append-le (o .features) ws pair at-in, getD-drop (o .features) ws 4 0)
-
-    tag-length : length (after-tag .features) ≡ v .layer .used .features + 2
-    tag-length =
-        let ws = v .held .features in
-        let pair = indexOf kf (v .layer .used .keys) ∷ indexOf vf (v .layer .used .values) ∷ [] in
-        length-set (ws ++ pair) (o .features + 4) (getD ws (o .features + 4) 0 + 2) ∙ omega (arith, length-append ws pair, L .features)
-
-    tag-records : recordsOk (v .layer .feature) grown (after-tag .features) ≡ true
-    tag-records =
-        let W = opening-in in
-        let a = fits-yes o grown (record { keys = omega (arith, W .keys); values = omega (arith, W .values); texts = omega (arith, W .texts); features = omega (arith, W .features) }) in
-        let w : oneRecord (after-tag .features) (o .features) ≡ true =
-        one-whole (after-tag .features) (o .features) (omega (arith, tag-length, opening-in .features))
-        ∙ ap whole-record tag-drop
-        ∙ one-tagged (drop (o .features) (v .held .features)) (indexOf kf (v .layer .used .keys)) (indexOf vf (v .layer .used .values)) last-whole in
-        rw (f, a, tag-take, open-of .before, w)
-
-    pub tag-fine : Fine (next (holds (withUsed (v .layer) grown (v .layer .feature)) after-tag) v)
-    tag-fine =
-        let P = parts v e in
-        let u = v .layer .used in
-        let n : leb (v .layer .name) (grown .texts) ≡ true = le-leb (v .layer .name) (grown .texts) (omega (arith, leb-true (v .layer .name) (u .texts) (P .name))) in
-        let k = keys-more (u .texts) (grown .texts) (omega arith) (v .held .keys) (putOf kf (keyWords (u .texts) (t .key))) (P .keys) (new-key kf (u .texts) (t .key) (moreOf vf (length (t .text)))) in
-        let w = values-more (u .texts) (grown .texts) (omega arith) (v .held .values) (putOf vf (valueWords (u .texts + moreOf kf (length (t .key))) (t .value) (t .text))) (P .values) (new-value vf (u .texts + moreOf kf (length (t .key))) (t .value) (t .text) g) in
-        record {
-          stands = whole (next (holds (withUsed (v .layer) grown (v .layer .feature)) after-tag) v) (record { room = h; name = n; keys = k; values = w; records = tag-records });
-          lengths = record {
-            keys = omega (arith, length-append (v .held .keys) (putOf kf (keyWords (u .texts) (t .key))), L .keys, length-put kf (keyWords (u .texts) (t .key)), twice kf);
-            values = omega (arith, length-append (v .held .values) (putOf vf (valueWords (u .texts + moreOf kf (length (t .key))) (t .value) (t .text))), L .values, length-put vf (valueWords (u .texts + moreOf kf (length (t .key))) (t .value) (t .text)), thrice vf);
-            texts = omega (arith, length-append (v .held .texts) (putOf kf (t .key) ++ putOf vf (t .text)), length-append (putOf kf (t .key)) (putOf vf (t .text)), L .texts, length-put kf (t .key), length-put vf (t .text));
-            features = tag-length;
-          };
-        }
-
--- ---- every call but abandoning, accepted, gives a layer that breaks no rule
 pub good : (c : Call) (v : Seen) → (valid v ≡ true → Lengths v) → (c ≡ abandons → ⊥) → All Fine (does c v) v
 good (opens kind words) v L n =
     by-check (λ (x : Change). All Fine x v) (isKind kind) Kind _ tt (λ k.
@@ -240,7 +46,7 @@ good (opens kind words) v L n =
     by-check (λ (x : Change). All Fine x v) (isShut (v .layer .feature)) Turn _ tt (λ f.
     by-check (λ (x : Change). All Fine x v) (leb (length words) maxWords) Room _ tt (λ m.
     by-check (λ (x : Change). All Fine x v) (fits (moreWords (v .layer .used) (6 + length words)) (v .room)) Room _ tt (λ h.
-    opened-fine kind words v (L e) e k (is-shut (v .layer .feature) f) h)))))
+    opened-fine v (L e) e kind words k (is-shut (v .layer .feature) f) h)))))
 good (marks low high) v L n =
     by-check (λ (x : Change). All Fine x v) (valid v) State _ tt (λ e.
     by-open (λ (x : Change). All Fine x v) (v .layer .feature) _ tt (λ o f. marked-fine v (L e) e o f low high))
@@ -249,8 +55,8 @@ good (tags t g) v L n =
     by-check (λ (x : Change). All Fine x v) (shortText (length (t .key))) TextRefusal _ tt (λ a.
     by-check (λ (x : Change). All Fine x v) (shortText (length (t .text))) TextRefusal _ tt (λ b.
     by-open (λ (x : Change). All Fine x v) (v .layer .feature) _ tt (λ o f.
-    by-check (λ (x : Change). All Fine x v) (fits (grownBy (v .layer .used) (findKey 0 (v .held .keys) (v .held .texts) (t .key)) (findValue 0 (v .held .values) (v .held .texts) (t .value) (t .text)) (length (t .key)) (length (t .text))) (v .room)) Room _ tt (λ h.
-    tag-fine v (L e) e o f t g (findKey 0 (v .held .keys) (v .held .texts) (t .key)) (findValue 0 (v .held .values) (v .held .texts) (t .value) (t .text)) h)))))
+    by-check (λ (x : Change). All Fine x v) (fits (tagPut o t v .layer .used) (v .room)) Room _ tt (λ h.
+    tag-fine v (L e) e o f t g h)))))
 good closes v L n =
     by-check (λ (x : Change). All Fine x v) (valid v) State _ tt (λ e.
     by-open (λ (x : Change). All Fine x v) (v .layer .feature) _ tt (λ o f. closed-fine v (L e) e o f))

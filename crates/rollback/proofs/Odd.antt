@@ -7,9 +7,9 @@ use Rattle.refusal.specs.declared.Refusal.the-variants.{State}
 use Rattle.layer.specs.declared.Figures.{Figures}
 use Rattle.layer.specs.declared.Open.the-variants.{Since}
 use Rattle.layer.specs.declared.Layer.{Layer}
-use Rattle.layer.specs.Held.{Seen, seen, mem, refuses}
+use Rattle.layer.specs.Held.{Seen, seen, mem, refuses, next}
 use Rattle.layer.specs.State.{valid}
-use Rattle.rollback.specs.Runs.{abandons, does, next, opens}
+use Rattle.rollback.specs.Runs.{abandons, does, opens}
 
 atOpening : Figures
 atOpening = record { keys = 1; values = 0; texts = 0; features = 0 }

@@ -13,22 +13,21 @@ use lib.Seq.{take-at, take-all, take-append-le, length-take-le}
 use borrow.Author.Tests.{le-leb, eq-eqb}
 use Rattle.promise.specs.Laid.{lay}
 use Rattle.refusal.specs.declared.Refusal.the-variants.{Kind, State, Room, Text as TextRefusal, Turn}
-use Rattle.table.specs.declared.Found.{Found}
 use Rattle.table.specs.Texts.{shortText}
-use Rattle.table.specs.Keys.{findKey}
-use Rattle.table.specs.Values.{findValue}
 use Rattle.words.specs.Geometries.{isKind, maxWords}
 use Rattle.layer.specs.declared.Figures.{Figures}
 use Rattle.layer.specs.declared.Open.the-variants.{Shut, Since}
 use Rattle.layer.specs.declared.Layer.{Layer}
-use Rattle.layer.specs.Held.{Memory, Seen, seen, Change, refuses, holds, fits, heldBy, smaller, maxTexts}
+use Rattle.layer.specs.Held.{Memory, Seen, seen, Change, refuses, holds, fits, heldBy, smaller, maxTexts, next}
 use Rattle.layer.specs.State.{valid}
-use Rattle.layer.specs.Calls.{Tag, isShut, moreWords, withUsed, withFeatures, newRecord, grownBy, heldWith, moreOf, putOf, keyWords, valueWords, newLayer, tagString, tagBits, bitOf}
+use Rattle.layer.specs.Calls.{Tag, isValue, isShut, moreWords, withUsed, withFeatures, newRecord, moreOf, putOf, keyWords, valueWords, keyFound, valueFound, tagPut, newLayer, tagString, tagBits, bitOf}
 use Rattle.layer.proofs.Fitting.{both, Within, fits-yes, smaller-le}
 use Rattle.layer.proofs.Standing.{whole}
-use Rattle.rollback.specs.Runs.{isValue, Call, opens, marks, tags, closes, abandons, does, isOpenEnded, openEnded, next, answers, layerAfter, memoryAfter}
-use Rattle.rollback.proofs.Good.{Lengths, Fine, by-check, by-open, is-shut, take-lay-before, opened-fine, closed-fine, opening-in, marked-in, marked-fine, tag-take, tag-fine}
-use Rattle.rollback.proofs.Seen.{seen-lengths, seenAfter, after-seen, same-used}
+use Rattle.rollback.specs.Runs.{Call, opens, marks, tags, closes, abandons, does, isOpenEnded, openEnded, answers, layerAfter, memoryAfter}
+use Rattle.layer.proofs.Keeping.{Lengths, Fine, sound, by-check, by-open, is-shut, take-lay-before, opening-in, marked-in, tag-take}
+use Rattle.layer.proofs.After.{seen-lengths}
+use Rattle.rollback.proofs.Good.{opened-fine, closed-fine, marked-fine, tag-fine}
+use Rattle.rollback.proofs.Seen.{seenAfter, after-seen, same-used}
 
 -- v has a feature open, opened where v₀ was seen
 pub record From (v₀ v : Seen) : Type 0 where
@@ -58,7 +57,7 @@ module _ (v₀ : Seen) (L : valid v₀ ≡ true → Lengths v₀) (s : v₀ .lay
       by-check (λ (x : Change). Stage v₀ (next x v₀)) (isShut (v₀ .layer .feature)) Turn _ (inl refl) (λ f.
       by-check (λ (x : Change). Stage v₀ (next x v₀)) (leb (length words) maxWords) Room _ (inl refl) (λ m.
       by-check (λ (x : Change). Stage v₀ (next x v₀)) (fits (moreWords (v₀ .layer .used) (6 + length words)) (v₀ .room)) Room _ (inl refl) (λ h.
-      inr (record { extent = refl; name = refl; since = refl; cut = cut-opened kind words (L e); room = refl; fine = opened-fine kind words v₀ (L e) e k s h }))))))
+      inr (record { extent = refl; name = refl; since = refl; cut = cut-opened kind words (L e); room = refl; fine = opened-fine v₀ (L e) e kind words k s h }))))))
   start (marks low high) n =
       by-check (λ (x : Change). Stage v₀ (next x v₀)) (valid v₀) State _ (inl refl) (λ e.
       by-open (λ (x : Change). Stage v₀ (next x v₀)) (v₀ .layer .feature) _ (inl refl) (λ o f. not-open o f))
@@ -94,28 +93,30 @@ module _ (v₀ : Seen) (L : valid v₀ ≡ true → Lengths v₀) (s : v₀ .lay
           ap (λ (x : Figures). heldBy x h) (sym q) ∙ e ∙ ap (λ (x : Figures). heldBy x (v .held)) q ∙ F .cut
 
       in-used : Within o (v .layer .used)
-      in-used = opening-in v (F .fine .lengths) (F .fine .stands) o f
+      in-used = opening-in v (sound v (F .fine .stands) (F .fine .lengths)) o f
 
       marked-from : (low high : ℕ) → From v₀ (next (holds (v .layer) (withFeatures (v .held) (lay (o .features + 1) (1 ∷ low ∷ high ∷ []) (v .held .features)))) v)
       marked-from low high =
           let k : heldBy o (withFeatures (v .held) (lay (o .features + 1) (1 ∷ low ∷ high ∷ []) (v .held .features))) ≡ heldBy o (v .held) =
-          rw (take-lay-before (o .features) (o .features + 1) (1 ∷ low ∷ high ∷ []) (v .held .features) (omega arith) (marked-in v (F .fine .lengths) (F .fine .stands) o f low high)) in
+          rw (take-lay-before (o .features) (o .features + 1) (1 ∷ low ∷ high ∷ []) (v .held .features) (omega arith) (marked-in v (sound v (F .fine .stands) (F .fine .lengths)) o f low high)) in
           record { extent = F .extent; name = F .name; since = F .since; cut = cut-as _ k; room = F .room; fine = marked-fine v (F .fine .lengths) (F .fine .stands) o f low high }
 
-      module _ (t : Tag) (g : isValue (t .value) ≡ true) (kf vf : Found) (h : fits (grownBy (v .layer .used) kf vf (length (t .key)) (length (t .text))) (v .room) ≡ true) where
-        tag-kept : heldBy o (heldWith (v .layer .used) o (v .held) t kf vf) ≡ heldBy o (v .held)
+      module _ (t : Tag) (g : isValue (t .value) ≡ true) (h : fits (tagPut o t v .layer .used) (v .room) ≡ true) where
+        tag-kept : heldBy o (tagPut o t v .held) ≡ heldBy o (v .held)
         tag-kept =
             let W = in-used in
             let L = F .fine .lengths in
+            let kf = keyFound t v in
+            let vf = valueFound t v in
             rw (
               take-append-le (o .keys * 2) (v .held .keys) (putOf kf (keyWords (v .layer .used .texts) (t .key))) (omega (arith, W .keys, L .keys)),
               take-append-le (o .values * 3) (v .held .values) (putOf vf (valueWords (v .layer .used .texts + moreOf kf (length (t .key))) (t .value) (t .text))) (omega (arith, W .values, L .values)),
               take-append-le (o .texts) (v .held .texts) (putOf kf (t .key) ++ putOf vf (t .text)) (omega (arith, W .texts, L .texts)),
-              tag-take v (F .fine .lengths) (F .fine .stands) o f t g kf vf h,
+              tag-take v (sound v (F .fine .stands) (F .fine .lengths)) o f t g kf vf,
             )
 
-        tag-from : From v₀ (next (holds (withUsed (v .layer) (grownBy (v .layer .used) kf vf (length (t .key)) (length (t .text))) (v .layer .feature)) (heldWith (v .layer .used) o (v .held) t kf vf)) v)
-        tag-from = record { extent = F .extent; name = F .name; since = F .since; cut = cut-as (heldWith (v .layer .used) o (v .held) t kf vf) tag-kept; room = F .room; fine = tag-fine v (F .fine .lengths) (F .fine .stands) o f t g kf vf h }
+        tag-from : From v₀ (tagPut o t v)
+        tag-from = record { extent = F .extent; name = F .name; since = F .since; cut = cut-as (tagPut o t v .held) tag-kept; room = F .room; fine = tag-fine v (F .fine .lengths) (F .fine .stands) o f t g h }
 
     onward : (c : Call) → isOpenEnded c ≡ true → Stage v₀ (next (does c v) v)
     onward (opens kind words) n =
@@ -130,8 +131,8 @@ module _ (v₀ : Seen) (L : valid v₀ ≡ true → Lengths v₀) (s : v₀ .lay
         by-check (λ (x : Change). Stage v₀ (next x v)) (shortText (length (t .key))) TextRefusal _ (inr F) (λ a.
         by-check (λ (x : Change). Stage v₀ (next x v)) (shortText (length (t .text))) TextRefusal _ (inr F) (λ b.
         by-open (λ (x : Change). Stage v₀ (next x v)) (v .layer .feature) _ (inr F) (λ o f.
-        by-check (λ (x : Change). Stage v₀ (next x v)) (fits (grownBy (v .layer .used) (findKey 0 (v .held .keys) (v .held .texts) (t .key)) (findValue 0 (v .held .values) (v .held .texts) (t .value) (t .text)) (length (t .key)) (length (t .text))) (v .room)) Room _ (inr F) (λ h.
-        inr (tag-from o f t g (findKey 0 (v .held .keys) (v .held .texts) (t .key)) (findValue 0 (v .held .values) (v .held .texts) (t .value) (t .text)) h))))))
+        by-check (λ (x : Change). Stage v₀ (next x v)) (fits (tagPut o t v .layer .used) (v .room)) Room _ (inr F) (λ h.
+        inr (tag-from o f t g h))))))
     onward closes n = absurd (let z : _≡_ {A = ℕ} 0 1 = cc in omega arith)
     onward abandons n = inl back
 
@@ -216,7 +217,7 @@ never-state (tags t g) v S =
     (by-check OtherThanState (shortText (length (t .key))) TextRefusal _ (λ e. let z : _≡_ {A = ℕ} 0 1 = cc in omega arith) (λ a.
     by-check OtherThanState (shortText (length (t .text))) TextRefusal _ (λ e. let z : _≡_ {A = ℕ} 0 1 = cc in omega arith) (λ b.
     by-open OtherThanState (v .layer .feature) _ (λ e. let z : _≡_ {A = ℕ} 0 1 = cc in omega arith) (λ o f.
-    by-check OtherThanState (fits (grownBy (v .layer .used) (findKey 0 (v .held .keys) (v .held .texts) (t .key)) (findValue 0 (v .held .values) (v .held .texts) (t .value) (t .text)) (length (t .key)) (length (t .text))) (v .room)) Room _ (λ e. let z : _≡_ {A = ℕ} 0 1 = cc in omega arith) (λ h e.
+    by-check OtherThanState (fits (tagPut o t v .layer .used) (v .room)) Room _ (λ e. let z : _≡_ {A = ℕ} 0 1 = cc in omega arith) (λ h e.
     let z : _≡_ {A = ℕ} 0 1 = cc in omega arith)))))
 never-state closes v S =
     rw (S .fine .stands)

@@ -10,17 +10,14 @@ use lib.Seq.{length-take-le, take-at}
 use Rattle.refusal.specs.declared.Refusal.the-variants.{State}
 use Rattle.refusal.specs.Said.{Said, accepted, refused}
 use Rattle.layer.specs.declared.Layer.{Layer}
-use Rattle.layer.specs.Held.{Memory, roomOf, fits, Seen, seen, Change, refuses, holds, front, onto, written}
+use Rattle.layer.specs.Held.{Memory, Seen, seen, Change, refuses, holds, written, next}
 use Rattle.layer.specs.State.{valid}
 use Rattle.layer.proofs.Fitting.{within, fits-yes, fit}
 use Rattle.layer.proofs.Standing.{parts}
-use Rattle.rollback.specs.Runs.{Call, opens, marks, tags, closes, abandons, does, next, called, answers, layerAfter, memoryAfter}
-use Rattle.rollback.proofs.Good.{Lengths, Fine, All, good, by-check, by-open, opening-in}
-
--- ---- parts within the room
-pub record Sized (v : Seen) : Type 0 where
-  pub lengths : Lengths v
-  pub room : fits (v .layer .used) (v .room) ≡ true
+use Rattle.rollback.specs.Runs.{Call, opens, marks, tags, closes, abandons, does, called, answers, layerAfter, memoryAfter}
+use Rattle.layer.proofs.Keeping.{Lengths, Fine, sound, by-check, by-open, opening-in}
+use Rattle.layer.proofs.After.{Sized, seen-after, seen-lengths}
+use Rattle.rollback.proofs.Good.{All, good}
 
 fine-sized : (x : Change) (v : Seen) → All Fine x v → All Sized x v
 fine-sized (refuses r) v f = tt
@@ -30,7 +27,7 @@ cut-sized : (v : Seen) → valid v ≡ true → Lengths v → All Sized (does ab
 cut-sized v e L =
     by-check (λ (x : Change). All Sized x v) (valid v) State _ tt (λ e₂.
     by-open (λ (x : Change). All Sized x v) (v .layer .feature) _ tt (λ o f.
-    let W = opening-in v L e o f in
+    let W = opening-in v (sound v e L) o f in
     let R = within (v .layer .used) (v .room) (parts v e .room) in
     record {
       lengths = record {
@@ -52,38 +49,6 @@ sized abandons v L = by (valid v) refl
     by : (b : Bool) → valid v ≡ b → All Sized (does abandons v) v
     by true e = cut-sized v e (L e)
     by false e = rw e tt
-
--- ---- from the memory to what is seen of it
-take-front : (n : ℕ) (p l : List ℕ) → length p ≡ n → take n (front p l) ≡ p
-take-front n p l e = take-at p (drop (length p) l) n e
-
-length-front : (p l : List ℕ) → length p ≤ length l → length (front p l) ≡ length l
-length-front p l h = length-append p (drop (length p) l) ∙ rw length-drop (omega arith)
-
-module _ (t : Layer) (h : Memory) (m : Memory) (S : Sized (record { layer = t; held = h; room = roomOf (length (m .keys)) (length (m .values)) (length (m .texts)) (length (m .features)) })) where
-  pub seen-after : seen t (onto h m) ≡ record { layer = t; held = h; room = roomOf (length (m .keys)) (length (m .values)) (length (m .texts)) (length (m .features)) }
-  seen-after =
-      let L = S .lengths in
-      let F = fit (t .used) (length (m .keys)) (length (m .values)) (length (m .texts)) (length (m .features)) (S .room) in
-      let a = take-front (t .used .keys * 2) (h .keys) (m .keys) (L .keys) in
-      let b = take-front (t .used .values * 3) (h .values) (m .values) (L .values) in
-      let c = take-front (t .used .texts) (h .texts) (m .texts) (L .texts) in
-      let d = take-front (t .used .features) (h .features) (m .features) (L .features) in
-      let w = length-front (h .keys) (m .keys) (omega (arith, L .keys, F .in-keys)) in
-      let x = length-front (h .values) (m .values) (omega (arith, L .values, F .in-values)) in
-      let y = length-front (h .texts) (m .texts) (omega (arith, L .texts, F .in-texts)) in
-      let z = length-front (h .features) (m .features) (omega (arith, L .features, F .in-features)) in
-      rw (a, b, c, d, w, x, y, z)
-
-pub seen-lengths : (s : Layer) (m : Memory) → valid (seen s m) ≡ true → Lengths (seen s m)
-seen-lengths s m e =
-    let F = fit (s .used) (length (m .keys)) (length (m .values)) (length (m .texts)) (length (m .features)) (parts (seen s m) e .room) in
-    record {
-      keys = length-take-le (s .used .keys * 2) (m .keys) (F .in-keys);
-      values = length-take-le (s .used .values * 3) (m .values) (F .in-values);
-      texts = length-take-le (s .used .texts) (m .texts) (F .in-texts);
-      features = length-take-le (s .used .features) (m .features) (F .in-features);
-    }
 
 seen-change : (x : Change) (s : Layer) (m : Memory) → All Sized x (seen s m) → seen (written x s m .answer .values) (written x s m .memory) ≡ next x (seen s m)
 seen-change (refuses r) s m S = refl

@@ -2,20 +2,13 @@
 -- answers and leaves in memory.
 use Prim.Native.Nat.{ℕ}
 use mathlib.Core.Path.{_≡_}
-use mathlib.Core.Bool.{Bool, true, false, cond, _&&_}
+use mathlib.Core.Bool.{Bool, true, false, _&&_}
 use mathlib.Core.List.{List, [], _∷_}
-use lib.Dec.{eqb}
 use Rattle.promise.specs.Answers.{Written}
-use Rattle.table.specs.declared.Value.{Value}
-use Rattle.table.specs.Values.{valueOk}
 use Rattle.refusal.specs.Said.{Said}
 use Rattle.layer.specs.declared.Layer.{Layer}
-use Rattle.layer.specs.Held.{Memory, Seen, seen, Change, refuses, holds, written}
-use Rattle.layer.specs.Calls.{Tag, intoFeature, setId, addTag, intoLayer, abandoned}
-
--- a value as the seven tag calls make it: a text, or a content of its kind
-abbrev pub isValue : Value → Bool
-isValue v = cond (eqb (v .kind) 1) true (valueOk 0 (v .kind) (v .low) (v .high))
+use Rattle.layer.specs.Held.{Memory, Seen, seen, Change, written}
+use Rattle.layer.specs.Calls.{Tag, isValue, intoFeature, setId, addTag, intoLayer, abandoned}
 
 pub data Call : Type 0 where
   opens : ℕ → List ℕ → Call
@@ -31,7 +24,7 @@ does (tags t g) v = addTag t v
 does closes v = intoLayer v
 does abandons v = abandoned v
 
--- a call in memory: its answer and the memory after it are those that each function of crates `layer` and `tags` promises
+-- a call in memory: its answer and the memory after it are those that each function of crate `layer` promises
 abbrev pub called : Call → Layer → Memory → Written (Said Layer) Memory
 called c s m = written (does c (seen s m)) s m
 
@@ -60,8 +53,3 @@ isOpenEnded abandons = true
 abbrev pub openEnded : List Call → Bool
 openEnded [] = true
 openEnded (c ∷ cs) = isOpenEnded c && openEnded cs
-
--- what is seen after a call
-abbrev pub next : Change → Seen → Seen
-next (refuses r) v = v
-next (holds t h) v = record { layer = t; held = h; room = v .room }
