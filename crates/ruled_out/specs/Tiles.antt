@@ -1,4 +1,4 @@
--- Crates `layer_bytes` and `tile`: wrong bytes of a layer, and wrong answers of a tile's calls.
+-- Crate `tile`: wrong bytes of a layer, and wrong answers of a tile's calls.
 use Prim.Native.Nat.{ℕ, _+_, _*_}
 use mathlib.Core.Path.{_≡_, ap}
 use mathlib.Core.Bool.{false, cond, not, _&&_}
@@ -19,21 +19,21 @@ use Rattle.layer.specs.Held.{Memory, mem, Seen, seen, fits}
 use Rattle.layer.specs.State.{valid}
 use Rattle.layer.specs.Calls.{isShut, newLayer, created}
 use Rattle.wire.specs.declared.field.Field.the-variants.{TileLayer, LayerName, LayerExtent, LayerVersion}
-use Rattle.varint.specs.Varints.{varint}
+use Rattle.wire.specs.Varints.{varint}
 use Rattle.wire.specs.Schema.{head}
 use Rattle.wire.specs.Fields.{varintField, delimited}
-use Rattle.value_bytes.specs.Texts.{textOf, textField}
-use Rattle.value_bytes.specs.Values.{valueMessage}
-use Rattle.feature_bytes.specs.Features.{featureMessage}
-use Rattle.entry_bytes.specs.Entries.{keyFields, valueFields, featureFields}
-use Rattle.layer_bytes.specs.Layers.{version, layerBytes, layerField, nameAt}
+use Rattle.tile.specs.Texts.{textOf, textField}
+use Rattle.tile.specs.Values.{valueMessage}
+use Rattle.tile.specs.Features.{featureMessage}
+use Rattle.tile.specs.Entries.{keyFields, valueFields, featureFields}
+use Rattle.tile.specs.Layers.{version, layerBytes, layerField, nameAt}
 use Rattle.tile.specs.declared.Tile.{Tile}
 use Rattle.tile.specs.Tiles.{TileMemory, lists, nameRoom, byteRoom, usedNames, validTile, freshTile}
 use Rattle.tile.specs.Adding.{nameText, hasName, check, withLayer, appended, addLayer}
 use Rattle.tile.specs.Asking.{numLayers, computeSize, toBytes}
 use Rattle.ruled_out.specs.Inputs.{bit, item, firstExtent, layerOf, now, whole, begun}
 
--- ---- layer_bytes: the layer's message
+-- ---- the layer's message
 -- a layer of version 1
 pub version-one : ((s : Layer) (m : Memory) → layerBytes s m ≡ textField LayerName (m .texts) 0 (s .name) ++ (featureFields 0 (m .features)
     ++ (keyFields (m .texts) (m .keys) ++ (valueFields (m .texts) (m .values)
@@ -69,7 +69,7 @@ pub values-before-keys : ((s : Layer) (m : Memory) → layerBytes s m ≡ textFi
 unfolding layerBytes featureMessage valueMessage textField delimited varintField head varint
 values-before-keys h = let e : _≡_ {A = ℕ} 26 34 = ap (item 18) (h (layerOf now Shut) (whole .held)) in omega arith
 
--- ---- layer_bytes: the layer as a field of the tile
+-- ---- the layer as a field of the tile
 -- without its length
 pub layer-not-nested : ((v : Seen) → layerField v ≡ layerBytes (v .layer) (v .held)) → ⊥
 unfolding layerField layerBytes textField delimited varintField head varint

@@ -1,4 +1,4 @@
--- Crates `varint`, `wire`, `value_bytes`, `feature_bytes`, `entry_bytes`: wrong varints, fields and messages. A wrong clause of a definition by recursion is
+-- Crate `wire` and the messages of crate `tile`: wrong varints, fields and messages. A wrong clause of a definition by recursion is
 -- said as the equation that the definition would meet if it had that clause.
 use Prim.Native.Nat.{ℕ, zero, suc, _+_, _-_, _*_, _/_, _%_}
 use mathlib.Core.Path.{_≡_, ap}
@@ -11,21 +11,21 @@ use Rattle.promise.specs.Answers.{kept}
 use Rattle.promise.specs.Laid.{lay}
 use Rattle.whole.specs.Twos.{signed32, wide}
 use Rattle.words.specs.Params.{param}
-use Rattle.varint.specs.Varints.{varintOf, varint}
-use Rattle.varint.specs.Puts.{put}
-use Rattle.varint.specs.Numbers.{little, fixed32, fixed64, zigzag}
-use Rattle.varint.specs.Reading.{good, behind, readOf, readVarint}
+use Rattle.wire.specs.Varints.{varintOf, varint}
+use Rattle.wire.specs.Puts.{put}
+use Rattle.wire.specs.Numbers.{little, fixed32, fixed64, zigzag}
+use Rattle.wire.specs.Reading.{good, behind, readOf, readVarint}
 use Rattle.wire.specs.declared.field.ValueKind.the-variants.{Text, Float, Double, Int, Uint, Sint}
 use Rattle.wire.specs.declared.field.Field.{Field}
 use Rattle.wire.specs.declared.field.Field.the-variants.{LayerName, LayerFeature, LayerKey, LayerValue, LayerExtent, LayerVersion, FeatureId, FeatureTags}
 use Rattle.wire.specs.declared.field.Field.the-variants.{FeatureType, FeatureGeometry, Value}
 use Rattle.wire.specs.Schema.{varintType, kindNumber, kindType, numberOf, typeOf, keyOf, head}
 use Rattle.wire.specs.Fields.{varintField, fixed32Field, fixed64Field, delimited, varints, packedField}
-use Rattle.value_bytes.specs.Texts.{textOf, textField}
-use Rattle.value_bytes.specs.Values.{valueMessage}
-use Rattle.feature_bytes.specs.Features.{idField, featureMessage, recordSize, recordMessage}
-use Rattle.entry_bytes.specs.Sizes.{capped}
-use Rattle.entry_bytes.specs.Entries.{keyFields, valueFields, featureFields}
+use Rattle.tile.specs.Texts.{textOf, textField}
+use Rattle.tile.specs.Values.{valueMessage}
+use Rattle.tile.specs.Features.{idField, featureMessage, recordSize, recordMessage}
+use Rattle.tile.specs.Sizes.{capped}
+use Rattle.tile.specs.Entries.{keyFields, valueFields, featureFields}
 use Rattle.ruled_out.specs.Inputs.{item, readBytes}
 
 -- the largest number of 64 bits

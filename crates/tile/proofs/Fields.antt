@@ -11,8 +11,8 @@ use Rattle.layer.specs.declared.Layer.{Layer}
 use Rattle.layer.specs.Held.{mem, seen}
 use Rattle.layer.specs.State.{valid}
 use Rattle.layer.proofs.Standing.{parts, valid-fit}
-use Rattle.layer_bytes.specs.Layers.{layerField, nameAt}
-use Rattle.layer_bytes.proofs.Layers.{name-there, name-inside}
+use Rattle.tile.specs.Layers.{layerField, nameAt}
+use Rattle.tile.proofs.Layers.{name-there, name-inside}
 use Rattle.tile.specs.Adding.{nameText}
 
 module _ (s : Layer) (ks vs ts fs : List ℕ) (ok : valid (seen s (mem ks vs ts fs)) ≡ true) where

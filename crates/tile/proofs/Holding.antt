@@ -30,8 +30,8 @@ use Rattle.layer.specs.Held.{Seen}
 use Rattle.layer.specs.State.{valid}
 use Rattle.layer.specs.Calls.{isShut}
 use Rattle.layer.proofs.Fitting.{smaller-le}
-use Rattle.layer_bytes.specs.Layers.{layerBytes, layerField, nameAt}
-use Rattle.layer_bytes.proofs.Layers.{field-valid}
+use Rattle.tile.specs.Layers.{layerBytes, layerField, nameAt}
+use Rattle.tile.proofs.Layers.{field-valid}
 use Rattle.tile.specs.declared.Tile.{Tile}
 use Rattle.tile.specs.Tiles.{TileMemory, lists, maxTileBytes, nameRoom, byteRoom, usedNames, usedBytes, validTile, freshTile}
 use Rattle.tile.specs.Adding.{nameText, hasName, check, withLayer, addLayer}

@@ -12,6 +12,16 @@ ghost use Rattle.tile.specs.Answers.{saidTile, saidCounted};
 ghost use Rattle.tile.specs.Adding.{hasName, appended, addLayer};
 ghost use Rattle.tile.specs.Asking.{counted, numLayers, computeSize, toBytes};
 ghost use Rattle.tile.specs.Steps.{Ready};
+
+pub mod text; // a text of the layer as a field
+pub mod value; // the message of a value
+pub mod feature; // the message of a feature
+pub mod size; // sums of sizes
+pub mod feature_fields;
+pub mod key_fields;
+pub mod value_fields;
+pub mod layer_message; // the message of a layer, and the layer as a field of the tile
+
 use layer::Created;
 use layer::Layer;
 use layer::Open;
@@ -127,17 +137,17 @@ impl Tile {
     {
         let used = self.used;
         let layers = self.layers;
-        let size = layer_bytes::layer_size(s, keys, values, texts, features);
+        let size = layer_message::layer_size(s, keys, values, texts, features);
         if !runs::has_room(used, size, Tile::byte_room(bytes.len())) {
             return Added::Refused(Refusal::Room, self);
         }
         if !runs::has_room(layers, 1, Tile::name_room(names.len())) {
             return Added::Refused(Refusal::Room, self);
         }
-        let start = used + layer_bytes::name_at(s, keys, values, texts, features);
+        let start = used + layer_message::name_at(s, keys, values, texts, features);
         let name = [start as u32, s.name as u32];
         runs::lay_words(&name, names, layers * 2);
-        layer_bytes::put_layer(s, keys, values, texts, features, &mut bytes[used..]);
+        layer_message::put_layer(s, keys, values, texts, features, &mut bytes[used..]);
         Added::Done(Tile {
             extent: self.extent,
             used: used + size,

@@ -11,20 +11,20 @@ use Rattle.wire.specs.declared.field.Field.{Field}
 use Rattle.wire.specs.declared.field.Field.the-variants.{TileLayer, LayerName, LayerFeature, LayerKey, LayerValue, LayerExtent, LayerVersion, FeatureId, FeatureTags, FeatureType, FeatureGeometry, Value}
 use Rattle.wire.specs.Schema.{numberOf, typeOf, delimitedType}
 use Rattle.whole.specs.Twos.{wide}
-use Rattle.varint.specs.Numbers.{zigzag}
-use Rattle.varint.proofs.Numbers.{zigzag-fits}
-use Rattle.value_bytes.specs.Texts.{textOf, textField}
-use Rattle.value_bytes.specs.Values.{valueMessage}
-use Rattle.value_bytes.proofs.Texts.{text-field}
-use Rattle.value_bytes.proofs.Values.{value-short}
-use Rattle.feature_bytes.specs.Features.{featureMessage, recordMessage}
-use Rattle.feature_bytes.proofs.Features.{message-short, message-parts}
-use Rattle.entry_bytes.specs.Entries.{keyFields, valueFields, featureFields}
+use Rattle.wire.specs.Numbers.{zigzag}
+use Rattle.wire.proofs.Numbers.{zigzag-fits}
+use Rattle.tile.specs.Texts.{textOf, textField}
+use Rattle.tile.specs.Values.{valueMessage}
+use Rattle.tile.proofs.Texts.{text-field}
+use Rattle.tile.proofs.Values.{value-short}
+use Rattle.tile.specs.Features.{featureMessage, recordMessage}
+use Rattle.tile.proofs.Features.{message-short, message-parts}
+use Rattle.tile.specs.Entries.{keyFields, valueFields, featureFields}
 use Rattle.layer.specs.declared.Layer.{Layer}
 use Rattle.layer.specs.Held.{Memory, seen, fits}
-use Rattle.layer_bytes.specs.Layers.{version, layerBytes, layerField}
-use Rattle.layer_bytes.specs.Steps.{Few}
-use Rattle.layer_bytes.proofs.Layers.{layer-parts, layer-short, field-fits, field-unfit, few-seen}
+use Rattle.tile.specs.Layers.{version, layerBytes, layerField}
+use Rattle.tile.specs.Steps.{Few}
+use Rattle.tile.proofs.Layers.{layer-parts, layer-short, field-fits, field-unfit, few-seen}
 use Rattle.well_formed.specs.Messages.{Kind, tile, layer, feature, value, plain, inside, WellFormed, end}
 use Rattle.well_formed.proofs.Fields.{both, number-field, four-field, eight-field, body-field, packed-field, message-field}
 

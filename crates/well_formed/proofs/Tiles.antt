@@ -6,8 +6,8 @@ use mathlib.Core.List.{List, [], _∷_}
 use Rattle.wire.specs.declared.field.Field.the-variants.{TileLayer}
 use Rattle.wire.specs.Fields.{delimited}
 use Rattle.layer.specs.State.{valid}
-use Rattle.layer_bytes.specs.Layers.{layerBytes}
-use Rattle.layer_bytes.proofs.Layers.{field-valid}
+use Rattle.tile.specs.Layers.{layerBytes}
+use Rattle.tile.proofs.Layers.{field-valid}
 use Rattle.tile.specs.Holding.{Given, seenOf, tileBytes}
 use Rattle.well_formed.specs.Messages.{tile, WellFormed, end}
 use Rattle.well_formed.proofs.Fields.{both}

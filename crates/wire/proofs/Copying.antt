@@ -7,7 +7,7 @@ use native.Mathlib.Omega.{arith}
 use native.Mathlib.Nat.{le-antisymm}
 use lib.ListN.{length, getD, set, length-set}
 use lib.Seq.{paste, paste-zero, paste-suc, take-length}
-use Rattle.varint.specs.Puts.{Puts}
+use Rattle.wire.specs.Puts.{Puts}
 
 -- i bytes are copied
 pub record Copied (bytes out₀ out : List ℕ) (i : ℕ) : Type 0 where

@@ -1,3 +1,7 @@
+pub mod Fronts
+pub mod Varints
+pub mod Numbers
+pub mod Readback
 pub mod Schema
 pub mod Heads
 pub mod Fields

@@ -7,12 +7,12 @@ use lib.ListN.{length, getD, drop, length-append, drop-of-length-le}
 use lib.Seq.{drop-cons}
 use borrow.Rule.Slice.PartMut.{midOf, putMid}
 use Rattle.promise.specs.Answers.{Gives}
-use Rattle.varint.specs.Varints.{varint}
-use Rattle.varint.specs.Numbers.{Word}
+use Rattle.wire.specs.Varints.{varint}
+use Rattle.wire.specs.Numbers.{Word}
 use Rattle.wire.specs.Fields.{varints}
-use Rattle.varint.specs.Puts.{put, Puts}
-use Rattle.varint.proofs.Varints.{varint-five}
-use Rattle.varint.proofs.Fronts.{puts-none, puts-inside, puts-long, puts-more}
+use Rattle.wire.specs.Puts.{put, Puts}
+use Rattle.wire.proofs.Varints.{varint-five}
+use Rattle.wire.proofs.Fronts.{puts-none, puts-inside, puts-long, puts-more}
 
 next : (l : List ℕ) (j k : ℕ) → k ≡ suc j → j < length l → drop j l ≡ getD l j 0 ∷ drop k l
 next l j k e h = rw e (drop-cons l j 0 h)

@@ -5,8 +5,8 @@ use mathlib.Core.List.{List, [], _∷_, _++_}
 use lib.ListN.{length}
 use Rattle.wire.specs.declared.field.Field.{Field}
 use Rattle.wire.specs.declared.field.Field.the-variants.{TileLayer, LayerName, LayerExtent, LayerVersion}
-use Rattle.varint.specs.Varints.{varint}
-use Rattle.varint.specs.Numbers.{fixed32, fixed64}
+use Rattle.wire.specs.Varints.{varint}
+use Rattle.wire.specs.Numbers.{fixed32, fixed64}
 use Rattle.wire.specs.Schema.{head}
 
 -- a number as a varint. Of a delimited field this is what stands before its body: the number is the body's length

@@ -5,7 +5,7 @@ use Rattle.wire.specs.declared.field.ValueKind.{ValueKind}
 use Rattle.wire.specs.declared.field.ValueKind.the-variants.{Text, Float, Double, Int, Uint, Sint, Bool}
 use Rattle.wire.specs.declared.field.Field.{Field}
 use Rattle.wire.specs.declared.field.Field.the-variants.{TileLayer, LayerName, LayerFeature, LayerKey, LayerValue, LayerExtent, LayerVersion, FeatureId, FeatureTags, FeatureType, FeatureGeometry, Value}
-use Rattle.varint.specs.Varints.{varint}
+use Rattle.wire.specs.Varints.{varint}
 
 -- ---- PB: wire types
 abbrev pub varintType : ℕ
