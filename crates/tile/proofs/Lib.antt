@@ -1,5 +1,3 @@
-pub mod Running
-pub mod Nested
 pub mod Texts
 pub mod Values
 pub mod Features

@@ -3,8 +3,8 @@ use Prim.Native.Nat.{ℕ, _+_}
 use mathlib.Core.Path.{_≡_, refl}
 use mathlib.Core.Bool.{cond}
 use mathlib.Core.List.{List, [], _∷_, _++_}
-use lib.ListN.{length, take, drop}
-use lib.Dec.{leb, eqb}
+use lib.ListN.{take, drop, getD}
+use lib.Dec.{eqb}
 use Rattle.wire.specs.declared.field.Field.the-variants.{FeatureId, FeatureTags, FeatureType, FeatureGeometry}
 use Rattle.wire.specs.Varints.{varint}
 use Rattle.wire.specs.Schema.{head}
@@ -20,32 +20,19 @@ featureMessage kind mark low high tags geometry =
     idField mark low high ++ (packedField FeatureTags tags ++ (varintField FeatureType kind ++ packedField FeatureGeometry geometry))
 
 -- the record at the front of some words: kind, id mark, id low, id high, tag word count, geometry word count, the geometry, the tag words. How many words
--- it takes, none where no whole record stands there
+-- it takes, and its message
 abbrev pub recordSize : List ℕ → ℕ
-recordSize [] = 0
-recordSize (a ∷ []) = 0
-recordSize (a ∷ b ∷ []) = 0
-recordSize (a ∷ b ∷ c ∷ []) = 0
-recordSize (a ∷ b ∷ c ∷ d ∷ []) = 0
-recordSize (a ∷ b ∷ c ∷ d ∷ e ∷ []) = 0
-recordSize (kind ∷ mark ∷ low ∷ high ∷ tags ∷ geometry ∷ ws) = cond (leb (tags + geometry) (length ws)) (6 + geometry + tags) 0
+recordSize ws = 6 + getD ws 5 0 + getD ws 4 0
 
--- its message, empty where none stands there
-abbrev pub recordMessage : List ℕ → List ℕ
-recordMessage [] = []
-recordMessage (a ∷ []) = []
-recordMessage (a ∷ b ∷ []) = []
-recordMessage (a ∷ b ∷ c ∷ []) = []
-recordMessage (a ∷ b ∷ c ∷ d ∷ []) = []
-recordMessage (a ∷ b ∷ c ∷ d ∷ e ∷ []) = []
-recordMessage (kind ∷ mark ∷ low ∷ high ∷ tags ∷ geometry ∷ ws) =
-    cond (leb (tags + geometry) (length ws)) (featureMessage kind mark low high (take tags (drop geometry ws)) (take geometry ws)) []
+unfoldable pub recordMessage : List ℕ → List ℕ
+recordMessage ws =
+    featureMessage (getD ws 0 0) (getD ws 1 0) (getD ws 2 0) (getD ws 3 0) (take (getD ws 4 0) (drop (6 + getD ws 5 0) ws)) (take (getD ws 5 0) (drop 6 ws))
 
 -- ---- a point with the id 0 and a tag; and a line without id, tags and words: its type alone
 point-with-id : recordMessage (1 ∷ 1 ∷ 0 ∷ 0 ∷ 2 ∷ 3 ∷ 9 ∷ 4 ∷ 4 ∷ 0 ∷ 200 ∷ []) ≡ 8 ∷ 0 ∷ 18 ∷ 3 ∷ 0 ∷ 200 ∷ 1 ∷ 24 ∷ 1 ∷ 34 ∷ 3 ∷ 9 ∷ 4 ∷ 4 ∷ []
-unfolding featureMessage varintField delimited head varint
+unfolding recordMessage featureMessage varintField delimited head varint
 point-with-id = refl
 
 bare-line : recordMessage (2 ∷ 0 ∷ 0 ∷ 0 ∷ 0 ∷ 0 ∷ []) ≡ 24 ∷ 2 ∷ []
-unfolding featureMessage varintField delimited head varint
+unfolding recordMessage featureMessage varintField delimited head varint
 bare-line = refl

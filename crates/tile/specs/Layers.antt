@@ -1,17 +1,17 @@
--- MVT's message Layer: name 1, feature 2, key 3, value 4, extent 5, version 15 (2); fields in ascending number, name, extent and version always. And the layer as a field of the tile.
+-- MVT's message Layer: name 1, feature 2, key 3, value 4, extent 5, version 15 (2); fields in ascending number, name, extent and version always. And the
+-- layer as a field of the tile.
 use Prim.Native.Nat.{ℕ, _+_}
 use mathlib.Core.Path.{_≡_, refl}
-use mathlib.Core.Bool.{cond}
 use mathlib.Core.List.{List, [], _∷_, _++_}
 use lib.ListN.{length}
 use Rattle.layer.specs.declared.Layer.{Layer}
 use Rattle.layer.specs.declared.Open.the-variants.{Shut}
-use Rattle.layer.specs.Held.{Memory, mem, Seen, seen, fits}
+use Rattle.layer.specs.Held.{Memory, mem, Seen, seen}
 use Rattle.wire.specs.declared.field.Field.the-variants.{TileLayer, LayerName, LayerExtent, LayerVersion}
 use Rattle.wire.specs.Varints.{varint}
 use Rattle.wire.specs.Schema.{head}
 use Rattle.wire.specs.Fields.{varintField, delimited}
-use Rattle.tile.specs.Texts.{textOf, textField}
+use Rattle.tile.specs.Texts.{textField}
 use Rattle.tile.specs.Entries.{keyFields, valueFields, featureFields}
 
 -- MVT 2.1: the version of a layer is 2
@@ -27,16 +27,13 @@ layerBytes s h =
     ++ (valueFields (h .texts) (h .values)
     ++ (varintField LayerExtent (s .extent) ++ varintField LayerVersion version))))
 
--- the layer as a field of the tile. Where a used figure exceeds its list or cap there is none
+-- the layer as a field of the tile
 unfoldable pub layerField : Seen → List ℕ
-layerField v = cond (fits (v .layer .used) (v .room)) (delimited TileLayer (layerBytes (v .layer) (v .held))) []
+layerField v = delimited TileLayer (layerBytes (v .layer) (v .held))
 
 -- where the name's text starts in that field: behind the field's head and length and the name's
 unfoldable pub nameAt : Seen → ℕ
-nameAt v =
-    cond (fits (v .layer .used) (v .room))
-    (length (varintField TileLayer (length (layerBytes (v .layer) (v .held)))) + length (varintField LayerName (length (textOf (v .held .texts) 0 (v .layer .name)))))
-    0
+nameAt v = length (varintField TileLayer (length (layerBytes (v .layer) (v .held)))) + length (varintField LayerName (v .layer .name))
 
 -- ---- document 01's tile: extent 4096, layer "a" without features
 pub emptyLayer : Layer

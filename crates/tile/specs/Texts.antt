@@ -1,4 +1,4 @@
--- A text of a layer as a field. A text is so many bytes of the layer's texts, from a start on; of one that runs past their end, what there is.
+-- A text of a layer as a field. A text is so many bytes of the layer's texts, from a start on.
 use Prim.Native.Nat.{ℕ}
 use mathlib.Core.List.{List}
 use lib.ListN.{take, drop}

@@ -16,7 +16,7 @@ use Rattle.wire.specs.Fields.{varintField, fixed32Field, fixed64Field, delimite
 use Rattle.tile.specs.Texts.{textField}
 
 -- the message of a value's three words: its kind, then where its text starts and the text's length, or the low and the high half of its content.
--- No other kind has a field
+-- The kinds are seven (STATE): what is none of the first six is a bool
 unfoldable pub valueMessage : List ℕ → ℕ → ℕ → ℕ → List ℕ
 valueMessage texts kind low high =
     cond (eqb kind 1) (textField (Value Text) texts low high)
@@ -24,8 +24,7 @@ valueMessage texts kind low high =
     (cond (eqb kind 3) (fixed64Field (Value Double) (wide low high))
     (cond (eqb kind 4) (varintField (Value Int) (wide low high))
     (cond (eqb kind 5) (varintField (Value Uint) (wide low high))
-    (cond (eqb kind 6) (varintField (Value Sint) (zigzag (wide low high)))
-    (cond (eqb kind 7) (varintField (Value Bool) low) []))))))
+    (cond (eqb kind 6) (varintField (Value Sint) (zigzag (wide low high))) (varintField (Value Bool) low))))))
 
 -- ---- "b" among the texts "ab", the float 1.0, the double 1.0, the int -1, the largest uint, the sint -1, true
 text-b : valueMessage (97 ∷ 98 ∷ []) 1 1 1 ≡ 10 ∷ 1 ∷ 98 ∷ []

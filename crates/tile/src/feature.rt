@@ -6,6 +6,7 @@ ghost use Rattle.promise.specs.Answers.{Gives};
 ghost use Rattle.wire.specs.Numbers.{Word};
 ghost use Rattle.wire.specs.Puts.{put};
 ghost use Rattle.tile.specs.Features.{idField, featureMessage, recordMessage, recordSize};
+ghost use Rattle.tile.specs.Steps.{Writable};
 use wire::field::Field;
 use wire::head::put_varint_field;
 use wire::head::varint_field_size;
@@ -71,30 +72,21 @@ fn word(x: u32) -> usize
     x as usize
 }
 
-// How many words the record at the front takes; none where no whole one stands there.
-pub fn record_size(words: &[u32]) -> usize
+// How many words the record at the front takes.
+pub(crate) fn record_size(words: &[u32]) -> usize
+    requires { ⌜ recordSize (now words) ≤ length (now words) ⌝ }
     ensures { λ r. ⌜ r ≡ recordSize (now (words .entry)) ⌝ }
 {
-    if words.len() < 6 {
-        return 0;
-    }
-    let tags = word(words[4]);
-    let geometry = word(words[5]);
-    if words.len() - 6 < tags + geometry {
-        return 0;
-    }
-    6 + geometry + tags
+    6 + word(words[5]) + word(words[4])
 }
 
 // Of the record at the front of these words.
-pub fn feature_size(words: &[u32]) -> usize
+pub(crate) fn feature_size(words: &[u32]) -> usize
+    requires { ⌜ recordSize (now words) ≤ length (now words) ⌝ }
     ensures { λ r. ⌜ r ≡ length (recordMessage (now (words .entry))) ⌝ }
 {
-    let end = record_size(words);
-    if end == 0 {
-        return 0;
-    }
     let tags = 6 + word(words[5]);
+    let end = tags + word(words[4]);
     parts_size(
         words[0],
         words[1],
@@ -105,17 +97,12 @@ pub fn feature_size(words: &[u32]) -> usize
     )
 }
 
-pub fn put_feature(words: &[u32], out: &mut [u8]) -> usize
+pub(crate) fn put_feature(words: &[u32], out: &mut [u8]) -> usize
+    requires { ⌜ Writable (recordSize (now words) ≤ length (now words)) (recordMessage (now words)) (length (now out)) ⌝ }
     ensures { λ r. ⌜ Gives (put (recordMessage (now (words .entry))) (now (out .entry))) r (now (out .exit)) ⌝ }
 {
-    let end = record_size(words);
-    if end == 0 {
-        return 0;
-    }
-    if out.len() < feature_size(words) {
-        return 0;
-    }
     let tags = 6 + word(words[5]);
+    let end = tags + word(words[4]);
     put_parts(
         words[0],
         words[1],

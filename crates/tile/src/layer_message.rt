@@ -1,21 +1,19 @@
-// The bytes of a layer (MVT's message Layer), and the layer as a field of the tile. Sizes first: a layer that has no room has written nothing.
+// The bytes of a layer (MVT's message Layer), and the layer as a field of the tile. The size is reckoned first; what writes asks no more whether there is room.
 ghost use mathlib.Core.Path.{_≡_};
 ghost use mathlib.Core.Bool.{true};
-ghost use Prim.Native.Nat.{_≤_};
 ghost use lib.ListN.{length};
 ghost use Rattle.promise.specs.Answers.{Gives};
-ghost use Rattle.wire.specs.declared.field.Field.the-variants.{TileLayer};
-ghost use Rattle.wire.specs.Fields.{delimited};
 ghost use Rattle.wire.specs.Puts.{put};
-ghost use Rattle.layer.specs.Held.{mem, heldBy, seen, fits, roomOf};
-ghost use Rattle.tile.specs.Layers.{layerBytes, layerField, nameAt};
-ghost use Rattle.tile.specs.Steps.{Few};
+ghost use Rattle.layer.specs.Held.{heldBy, seen};
+ghost use Rattle.layer.specs.State.{valid};
+ghost use Rattle.tile.specs.Layers.{layerBytes, layerField};
+ghost use Rattle.tile.specs.Lending.{given, entered};
+ghost use Rattle.tile.specs.Steps.{Writable, Sound, Reckoned};
 use crate::feature_fields::features_size;
 use crate::feature_fields::put_features;
 use crate::key_fields::keys_size;
 use crate::key_fields::put_keys;
 use crate::text::put_text;
-use crate::text::text_at;
 use crate::text::text_size;
 use crate::value_fields::put_values;
 use crate::value_fields::values_size;
@@ -29,8 +27,8 @@ const VERSION: u64 = 2;
 
 // The message's size, of the used parts.
 fn message_size(s: Layer, keys: &[u32], values: &[u32], texts: &[u8], features: &[u32]) -> usize
-    requires { ⌜ Few (mem (now keys) (now values) (now texts) (now features)) ⌝ }
-    ensures { λ r. ⌜ r ≡ length (layerBytes s (mem (now (keys .entry)) (now (values .entry)) (now (texts .entry)) (now (features .entry)))) ⌝ }
+    requires { ⌜ Sound s (given keys values texts features) ⌝ }
+    ensures { λ r. ⌜ r ≡ length (layerBytes s (entered keys values texts features)) ⌝ }
 {
     let extent = s.extent;
     let name = text_size(Field::LayerName, texts, 0, s.name);
@@ -42,7 +40,7 @@ fn message_size(s: Layer, keys: &[u32], values: &[u32], texts: &[u8], features: 
     name + records + table + contents + last
 }
 
-// The message, of the used parts, at the front of a list that has room for it.
+// The message, of the used parts.
 fn put_message(
     s: Layer,
     keys: &[u32],
@@ -51,8 +49,8 @@ fn put_message(
     features: &[u32],
     out: &mut [u8],
 ) -> usize
-    requires { ⌜ length (layerBytes s (mem (now keys) (now values) (now texts) (now features))) ≤ length (now out) ⌝ }
-    ensures { λ r. ⌜ Gives (put (layerBytes s (mem (now (keys .entry)) (now (values .entry)) (now (texts .entry)) (now (features .entry)))) (now (out .entry))) r (now (out .exit)) ⌝ }
+    requires { ⌜ Writable (Sound s (given keys values texts features)) (layerBytes s (given keys values texts features)) (length (now out)) ⌝ }
+    ensures { λ r. ⌜ Gives (put (layerBytes s (entered keys values texts features)) (now (out .entry))) r (now (out .exit)) ⌝ }
 {
     let extent = s.extent;
     let name = put_text(Field::LayerName, texts, 0, s.name, out);
@@ -63,31 +61,16 @@ fn put_message(
     last + put_varint_field(Field::LayerVersion, VERSION, &mut out[last..])
 }
 
-// The field of the tile, of the used parts.
-fn put_field(
+// The message's size, of a layer that breaks no rule of STATE.
+pub(crate) fn held_size(
     s: Layer,
     keys: &[u32],
     values: &[u32],
     texts: &[u8],
     features: &[u32],
-    out: &mut [u8],
 ) -> usize
-    requires { ⌜ Few (mem (now keys) (now values) (now texts) (now features)) ⌝ }
-    ensures { λ r. ⌜ Gives (put (delimited TileLayer (layerBytes s (mem (now (keys .entry)) (now (values .entry)) (now (texts .entry)) (now (features .entry))))) (now (out .entry))) r (now (out .exit)) ⌝ }
-{
-    let size = message_size(s, keys, values, texts, features);
-    if out.len() < varint_field_size(Field::TileLayer, size as u64) + size {
-        return 0;
-    }
-    let at = put_varint_field(Field::TileLayer, size as u64, out);
-    let count = put_message(s, keys, values, texts, features, &mut out[at..]);
-    at + count
-}
-
-// The message's size, of figures that fit their lists.
-fn held_size(s: Layer, keys: &[u32], values: &[u32], texts: &[u8], features: &[u32]) -> usize
-    requires { ⌜ fits (s .used) (roomOf (length (now keys)) (length (now values)) (length (now texts)) (length (now features))) ≡ true ⌝ }
-    ensures { λ r. ⌜ r ≡ length (layerBytes s (heldBy (s .used) (mem (now (keys .entry)) (now (values .entry)) (now (texts .entry)) (now (features .entry))))) ⌝ }
+    requires { ⌜ valid (seen s (given keys values texts features)) ≡ true ⌝ }
+    ensures { λ r. ⌜ r ≡ length (layerBytes s (heldBy (s .used) (entered keys values texts features))) ⌝ }
 {
     let used = s.used;
     let k = used.keys * 2;
@@ -97,55 +80,32 @@ fn held_size(s: Layer, keys: &[u32], values: &[u32], texts: &[u8], features: &[u
     message_size(s, &keys[..k], &values[..v], &texts[..t], &features[..w])
 }
 
-pub fn layer_size(s: Layer, keys: &[u32], values: &[u32], texts: &[u8], features: &[u32]) -> usize
-    ensures { λ r. ⌜ r ≡ length (layerField (seen s (mem (now (keys .entry)) (now (values .entry)) (now (texts .entry)) (now (features .entry))))) ⌝ }
-{
-    let used = s.used;
-    if !Layer::has_room_for(used, keys.len(), values.len(), texts.len(), features.len()) {
-        return 0;
-    }
-    let size = held_size(s, keys, values, texts, features);
-    varint_field_size(Field::TileLayer, size as u64) + size
-}
-
-// Where the name's text starts in the field: a tile keeps that place.
-pub fn name_at(s: Layer, keys: &[u32], values: &[u32], texts: &[u8], features: &[u32]) -> usize
-    ensures { λ r. ⌜ r ≡ nameAt (seen s (mem (now (keys .entry)) (now (values .entry)) (now (texts .entry)) (now (features .entry)))) ⌝ }
-{
-    let used = s.used;
-    if !Layer::has_room_for(used, keys.len(), values.len(), texts.len(), features.len()) {
-        return 0;
-    }
-    let t = used.texts;
-    let size = held_size(s, keys, values, texts, features);
-    let lead = varint_field_size(Field::TileLayer, size as u64);
-    lead + text_at(Field::LayerName, &texts[..t], 0, s.name)
-}
-
-pub fn put_layer(
+// The field of the tile, of a layer whose message has this size.
+pub(crate) fn put_layer(
     s: Layer,
+    size: usize,
     keys: &[u32],
     values: &[u32],
     texts: &[u8],
     features: &[u32],
     out: &mut [u8],
 ) -> usize
-    ensures { λ r. ⌜ Gives (put (layerField (seen s (mem (now (keys .entry)) (now (values .entry)) (now (texts .entry)) (now (features .entry))))) (now (out .entry))) r (now (out .exit)) ⌝ }
+    requires { ⌜ Reckoned (seen s (given keys values texts features)) size (length (now out)) ⌝ }
+    ensures { λ r. ⌜ Gives (put (layerField (seen s (entered keys values texts features))) (now (out .entry))) r (now (out .exit)) ⌝ }
 {
     let used = s.used;
-    if !Layer::has_room_for(used, keys.len(), values.len(), texts.len(), features.len()) {
-        return 0;
-    }
     let k = used.keys * 2;
     let v = used.values * 3;
     let t = used.texts;
     let w = used.features;
-    put_field(
+    let at = put_varint_field(Field::TileLayer, size as u64, out);
+    let count = put_message(
         s,
         &keys[..k],
         &values[..v],
         &texts[..t],
         &features[..w],
-        out,
-    )
+        &mut out[at..],
+    );
+    at + count
 }

@@ -1,9 +1,12 @@
 // The message of a value, by its kind.
 ghost use mathlib.Core.Path.{_≡_};
+ghost use mathlib.Core.Bool.{true};
 ghost use lib.ListN.{length};
 ghost use Rattle.promise.specs.Answers.{Gives};
 ghost use Rattle.wire.specs.Puts.{put};
+ghost use Rattle.table.specs.Values.{valueOk};
 ghost use Rattle.tile.specs.Values.{valueMessage};
+ghost use Rattle.tile.specs.Steps.{Writable};
 use crate::text::put_text;
 use crate::text::text_size;
 use wire::field::Field;
@@ -16,7 +19,8 @@ use wire::head::varint_field_size;
 use wire::number::wide;
 use wire::number::zigzag;
 
-pub fn value_size(texts: &[u8], kind: u32, low: u32, high: u32) -> usize
+pub(crate) fn value_size(texts: &[u8], kind: u32, low: u32, high: u32) -> usize
+    requires { ⌜ valueOk (length (now texts)) kind low high ≡ true ⌝ }
     ensures { λ r. ⌜ r ≡ length (valueMessage (now (texts .entry)) kind low high) ⌝ }
 {
     if kind == 1 {
@@ -42,13 +46,11 @@ pub fn value_size(texts: &[u8], kind: u32, low: u32, high: u32) -> usize
     if kind == 6 {
         return varint_field_size(Field::Value(ValueKind::Sint), zigzag(wide(low, high)));
     }
-    if kind == 7 {
-        return varint_field_size(Field::Value(ValueKind::Bool), low as u64);
-    }
-    0
+    varint_field_size(Field::Value(ValueKind::Bool), low as u64)
 }
 
-pub fn put_value(texts: &[u8], kind: u32, low: u32, high: u32, out: &mut [u8]) -> usize
+pub(crate) fn put_value(texts: &[u8], kind: u32, low: u32, high: u32, out: &mut [u8]) -> usize
+    requires { ⌜ Writable (valueOk (length (now texts)) kind low high ≡ true) (valueMessage (now texts) kind low high) (length (now out)) ⌝ }
     ensures { λ r. ⌜ Gives (put (valueMessage (now (texts .entry)) kind low high) (now (out .entry))) r (now (out .exit)) ⌝ }
 {
     if kind == 1 {
@@ -75,8 +77,5 @@ pub fn put_value(texts: &[u8], kind: u32, low: u32, high: u32, out: &mut [u8]) -
     if kind == 6 {
         return put_varint_field(Field::Value(ValueKind::Sint), zigzag(wide(low, high)), out);
     }
-    if kind == 7 {
-        return put_varint_field(Field::Value(ValueKind::Bool), low as u64, out);
-    }
-    0
+    put_varint_field(Field::Value(ValueKind::Bool), low as u64, out)
 }

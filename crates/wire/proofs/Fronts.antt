@@ -3,6 +3,7 @@
 --     puts-none puts-inside puts-long            what was put so far: nothing; its end is in the list; the list's length
 --     puts-more puts-laid                        a writer's bytes behind what was put so far
 --     both-long both-inside both-room both-sum both-done    a writer that puts two parts, one behind the other
+--     long-as put-as                             what is promised of a list is promised of one that is equal
 --     lent home lent-long                        what `&mut out[at..]` lends, what the whole is when it is back, and its room
 use Prim.Native.Nat.{ℕ, _+_, _-_, _≤_, _<_}
 use mathlib.Core.Path.{_≡_, refl, ap, _∙_}
@@ -58,6 +59,13 @@ put-zero bs out s g = by (leb (length bs) (length out)) refl
 
 pub put-nothing : (out : List ℕ) → Gives (put [] out) 0 out
 put-nothing out = put-done (omega arith) (record { count-is = refl; list-is = refl })
+
+-- ---- what is promised of a list is promised of one that is equal
+pub long-as : {m x : List ℕ} {r : ℕ} → m ≡ x → r ≡ length x → r ≡ length m
+long-as e q = rw e q
+
+pub put-as : {m x : List ℕ} (out : List ℕ) {r : ℕ} {l : List ℕ} → m ≡ x → Gives (put x out) r l → Gives (put m out) r l
+put-as out e g = rw e g
 
 -- ---- what was put so far
 pub puts-none : (out : List ℕ) → Puts [] out 0 out

@@ -34,6 +34,7 @@ packedField field [] = []
 packedField field (n ∷ ns) = delimited field (varints (n ∷ ns))
 
 -- ---- document 01's tile: extent 4096, layer "a" without features
-pub empty-layer : delimited TileLayer (delimited LayerName (97 ∷ []) ++ varintField LayerExtent 4096 ++ varintField LayerVersion 2) ≡ 26 ∷ 8 ∷ 10 ∷ 1 ∷ 97 ∷ 40 ∷ 128 ∷ 32 ∷ 120 ∷ 2 ∷ []
+pub empty-layer : delimited TileLayer (delimited LayerName (97 ∷ []) ++ varintField LayerExtent 4096 ++ varintField LayerVersion 2)
+    ≡ 26 ∷ 8 ∷ 10 ∷ 1 ∷ 97 ∷ 40 ∷ 128 ∷ 32 ∷ 120 ∷ 2 ∷ []
 unfolding delimited varintField head varint
 empty-layer = refl

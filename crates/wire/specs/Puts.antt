@@ -1,4 +1,5 @@
--- What every writer of bytes does: so many bytes, laid at the front of the lent list, the rest as it was; where the list is too short for all of them, nothing at all, and the count is zero.
+-- What every writer of bytes does: so many bytes, laid at the front of the lent list, the rest as it was; where the list is too short for all of them,
+-- nothing at all, and the count is zero.
 use Prim.Native.Nat.{ℕ}
 use mathlib.Core.Path.{_≡_}
 use mathlib.Core.Bool.{cond}

@@ -1,4 +1,5 @@
--- Reading a varint from the front of some bytes (PB): the number and how many bytes it took. More than ten bytes or more than 64 bits is seen at the byte after which nothing could make it good.
+-- Reading a varint from the front of some bytes (PB): the number and how many bytes it took. More than ten bytes or more than 64 bits is seen at the byte
+-- after which nothing could make it good.
 use Prim.Native.Nat.{ℕ, zero, suc, _+_, _*_, _%_}
 use mathlib.Core.Path.{_≡_, refl}
 use mathlib.Core.Bool.{cond}

@@ -5,7 +5,7 @@ use Prim.Native.Nat.{ℕ}
 use native.Mathlib.Omega.{arith}
 use Rattle.wire.specs.declared.field.Field.the-variants.{FeatureTags, FeatureType, FeatureGeometry}
 use Rattle.wire.specs.Fields.{varintField, packedField}
-use Rattle.tile.proofs.Running.{run-first, run-inside, run-sum, run-turn, run-last-sum, run-last}
+use Rattle.wire.proofs.Running.{run-first, run-inside, run-sum, run-turn, run-last-sum, run-last}
 use Rattle.tile.specs.Features.{idField}
 use Rattle.tile.proofs.Features.{message-parts}
 use borrow.Author.Needs.{needs}

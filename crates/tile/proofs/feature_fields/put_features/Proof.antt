@@ -1,91 +1,137 @@
--- Too short a list is left alone. In any other, after each turn the bytes put so far and those of the records to come are those of all.
+-- After each turn the bytes put so far and those of the records to come are those of all.
 use native.Mathlib.Omega.{arith}
-use Prim.Native.Nat.{_-_}
+use Prim.Native.Nat.{ℕ, _-_}
+use mathlib.Core.Path.{_≡_, refl}
+use mathlib.Core.List.{List}
 use lib.ListN.{length, drop}
+use borrow.Rule.Slice.PartMut.{midOf}
+use Rattle.tile.specs.Features.{recordSize}
 use Rattle.tile.specs.Entries.{featureFields}
-use Rattle.tile.proofs.Looping.{too-short, Laying, laying-start, laying-inside, laying-long, laying-sum, laying-turn, laying-end}
-use Rattle.tile.proofs.Entries.{featureAt, feature-next, feature-inside, feature-more, feature-end, feature-none}
+use Rattle.tile.proofs.Looping.{Laying, laying-start, laying-inside, laying-room, laying-long, laying-sum, laying-turn, laying-end}
+use Rattle.tile.proofs.Entries.{Follow, featureAt, FeatureAt, feature-at, feature-end}
 use borrow.Author.Needs.{needs}
 use Rattle.tile.proofs.feature_fields.put_features.Statement.{statement}
 use Rattle.tile.proofs.feature_fields.put_features.Tie as tie
+use Rattle.tile.proofs.feature_fields.put_features.Reads as reads
+use Rattle.tile.proofs.feature.record_size.Reads as record-size-reads
+use Rattle.tile.proofs.feature_fields.put_field.Reads as put-field-reads
 
 abbrev Inv-loop : tie.InvT-loop
-Inv-loop features out₀ size i₀ at₀ out i at = Laying (featureFields 0 features) (featureFields 0 (drop i features)) out₀ out at i (length features)
+Inv-loop features out₀ i₀ at₀ out i at = Laying (Follow (drop i features)) (featureFields 0 features) (featureFields 0 (drop i features)) out₀ out at i (length features)
 
 abbrev μ-loop : tie.MeasureT-loop
-μ-loop features out₀ size i₀ at₀ out i at = length features - i
+μ-loop features out₀ i₀ at₀ out i at = length features - i
 
-features-size-requires : tie.Need-features-size-requires Inv-loop μ-loop
-features-size-requires c κs = search needs
+abbrev at-start : tie.In-loop Inv-loop μ-loop → tie.Start Inv-loop μ-loop
+at-start k = k .before .before .before .before
 
-returns : tie.Need-returns Inv-loop μ-loop
-returns c = too-short (featureFields 0 (c .before .before .before .before .args .features .now)) _ (c .before .features-size .ensures) (c .if1 .taken)
+-- the record that this turn is about
+here : (k : tie.In-loop Inv-loop μ-loop) (n : ℕ) → n ≡ recordSize (midOf (k .before .loop .i) (length (at-start k .args .features .now) - k .before .loop .i) (at-start k .args .features .now)) → FeatureAt (at-start k .args .features .now) (k .before .loop .i) n
+here k n e = feature-at _ _ n e (k .loop-test .taken) (k .before .loop .inv .sound)
+
+abbrev field : tie.In-loop Inv-loop μ-loop → List ℕ
+field k = featureAt (at-start k .args .features .now) (k .before .loop .i)
 
 loop-holds : tie.Need-loop-holds Inv-loop μ-loop
-loop-holds c = laying-start (featureFields 0 (c .before .before .before .before .args .features .now)) _ _ (c .before .features-size .ensures) (c .if1 .left) (omega (arith, c .before .before .before .before .good))
-
-mul-record-size : tie.Need-mul-record-size Inv-loop μ-loop
-mul-record-size c = omega (arith, c .loop-test .taken)
-
-sub-record-size : tie.Need-sub-record-size Inv-loop μ-loop
-sub-record-size c = omega (arith, c .loop-test .taken)
-
-part-record-size-start : tie.Need-part-record-size-start Inv-loop μ-loop
-part-record-size-start c = omega (arith, c .loop-test .taken)
-
-part-record-size-end : tie.Need-part-record-size-end Inv-loop μ-loop
-part-record-size-end c = search needs
-
-record-size-requires : tie.Need-record-size-requires Inv-loop μ-loop
-record-size-requires c κs = search needs
-
-same-length : tie.Need-same-length Inv-loop μ-loop
-same-length c = laying-long (c .before .before .before .before .loop .inv)
-
-returns-2 : tie.Need-returns-2 Inv-loop μ-loop
-returns-2 c = laying-end (c .before .before .before .before .loop .inv) (feature-end (c .before .before .before .before .before .before .before .before .before .args .features .now) (c .before .before .before .before .loop .i) _ (c .before .record-size .ensures) (c .if2 .taken))
+loop-holds c =
+    let s = c .before .before in
+    laying-start _ _ _ (record { met = 0; found = s .pre .good }) (s .pre .room)
 
 mul-put-field : tie.Need-mul-put-field Inv-loop μ-loop
-mul-put-field c = omega (arith, c .before .before .before .loop-test .taken)
+mul-put-field c =
+    let s = c .before .before .before .before in
+    omega (arith, c .loop-test .taken, s .good)
 
 sub-put-field : tie.Need-sub-put-field Inv-loop μ-loop
-sub-put-field c = omega (arith, c .before .before .before .loop-test .taken)
+sub-put-field c = omega (arith, c .loop-test .taken)
 
 part-put-field-start : tie.Need-part-put-field-start Inv-loop μ-loop
-part-put-field-start c = omega (arith, c .before .before .before .loop-test .taken)
+part-put-field-start c = omega (arith, c .loop-test .taken)
 
 part-put-field-end : tie.Need-part-put-field-end Inv-loop μ-loop
 part-put-field-end c = search needs
 
 sub-put-field-2 : tie.Need-sub-put-field-2 Inv-loop μ-loop
-sub-put-field-2 c = laying-inside (c .before .before .before .before .before .loop .inv)
+sub-put-field-2 c =
+    let l = c .before .before in
+    laying-inside (l .loop .inv)
 
 part-put-field-start-2 : tie.Need-part-put-field-start-2 Inv-loop μ-loop
-part-put-field-start-2 c = laying-inside (c .before .before .before .before .before .loop .inv)
+part-put-field-start-2 c =
+    let l = c .before .before in
+    laying-inside (l .loop .inv)
 
 part-put-field-end-2 : tie.Need-part-put-field-end-2 Inv-loop μ-loop
 part-put-field-end-2 c = search needs
 
 put-field-requires : tie.Need-put-field-requires Inv-loop μ-loop
-put-field-requires c κs = search needs
+put-field-requires c κs =
+    let k = c .before .before in
+    let l = k .before in
+    record { good = (here k _ refl) .whole; room = laying-room (l .loop .inv) (field k) _ ((here k _ refl) .fields) }
+
+mul-record-size : tie.Need-mul-record-size Inv-loop μ-loop
+mul-record-size c =
+    let k = c .before .before .before .before .before in
+    let s = k .before .before .before .before in
+    omega (arith, k .loop-test .taken, s .good)
+
+sub-record-size : tie.Need-sub-record-size Inv-loop μ-loop
+sub-record-size c =
+    let k = c .before .before .before .before .before in
+    omega (arith, k .loop-test .taken)
+
+part-record-size-start : tie.Need-part-record-size-start Inv-loop μ-loop
+part-record-size-start c =
+    let k = c .before .before .before .before .before in
+    omega (arith, k .loop-test .taken)
+
+part-record-size-end : tie.Need-part-record-size-end Inv-loop μ-loop
+part-record-size-end c = search needs
+
+record-size-requires : tie.Need-record-size-requires Inv-loop μ-loop
+record-size-requires c κs =
+    let k = c .before .before .before .before .before .before in
+    (here k _ refl) .whole
 
 add-at : tie.Need-add-at Inv-loop μ-loop
-add-at c = omega (arith, laying-sum (c .before .before .before .before .before .before .before .before .before .loop .inv) (featureAt (c .before .before .before .before .before .before .before .before .before .before .before .before .before .before .args .features .now) (c .before .before .before .before .before .before .before .before .before .loop .i)) _ (feature-next (c .before .before .before .before .before .before .before .before .before .before .before .before .before .before .args .features .now) (c .before .before .before .before .before .before .before .before .before .loop .i) _ (c .before .before .before .before .before .before .record-size .ensures) (c .before .before .before .before .before .if2 .left) (omega (arith, c .before .before .before .before .before .before .before .before .loop-test .taken))) (c .before .before .put-field .ensures), c .before .before .before .before .before .before .before .before .before .before .before .before .before .before .good)
+add-at c =
+    let at-put-field = c .before .before .before .before in
+    let k = at-put-field .before .before .before in
+    let l = k .before in
+    let s = l .before .before .before in
+    omega (arith, laying-sum (l .loop .inv) (field k) _ ((here k _ (c .record-size .ensures)) .fields) (at-put-field .put-field .ensures), s .good)
 
 add-i : tie.Need-add-i Inv-loop μ-loop
-add-i c = omega (arith, feature-inside (c .before .before .before .before .before .before .before .before .before .before .before .before .before .before .args .features .now) (c .before .before .before .before .before .before .before .before .before .loop .i) _ (c .before .before .before .before .before .before .record-size .ensures) (c .before .before .before .before .before .if2 .left) (omega (arith, c .before .before .before .before .before .before .before .before .loop-test .taken)), c .before .before .before .before .before .before .before .before .before .before .before .before .before .before .good)
+add-i c =
+    let o0 = c .before .before .before .before .before .before in
+    let k = o0 .before in
+    let s = k .before .before .before .before in
+    omega (arith, here k _ (c .record-size .ensures), s .good)
 
 loop-less : tie.Need-loop-less Inv-loop μ-loop
-loop-less c = omega (arith, feature-inside (c .before .before .before .before .before .before .before .before .before .before .before .before .before .before .args .features .now) (c .before .before .before .before .before .before .before .before .before .loop .i) _ (c .before .before .before .before .before .before .record-size .ensures) (c .before .before .before .before .before .if2 .left) (omega (arith, c .before .before .before .before .before .before .before .before .loop-test .taken)), feature-more (c .before .before .before .before .before .before .before .before .before .before .before .before .before .before .args .features .now) (c .before .before .before .before .before .before .before .before .before .loop .i) _ (c .before .before .before .before .before .before .record-size .ensures) (c .before .before .before .before .before .if2 .left) (omega (arith, c .before .before .before .before .before .before .before .before .loop-test .taken)))
+loop-less c =
+    let o0 = c .before .before .before .before .before .before in
+    let k = o0 .before in
+    omega (arith, here k _ (c .record-size .ensures))
 
 loop-again : tie.Need-loop-again Inv-loop μ-loop
-loop-again c = laying-turn (c .before .before .before .before .before .before .before .before .before .loop .inv) (featureAt (c .before .before .before .before .before .before .before .before .before .before .before .before .before .before .args .features .now) (c .before .before .before .before .before .before .before .before .before .loop .i)) _ (feature-next (c .before .before .before .before .before .before .before .before .before .before .before .before .before .before .args .features .now) (c .before .before .before .before .before .before .before .before .before .loop .i) _ (c .before .before .before .before .before .before .record-size .ensures) (c .before .before .before .before .before .if2 .left) (omega (arith, c .before .before .before .before .before .before .before .before .loop-test .taken))) (c .before .before .put-field .ensures) _ (feature-inside (c .before .before .before .before .before .before .before .before .before .before .before .before .before .before .args .features .now) (c .before .before .before .before .before .before .before .before .before .loop .i) _ (c .before .before .before .before .before .before .record-size .ensures) (c .before .before .before .before .before .if2 .left) (omega (arith, c .before .before .before .before .before .before .before .before .loop-test .taken)))
+loop-again c =
+    let at-put-field = c .before .before .before .before in
+    let k = at-put-field .before .before .before in
+    let l = k .before in
+    laying-turn (l .loop .inv) (field k) _ ((here k _ (c .record-size .ensures)) .fields) (at-put-field .put-field .ensures) ((here k _ (c .record-size .ensures)) .rest) _ ((here k _ (c .record-size .ensures)) .within)
 
-same-length-2 : tie.Need-same-length-2 Inv-loop μ-loop
-same-length-2 c = laying-long (c .before .loop .inv)
+same-length : tie.Need-same-length Inv-loop μ-loop
+same-length c =
+    let l = c .before in
+    laying-long (l .loop .inv)
 
-returns-3 : tie.Need-returns-3 Inv-loop μ-loop
-returns-3 c = laying-end (c .before .loop .inv) (feature-none (c .before .before .before .before .before .before .args .features .now) (c .before .loop .i) (c .loop-test .left))
+returns : tie.Need-returns Inv-loop μ-loop
+returns c =
+    let l = c .before in
+    let s = l .before .before .before in
+    laying-end (l .loop .inv) (feature-end (s .args .features .now) (l .loop .i) (c .loop-test .left))
 
 pub put-features-spec : {M : Type 1} → statement M
 put-features-spec =
@@ -93,16 +139,7 @@ put-features-spec =
     (tie.spec
     Inv-loop
     μ-loop
-    features-size-requires
-    returns
     loop-holds
-    mul-record-size
-    sub-record-size
-    part-record-size-start
-    part-record-size-end
-    record-size-requires
-    same-length
-    returns-2
     mul-put-field
     sub-put-field
     part-put-field-start
@@ -111,9 +148,14 @@ put-features-spec =
     part-put-field-start-2
     part-put-field-end-2
     put-field-requires
+    mul-record-size
+    sub-record-size
+    part-record-size-start
+    part-record-size-end
+    record-size-requires
     add-at
     add-i
     loop-less
     loop-again
-    same-length-2
-    returns-3)
+    same-length
+    returns)

@@ -1,30 +1,28 @@
 -- The part that is lent is the text.
 use native.Mathlib.Omega.{arith}
-use Rattle.tile.proofs.Texts.{text-put}
+use Rattle.wire.proofs.Fronts.{put-as}
+use Rattle.tile.proofs.Texts.{text-end, text-lent}
 use borrow.Author.Needs.{needs}
 use Rattle.tile.proofs.text.put_text.Statement.{statement}
 use Rattle.tile.proofs.text.put_text.Tie as tie
+use Rattle.tile.proofs.text.put_text.Reads as reads
+use Rattle.wire.proofs.run.put_bytes.Reads as put-bytes-reads
 
-smaller-requires : tie.Need-smaller-requires
-smaller-requires c κs = search needs
-
-sub-smaller : tie.Need-sub-smaller
-sub-smaller c = omega arith
-
-smaller-requires-2 : tie.Need-smaller-requires-2
-smaller-requires-2 c κs = search needs
-
-add-e : tie.Need-add-e
-add-e c = omega (arith, c .before .before .before .before .good)
+add-end : tie.Need-add-end
+add-end c =
+    let s = c .before .before in
+    omega (arith, text-end (s .args .texts .now) (s .args .start) (s .args .len) (s .pre .good), s .good)
 
 sub-put-bytes : tie.Need-sub-put-bytes
-sub-put-bytes c = search needs
+sub-put-bytes c = omega arith
 
 part-put-bytes-start : tie.Need-part-put-bytes-start
-part-put-bytes-start c = search needs
+part-put-bytes-start c = omega arith
 
 part-put-bytes-end : tie.Need-part-put-bytes-end
-part-put-bytes-end c = omega arith
+part-put-bytes-end c =
+    let s = c .before .before in
+    text-end (s .args .texts .now) (s .args .start) (s .args .len) (s .pre .good)
 
 put-bytes-requires : tie.Need-put-bytes-requires
 put-bytes-requires c κs = search needs
@@ -33,16 +31,15 @@ same-length : tie.Need-same-length
 same-length c = search needs
 
 returns : tie.Need-returns
-returns c = text-put _ _ _ _ _ (c .before .before .before .before .before .before .smaller .ensures) (c .before .before .before .before .before .smaller2 .ensures) _ _ (c .before .before .put-bytes .ensures)
+returns c =
+    let at-put-bytes = c .before .before in
+    put-as _ (text-lent _ _ _ _) (at-put-bytes .put-bytes .ensures)
 
 pub put-text-spec : {M : Type 1} → statement M
 put-text-spec =
     tie.close
     (tie.spec
-    smaller-requires
-    sub-smaller
-    smaller-requires-2
-    add-e
+    add-end
     sub-put-bytes
     part-put-bytes-start
     part-put-bytes-end

@@ -1,36 +1,42 @@
--- The text is the part of the texts that was found.
+-- The part that is lent is the text.
 use native.Mathlib.Omega.{arith}
-use Rattle.tile.proofs.Texts.{text-long}
-use Rattle.wire.proofs.Fields.{varint-field-short}
+use Rattle.wire.proofs.Fronts.{long-as}
+use Rattle.tile.proofs.Texts.{text-end, text-lent}
 use borrow.Author.Needs.{needs}
 use Rattle.tile.proofs.text.text_size.Statement.{statement}
 use Rattle.tile.proofs.text.text_size.Tie as tie
+use Rattle.tile.proofs.text.text_size.Reads as reads
+use Rattle.tile.proofs.text.bytes_size.Reads as bytes-size-reads
 
-smaller-requires : tie.Need-smaller-requires
-smaller-requires c κs = search needs
+add-end : tie.Need-add-end
+add-end c =
+    let s = c .before in
+    omega (arith, text-end (s .args .texts .now) (s .args .start) (s .args .len) (s .pre), s .good)
 
-sub-smaller : tie.Need-sub-smaller
-sub-smaller c = omega arith
+sub-bytes-size : tie.Need-sub-bytes-size
+sub-bytes-size c = omega arith
 
-smaller-requires-2 : tie.Need-smaller-requires-2
-smaller-requires-2 c κs = search needs
+part-bytes-size-start : tie.Need-part-bytes-size-start
+part-bytes-size-start c = omega arith
 
-varint-field-size-requires : tie.Need-varint-field-size-requires
-varint-field-size-requires c κs = search needs
+part-bytes-size-end : tie.Need-part-bytes-size-end
+part-bytes-size-end c =
+    let s = c .before in
+    text-end (s .args .texts .now) (s .args .start) (s .args .len) (s .pre)
 
-add-result : tie.Need-add-result
-add-result c = omega (arith, c .varint-field-size .ensures, varint-field-short (c .before .before .before .before .args .field) (c .before .smaller2 .result), c .before .before .before .before .good)
+bytes-size-requires : tie.Need-bytes-size-requires
+bytes-size-requires c κs = search needs
 
 returns : tie.Need-returns
-returns c = text-long _ _ _ _ _ (c .before .before .smaller .ensures) (c .before .smaller2 .ensures) _ _ (c .varint-field-size .ensures)
+returns c = long-as (text-lent _ _ _ _) (c .bytes-size .ensures)
 
 pub text-size-spec : {M : Type 1} → statement M
 text-size-spec =
     tie.close
     (tie.spec
-    smaller-requires
-    sub-smaller
-    smaller-requires-2
-    varint-field-size-requires
-    add-result
+    add-end
+    sub-bytes-size
+    part-bytes-size-start
+    part-bytes-size-end
+    bytes-size-requires
     returns)

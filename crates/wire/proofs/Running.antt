@@ -1,7 +1,7 @@
 -- One part after the other at the front of what is left of a lent list: the law of every chain of fields and of every loop over fields.
 --     run-first run-start     a first part has been put, or none
 --     run-inside run-long     the place reached is in the list, and the list's length stays
---     run-sum run-turn        one part more
+--     run-room run-sum run-turn    one part more, for which there is room
 --     run-end                 nothing is left: all of them are put
 --     run-last run-last-sum run-last-long    the last part is put
 use Prim.Native.Nat.{ℕ, _+_, _-_, _≤_}
@@ -11,8 +11,8 @@ use native.Mathlib.Omega.{arith}
 use lib.ListN.{length, length-append}
 use borrow.Rule.Slice.PartMut.{midOf, putMid}
 use Rattle.promise.specs.Answers.{Gives}
 use Rattle.wire.specs.Puts.{put, Puts}
-use Rattle.wire.proofs.Fronts.{put-fits, put-done, puts-none, puts-inside, puts-long, puts-more}
+use Rattle.wire.proofs.Fronts.{put-fits, put-done, puts-none, puts-inside, puts-long, puts-more, lent-long}
 
 -- of the whole, which has room in out₀, all but the rest is put: out is the list now, and at the place reached
 pub record Run (whole rest out₀ out : List ℕ) (at : ℕ) : Type 0 where
@@ -38,6 +38,9 @@ module _ {whole rest out₀ out : List ℕ} {at : ℕ} (I : Run whole rest out�
 
   pub run-long : length out ≡ length out₀
   run-long = puts-long (I .puts) (omega (arith, total, I .room))
+
+  pub run-room : (part after : List ℕ) → rest ≡ part ++ after → length part ≤ length (midOf at (length out - at) out)
+  run-room part after e = lent-long at (length part) out (omega (arith, total, I .room, I .puts .count-is, run-long, ap length e, length-append part after))
 
   module _ (part after : List ℕ) {k : ℕ} {ys : List ℕ} (e : rest ≡ part ++ after) (g : Gives (put part (midOf at (length out - at) out)) k ys) where
     fits : length (I .done) + length part ≤ length out₀
