@@ -55,7 +55,7 @@ impl Tile {
     pub const MAX_BYTES: usize = 4294967295;
 
     // The room in lent bytes of this length.
-    pub fn byte_room(bytes: usize) -> usize
+    fn byte_room(bytes: usize) -> usize
         ensures { λ r. ⌜ r ≡ byteRoom bytes ⌝ }
     {
         if bytes <= Tile::MAX_BYTES {
@@ -65,7 +65,7 @@ impl Tile {
     }
 
     // The room in lent names of this length, two words an entry.
-    pub fn name_room(names: usize) -> usize
+    fn name_room(names: usize) -> usize
         ensures { λ r. ⌜ r ≡ nameRoom names ⌝ }
     {
         names / 2

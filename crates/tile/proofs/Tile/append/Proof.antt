@@ -25,10 +25,10 @@ abbrev lists : tie.Start → Memory
 lists s = mem (s .args .keys .now) (s .args .values .now) (s .args .texts .now) (s .args .features .now)
 
 abbrev at-size : tie.After-varint-field-size2 → tie.After-varint-field-size
-at-size c = c .before .before .before .before .before .before .before
+at-size c = let o = c .before .before .before .before in o .before .before .before
 
 abbrev at-start : tie.After-varint-field-size2 → tie.Start
-at-start c = at-size c .before .before .before .before .before .before .before .before
+at-start c = let o = at-size c .before .before .before .before in o .before .before .before .before
 
 fit : (c : tie.After-varint-field-size2) → Fitted (at-start c .args .self) (seen (at-start c .args .s) (lists (at-start c))) (at-start c .args .names .now) (at-start c .args .bytes .now) (at-size c .varint-field-size .result + at-size c .before .held-size .result) (at-size c .varint-field-size .result + c .varint-field-size2 .result)
 fit c =
