@@ -22,7 +22,7 @@ use Rattle.layer.specs.declared.Open.{Open}
 use Rattle.layer.specs.declared.Open.the-variants.{Shut, Since}
 use Rattle.layer.specs.declared.Layer.{Layer}
 use Rattle.layer.specs.Held.{Memory, mem, Seen, seen, Change, refuses, holds}
-use Rattle.varint.specs.Reading.{VarintRead, good, cut, over}
+use Rattle.wire.specs.Reading.{VarintRead, good, cut, over}
 use Rattle.decoder.specs.Vertices.{Trace, traced, faulty, numbers}
 
 -- ---- one number of an answer

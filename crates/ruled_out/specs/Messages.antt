@@ -4,7 +4,7 @@ use mathlib.Core.Path.{_≡_, refl, ap}
 use mathlib.Core.List.{List, [], _∷_, _++_}
 use lib.ListN.{length}
 use native.Mathlib.Omega.{arith}
-use Rattle.varint.specs.Reading.{VarintRead, good, cut, over, readVarint}
+use Rattle.wire.specs.Reading.{VarintRead, good, cut, over, readVarint}
 use Rattle.wire.specs.Schema.{fixed64Type, delimitedType}
 use Rattle.well_formed.specs.Messages.{Reads, Content, number, eight, body, four}
 use Rattle.ruled_out.specs.Inputs.{item}

@@ -1,4 +1,4 @@
--- Crates `layer_bytes` and `tile`: wrong bytes of a layer, and wrong answers of a tile's calls.
+-- Crate `tile`: wrong bytes of a layer, and wrong answers of a tile's calls.
 use Prim.Native.Nat.{ℕ, _+_, _*_}
 use mathlib.Core.Path.{_≡_, ap}
 use mathlib.Core.Bool.{false, cond, not, _&&_}
@@ -15,25 +15,26 @@ use Rattle.table.specs.Keys.{findKey, keysIn}
 use Rattle.records.specs.Records.{isFound}
 use Rattle.layer.specs.declared.Layer.{Layer}
 use Rattle.layer.specs.declared.Open.the-variants.{Shut}
-use Rattle.layer.specs.Held.{Memory, mem, Seen, seen, fits}
+use Rattle.layer.specs.Held.{Memory, mem, Seen, seen}
 use Rattle.layer.specs.State.{valid}
 use Rattle.layer.specs.Calls.{isShut, newLayer, created}
 use Rattle.wire.specs.declared.field.Field.the-variants.{TileLayer, LayerName, LayerExtent, LayerVersion}
-use Rattle.varint.specs.Varints.{varint}
+use Rattle.wire.specs.Varints.{varint}
 use Rattle.wire.specs.Schema.{head}
 use Rattle.wire.specs.Fields.{varintField, delimited}
-use Rattle.value_bytes.specs.Texts.{textOf, textField}
-use Rattle.value_bytes.specs.Values.{valueMessage}
-use Rattle.feature_bytes.specs.Features.{featureMessage}
-use Rattle.entry_bytes.specs.Entries.{keyFields, valueFields, featureFields}
-use Rattle.layer_bytes.specs.Layers.{version, layerBytes, layerField, nameAt}
+use Rattle.tile.specs.Texts.{textField}
+use Rattle.tile.specs.Values.{valueMessage}
+use Rattle.tile.specs.Features.{featureMessage, recordMessage}
+use Rattle.tile.specs.Entries.{keyFields, valueFields, featureFields}
+use Rattle.tile.specs.Layers.{version, layerBytes, layerField, nameAt}
 use Rattle.tile.specs.declared.Tile.{Tile}
 use Rattle.tile.specs.Tiles.{TileMemory, lists, nameRoom, byteRoom, usedNames, validTile, freshTile}
 use Rattle.tile.specs.Adding.{nameText, hasName, check, withLayer, appended, addLayer}
-use Rattle.tile.specs.Asking.{numLayers, computeSize, toBytes}
+use Rattle.tile.specs.Asking.{numLayers, computeSize, toBytes, layerSize}
+use Rattle.tile.specs.Answers.{tells}
 use Rattle.ruled_out.specs.Inputs.{bit, item, firstExtent, layerOf, now, whole, begun}
 
--- ---- layer_bytes: the layer's message
+-- ---- the layer's message
 -- a layer of version 1
 pub version-one : ((s : Layer) (m : Memory) → layerBytes s m ≡ textField LayerName (m .texts) 0 (s .name) ++ (featureFields 0 (m .features)
     ++ (keyFields (m .texts) (m .keys) ++ (valueFields (m .texts) (m .values)
@@ -59,30 +60,24 @@ version-before-extent h = let e : _≡_ {A = ℕ} 40 120 = ap (item 3) (h (newLa
 pub features-before-name : ((s : Layer) (m : Memory) → layerBytes s m ≡ featureFields 0 (m .features) ++ (textField LayerName (m .texts) 0 (s .name)
     ++ (keyFields (m .texts) (m .keys) ++ (valueFields (m .texts) (m .values)
     ++ (varintField LayerExtent (s .extent) ++ varintField LayerVersion version))))) → ⊥
-unfolding layerBytes featureMessage valueMessage textField delimited varintField head varint
+unfolding layerBytes recordMessage featureMessage valueMessage textField delimited varintField head varint
 features-before-name h = let e : _≡_ {A = ℕ} 10 18 = ap (item 0) (h (layerOf now Shut) (whole .held)) in omega arith
 
 -- the values before the keys
 pub values-before-keys : ((s : Layer) (m : Memory) → layerBytes s m ≡ textField LayerName (m .texts) 0 (s .name) ++ (featureFields 0 (m .features)
     ++ (valueFields (m .texts) (m .values) ++ (keyFields (m .texts) (m .keys)
     ++ (varintField LayerExtent (s .extent) ++ varintField LayerVersion version))))) → ⊥
-unfolding layerBytes featureMessage valueMessage textField delimited varintField head varint
+unfolding layerBytes recordMessage featureMessage valueMessage textField delimited varintField head varint
 values-before-keys h = let e : _≡_ {A = ℕ} 26 34 = ap (item 18) (h (layerOf now Shut) (whole .held)) in omega arith
 
--- ---- layer_bytes: the layer as a field of the tile
+-- ---- the layer as a field of the tile
 -- without its length
 pub layer-not-nested : ((v : Seen) → layerField v ≡ layerBytes (v .layer) (v .held)) → ⊥
 unfolding layerField layerBytes textField delimited varintField head varint
 layer-not-nested h = let e : _≡_ {A = ℕ} 26 10 = ap (item 0) (h (seen (newLayer (97 ∷ []) 4096) (mem [] [] (97 ∷ []) []))) in omega arith
 
--- a layer whose figures are more than its lists has a field too
-pub field-of-none : ((v : Seen) → layerField v ≡ delimited TileLayer (layerBytes (v .layer) (v .held))) → ⊥
-unfolding layerField layerBytes textField delimited varintField head varint
-field-of-none h = let e : _≡_ {A = ℕ} 0 9 = ap length (h (seen (newLayer (97 ∷ []) 4096) (mem [] [] [] []))) in omega arith
-
 -- the name's place forgets its own head and length
-pub name-without-length : ((v : Seen) → nameAt v ≡ cond (fits (v .layer .used) (v .room))
-    (length (varintField TileLayer (length (layerBytes (v .layer) (v .held)))) + length (textOf (v .held .texts) 0 (v .layer .name))) 0) → ⊥
+pub name-without-length : ((v : Seen) → nameAt v ≡ length (varintField TileLayer (length (layerBytes (v .layer) (v .held)))) + v .layer .name) → ⊥
 unfolding nameAt layerBytes textField delimited varintField head varint
 name-without-length h = let e : _≡_ {A = ℕ} 4 3 = h (seen (newLayer (97 ∷ []) 4096) (mem [] [] (97 ∷ []) [])) in omega arith
 
@@ -208,6 +203,17 @@ name-entry-turned h = let e : _≡_ {A = ℕ} 14 1 = ap (item 2) (h one (named 9
 pub layer-unwritten : ((t : Tile) (v : Seen) (m : TileMemory) → addLayer t v m .memory ≡ m) → ⊥
 unfolding addLayer validTile valid layerField layerBytes nameAt textField delimited varintField head varint
 layer-unwritten h = let e : _≡_ {A = ℕ} 26 0 = ap (λ (m : TileMemory). item 10 (m .bytes)) (h one (named 98 4096) held) in omega arith
+
+-- ---- Tile::layer_size
+-- the size of the message, without its head and length
+pub message-alone : ((t : Tile) (v : Seen) → layerSize t v .values .told ≡ length (layerBytes (v .layer) (v .held))) → ⊥
+unfolding valid layerField layerBytes textField delimited varintField head varint
+message-alone h = let e : _≡_ {A = ℕ} 10 8 = h one (named 98 4096) in omega arith
+
+-- a size of a layer that breaks a rule
+pub size-unasked : ((t : Tile) (v : Seen) → layerSize t v ≡ tells (length (layerField v))) → ⊥
+unfolding valid
+size-unasked h = let e : _≡_ {A = ℕ} 4 0 = ap (λ w. w .number) (h one (seen (newLayer (97 ∷ []) 4096) (mem [] [] [] []))) in omega arith
 
 -- ---- Tile::num_layers, compute_size, to_bytes
 -- the bytes for the layers

@@ -1,4 +1,4 @@
--- Crates `varint`, `wire`, `value_bytes`, `feature_bytes`, `entry_bytes`: wrong varints, fields and messages. A wrong clause of a definition by recursion is
+-- Crate `wire` and the messages of crate `tile`: wrong varints, fields and messages. A wrong clause of a definition by recursion is
 -- said as the equation that the definition would meet if it had that clause.
 use Prim.Native.Nat.{ℕ, zero, suc, _+_, _-_, _*_, _/_, _%_}
 use mathlib.Core.Path.{_≡_, ap}
@@ -11,21 +11,20 @@ use Rattle.promise.specs.Answers.{kept}
 use Rattle.promise.specs.Laid.{lay}
 use Rattle.whole.specs.Twos.{signed32, wide}
 use Rattle.words.specs.Params.{param}
-use Rattle.varint.specs.Varints.{varintOf, varint}
-use Rattle.varint.specs.Puts.{put}
-use Rattle.varint.specs.Numbers.{little, fixed32, fixed64, zigzag}
-use Rattle.varint.specs.Reading.{good, behind, readOf, readVarint}
+use Rattle.wire.specs.Varints.{varintOf, varint}
+use Rattle.wire.specs.Puts.{put}
+use Rattle.wire.specs.Numbers.{little, fixed32, fixed64, zigzag}
+use Rattle.wire.specs.Reading.{good, behind, readOf, readVarint}
 use Rattle.wire.specs.declared.field.ValueKind.the-variants.{Text, Float, Double, Int, Uint, Sint}
 use Rattle.wire.specs.declared.field.Field.{Field}
 use Rattle.wire.specs.declared.field.Field.the-variants.{LayerName, LayerFeature, LayerKey, LayerValue, LayerExtent, LayerVersion, FeatureId, FeatureTags}
 use Rattle.wire.specs.declared.field.Field.the-variants.{FeatureType, FeatureGeometry, Value}
 use Rattle.wire.specs.Schema.{varintType, kindNumber, kindType, numberOf, typeOf, keyOf, head}
 use Rattle.wire.specs.Fields.{varintField, fixed32Field, fixed64Field, delimited, varints, packedField}
-use Rattle.value_bytes.specs.Texts.{textOf, textField}
-use Rattle.value_bytes.specs.Values.{valueMessage}
-use Rattle.feature_bytes.specs.Features.{idField, featureMessage, recordSize, recordMessage}
-use Rattle.entry_bytes.specs.Sizes.{capped}
-use Rattle.entry_bytes.specs.Entries.{keyFields, valueFields, featureFields}
+use Rattle.tile.specs.Texts.{textOf, textField}
+use Rattle.tile.specs.Values.{valueMessage}
+use Rattle.tile.specs.Features.{idField, featureMessage, recordSize, recordMessage}
+use Rattle.tile.specs.Entries.{keyFields, valueFields, featureFields}
 use Rattle.ruled_out.specs.Inputs.{item, readBytes}
 
 -- the largest number of 64 bits
@@ -258,31 +257,20 @@ type-left-out h = let e : _≡_ {A = ℕ} 2 0 = ap length (h 1 0 0 0 [] []) in o
 
 -- the tags taken where the geometry stands
 pub tags-for-geometry : ((kind mark low high tags geometry : ℕ) (ws : List ℕ) → recordMessage (kind ∷ mark ∷ low ∷ high ∷ tags ∷ geometry ∷ ws)
-    ≡ cond (leb (tags + geometry) (length ws)) (featureMessage kind mark low high (take tags ws) (take geometry (drop tags ws))) []) → ⊥
-unfolding featureMessage delimited varintField head varint
+    ≡ featureMessage kind mark low high (take tags ws) (take geometry (drop tags ws))) → ⊥
+unfolding recordMessage featureMessage delimited varintField head varint
 tags-for-geometry h = let e : _≡_ {A = ℕ} 0 9 = ap (item 2) (h 1 0 0 0 2 3 (9 ∷ 4 ∷ 4 ∷ 0 ∷ 1 ∷ [])) in omega arith
 
 -- the two counts exchanged
 pub counts-turned : ((kind mark low high tags geometry : ℕ) (ws : List ℕ)
     → recordMessage (kind ∷ mark ∷ low ∷ high ∷ tags ∷ geometry ∷ ws) ≡ recordMessage (kind ∷ mark ∷ low ∷ high ∷ geometry ∷ tags ∷ ws)) → ⊥
-unfolding featureMessage delimited varintField head varint
+unfolding recordMessage featureMessage delimited varintField head varint
 counts-turned h = let e : _≡_ {A = ℕ} 2 3 = ap (item 1) (h 1 0 0 0 2 3 (9 ∷ 4 ∷ 4 ∷ 0 ∷ 1 ∷ [])) in omega arith
 
 -- a record of five words before its geometry
 pub head-of-five : ((kind mark low high tags geometry : ℕ) (ws : List ℕ) → recordSize (kind ∷ mark ∷ low ∷ high ∷ tags ∷ geometry ∷ ws)
-    ≡ cond (leb (tags + geometry) (length ws)) (5 + geometry + tags) 0) → ⊥
+    ≡ 5 + geometry + tags) → ⊥
 head-of-five h = let e : _≡_ {A = ℕ} 6 5 = h 1 0 0 0 0 0 [] in omega arith
-
--- ---- sizes
--- a size that wraps
-pub sum-wraps : ((n : ℕ) → capped n ≡ n % 18446744073709551616) → ⊥
-unfolding capped
-sum-wraps h = let e : _≡_ {A = ℕ} 18446744073709551615 0 = h 18446744073709551616 in omega arith
-
--- a size without a cap
-pub sizes-uncapped : ((n : ℕ) → capped n ≡ n) → ⊥
-unfolding capped
-sizes-uncapped h = let e : _≡_ {A = ℕ} 18446744073709551615 18446744073709551616 = h 18446744073709551616 in omega arith
 
 -- ---- keys, values and features of a layer, one field for each
 -- a key whose start and length are exchanged
@@ -311,14 +299,12 @@ value-not-nested h = let e : _≡_ {A = ℕ} 34 40 = ap (item 0) (h [] [] 5 1 0)
 
 -- a feature whose length is that of its words
 pub length-of-the-words : ((kind mark low high tags geometry : ℕ) (ws : List ℕ) → featureFields zero (kind ∷ mark ∷ low ∷ high ∷ tags ∷ geometry ∷ ws)
-    ≡ cond (leb (tags + geometry) (length ws))
-    (varintField LayerFeature (6 + geometry + tags) ++ recordMessage (kind ∷ mark ∷ low ∷ high ∷ tags ∷ geometry ∷ ws) ++ featureFields (geometry + tags) ws)
-    []) → ⊥
-unfolding featureMessage delimited varintField head varint
+    ≡ varintField LayerFeature (6 + geometry + tags) ++ recordMessage (kind ∷ mark ∷ low ∷ high ∷ tags ∷ geometry ∷ ws) ++ featureFields (geometry + tags) ws) → ⊥
+unfolding recordMessage featureMessage delimited varintField head varint
 length-of-the-words h = let e : _≡_ {A = ℕ} 2 6 = ap (item 1) (h 1 0 0 0 0 0 []) in omega arith
 
 -- the first feature alone
 pub first-feature-alone : ((kind mark low high tags geometry : ℕ) (ws : List ℕ) → featureFields zero (kind ∷ mark ∷ low ∷ high ∷ tags ∷ geometry ∷ ws)
-    ≡ cond (leb (tags + geometry) (length ws)) (delimited LayerFeature (recordMessage (kind ∷ mark ∷ low ∷ high ∷ tags ∷ geometry ∷ ws))) []) → ⊥
-unfolding featureMessage delimited varintField head varint
+    ≡ delimited LayerFeature (recordMessage (kind ∷ mark ∷ low ∷ high ∷ tags ∷ geometry ∷ ws))) → ⊥
+unfolding recordMessage featureMessage delimited varintField head varint
 first-feature-alone h = let e : _≡_ {A = ℕ} 8 4 = ap length (h 1 0 0 0 0 0 (1 ∷ 0 ∷ 0 ∷ 0 ∷ 0 ∷ 0 ∷ [])) in omega arith

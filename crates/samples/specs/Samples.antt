@@ -21,14 +21,14 @@ use Rattle.encoder.specs.Completing.{finished, completed}
 use Rattle.whole_job.specs.Jobs.{isJob, encodedJob}
 use Rattle.decoder.specs.Vertices.{Trace, traced, faulty, numbers}
 use Rattle.decoder.specs.ReadingWords.{drawn, commands, traceFrom, trace}
-use Rattle.varint.specs.Varints.{varint}
+use Rattle.wire.specs.Varints.{varint}
 use Rattle.wire.specs.Schema.{head}
 use Rattle.wire.specs.Fields.{varintField, delimited}
 use Rattle.layer.specs.Held.{mem, seen}
 use Rattle.layer.specs.State.{valid as validLayer}
 use Rattle.layer.specs.Calls.{newLayer}
-use Rattle.value_bytes.specs.Texts.{textField}
-use Rattle.layer_bytes.specs.Layers.{layerBytes, layerField, nameAt}
+use Rattle.tile.specs.Texts.{textField}
+use Rattle.tile.specs.Layers.{layerBytes, layerField, nameAt}
 use Rattle.tile.specs.declared.Tile.{Tile}
 use Rattle.tile.specs.Tiles.{TileMemory, lists, validTile, freshTile}
 use Rattle.tile.specs.Adding.{addLayer}

@@ -14,12 +14,12 @@ use Rattle.promise.specs.Laid.{lay}
 use Rattle.refusal.specs.declared.Refusal.the-variants.{Room}
 use Rattle.runs.specs.Fitting.{laidIn}
 use Rattle.runs.proofs.Laws.{laid-fits}
-use Rattle.varint.specs.Puts.{put}
-use Rattle.varint.proofs.Fronts.{lent, home, lent-long, lay-front, put-fits}
+use Rattle.wire.specs.Puts.{put}
+use Rattle.wire.proofs.Fronts.{lent, home, lent-long, lay-front, put-fits}
 use Rattle.layer.specs.declared.Layer.{Layer}
 use Rattle.layer.specs.Held.{Seen, mem, seen}
 use Rattle.layer.proofs.Fitting.{smaller-le}
-use Rattle.layer_bytes.specs.Layers.{layerField, nameAt}
+use Rattle.tile.specs.Layers.{layerField, nameAt}
 use Rattle.tile.specs.declared.Tile.{Tile}
 use Rattle.tile.specs.declared.Added.the-variants.{Done, Refused as NotAdded}
 use Rattle.tile.specs.Tiles.{lists, maxTileBytes, nameRoom, byteRoom}

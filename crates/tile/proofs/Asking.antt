@@ -4,9 +4,13 @@ use mathlib.Core.Path.{_≡_, sym, ap}
 use mathlib.Core.Bool.{Bool, true, false, not}
 use mathlib.Core.List.{[], _∷_}
 use borrow.Author.Tests.{not-true, not-false}
+use lib.ListN.{length}
 use Rattle.refusal.specs.declared.Refusal.the-variants.{State}
 use Rattle.refusal.specs.Said.{Said}
 use Rattle.refusal.proofs.Laws.{one-refusal, never-both}
+use Rattle.layer.specs.Held.{Seen}
+use Rattle.layer.specs.State.{valid}
+use Rattle.tile.specs.Layers.{layerField}
 use Rattle.tile.specs.declared.Tile.{Tile}
 use Rattle.tile.specs.declared.Added.{Added}
 use Rattle.tile.specs.declared.Added.the-variants.{Done, Refused as NotAdded}
@@ -14,7 +18,7 @@ use Rattle.tile.specs.declared.Counted.{Counted}
 use Rattle.tile.specs.declared.Counted.the-variants.{Is, Refused as NotCounted}
 use Rattle.tile.specs.Tiles.{TileMemory, validTile}
 use Rattle.tile.specs.Answers.{Told, saidTile, saidCounted}
-use Rattle.tile.specs.Asking.{counted}
+use Rattle.tile.specs.Asking.{counted, layerSize}
 
 module _ (t : Tile) (m : TileMemory) (n : ℕ) (b : Bool) (g : b ≡ validTile t m) where
   pub not-counted : not b ≡ true → saidCounted (NotCounted State t) ≡ counted t m n
@@ -22,6 +26,14 @@ module _ (t : Tile) (m : TileMemory) (n : ℕ) (b : Bool) (g : b ≡ validTile t
 
   pub is-counted : not b ≡ false → saidCounted (Is n) ≡ counted t m n
   is-counted h = rw (← g, not-false b h)
+
+-- ---- `layerSize` at each return of `layer_size`
+module _ (t : Tile) (v : Seen) (b : Bool) (g : b ≡ valid v) where
+  pub not-sized : not b ≡ true → saidCounted (NotCounted State t) ≡ layerSize t v
+  not-sized h = rw (← g, not-true b h)
+
+  pub is-sized : not b ≡ false → (n : ℕ) → n ≡ length (layerField v) → saidCounted (Is n) ≡ layerSize t v
+  is-sized h n e = rw (← g, not-false b h, e)
 
 pub one-tile : (r r′ : Added) → saidTile r ≡ saidTile r′ → r ≡ r′
 one-tile (Done t) (Done u) e = ap (λ (x : Said Tile). Done (x .values)) e

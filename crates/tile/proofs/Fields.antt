@@ -1,6 +1,6 @@
 -- The name of a layer that breaks no rule of STATE, and where it stands in the layer's field.
 use Prim.Native.Nat.{ℕ, _+_, _≤_}
-use mathlib.Core.Path.{_≡_, sym, ap, _∙_}
+use mathlib.Core.Path.{_≡_, ap, _∙_}
 use mathlib.Core.Bool.{true}
 use mathlib.Core.List.{List}
 use native.Mathlib.Omega.{arith}
@@ -11,8 +11,8 @@ use Rattle.layer.specs.declared.Layer.{Layer}
 use Rattle.layer.specs.Held.{mem, seen}
 use Rattle.layer.specs.State.{valid}
 use Rattle.layer.proofs.Standing.{parts, valid-fit}
-use Rattle.layer_bytes.specs.Layers.{layerField, nameAt}
-use Rattle.layer_bytes.proofs.Layers.{name-there, name-inside}
+use Rattle.tile.specs.Layers.{layerField, nameAt}
+use Rattle.tile.proofs.Layers.{name-there, name-upto}
 use Rattle.tile.specs.Adding.{nameText}
 
 module _ (s : Layer) (ks vs ts fs : List ℕ) (ok : valid (seen s (mem ks vs ts fs)) ≡ true) where
@@ -29,7 +29,7 @@ module _ (s : Layer) (ks vs ts fs : List ℕ) (ok : valid (seen s (mem ks vs ts 
   name-long = ap length name-is ∙ length-take-le (s .name) ts name-in
 
   pub name-stands : take (s .name) (drop (nameAt (seen s (mem ks vs ts fs))) (layerField (seen s (mem ks vs ts fs)))) ≡ nameText (seen s (mem ks vs ts fs))
-  name-stands = ap (λ (n : ℕ). take n (drop (nameAt (seen s (mem ks vs ts fs))) (layerField (seen s (mem ks vs ts fs))))) (sym name-long) ∙ name-there (seen s (mem ks vs ts fs)) ok
+  name-stands = name-there (seen s (mem ks vs ts fs)) name-long
 
   pub name-within : nameAt (seen s (mem ks vs ts fs)) + s .name ≤ length (layerField (seen s (mem ks vs ts fs)))
-  name-within = omega (arith, name-long, name-inside (seen s (mem ks vs ts fs)) ok)
+  name-within = name-upto (seen s (mem ks vs ts fs)) name-long

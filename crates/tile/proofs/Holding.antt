@@ -30,8 +30,8 @@ use Rattle.layer.specs.Held.{Seen}
 use Rattle.layer.specs.State.{valid}
 use Rattle.layer.specs.Calls.{isShut}
 use Rattle.layer.proofs.Fitting.{smaller-le}
-use Rattle.layer_bytes.specs.Layers.{layerBytes, layerField, nameAt}
-use Rattle.layer_bytes.proofs.Layers.{field-valid}
+use Rattle.tile.specs.Layers.{layerBytes, layerField, nameAt}
+use Rattle.tile.proofs.Layers.{field-parts}
 use Rattle.tile.specs.declared.Tile.{Tile}
 use Rattle.tile.specs.Tiles.{TileMemory, lists, maxTileBytes, nameRoom, byteRoom, usedNames, usedBytes, validTile, freshTile}
 use Rattle.tile.specs.Adding.{nameText, hasName, check, withLayer, addLayer}
@@ -148,7 +148,7 @@ names-of (g ∷ gs) hs = ap (λ (l : List (List ℕ)). nameText (seenOf g) ∷ l
 
 module _ (gs : List Given) (a : At) (H : Holds gs a) (g : Given) (M : May (a .tile) (seenOf g) (a .memory)) where
   one-more : tileBytes (gs ++ (g ∷ [])) ≡ tileBytes gs ++ layerField (seenOf g)
-  one-more = bytes-of gs (g ∷ []) ∙ rw (append-nil, field-valid (seenOf g) (M .layer))
+  one-more = bytes-of gs (g ∷ []) ∙ rw (append-nil, field-parts (seenOf g))
 
   bytes-now : usedBytes (left (withLayer (a .tile) (seenOf g) (a .memory)) .tile) (left (withLayer (a .tile) (seenOf g) (a .memory)) .memory) ≡ tileBytes gs ++ layerField (seenOf g)
   bytes-now = bytes-after (a .tile) g (a .memory) M ∙ ap (λ (l : List ℕ). l ++ layerField (seenOf g)) (H .bytes)

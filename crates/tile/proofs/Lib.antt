@@ -1,3 +1,9 @@
+pub mod Texts
+pub mod Values
+pub mod Features
+pub mod Looping
+pub mod Entries
+pub mod Layers
 pub mod Standing
 pub mod Fields
 pub mod Appending

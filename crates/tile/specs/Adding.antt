@@ -16,9 +16,9 @@ use Rattle.records.specs.Records.{isFound}
 use Rattle.layer.specs.Held.{Seen, mem, seen}
 use Rattle.layer.specs.State.{valid}
 use Rattle.layer.specs.Calls.{isShut, newLayer}
-use Rattle.layer_bytes.specs.Layers.{layerBytes, layerField, nameAt}
-use Rattle.value_bytes.specs.Texts.{textField}
-use Rattle.varint.specs.Varints.{varint}
+use Rattle.tile.specs.Layers.{layerBytes, layerField, nameAt}
+use Rattle.tile.specs.Texts.{textField}
+use Rattle.wire.specs.Varints.{varint}
 use Rattle.wire.specs.Schema.{head}
 use Rattle.wire.specs.Fields.{varintField, delimited}
 use Rattle.tile.specs.declared.Tile.{Tile}

@@ -10,7 +10,7 @@ use Rattle.wire.specs.declared.field.Field.the-variants.{TileLayer}
 use Rattle.wire.specs.Fields.{delimited}
 use Rattle.layer.specs.declared.Layer.{Layer}
 use Rattle.layer.specs.Held.{Memory, Seen, seen}
-use Rattle.layer_bytes.specs.Layers.{layerBytes}
+use Rattle.tile.specs.Layers.{layerBytes}
 use Rattle.tile.specs.declared.Tile.{Tile}
 use Rattle.tile.specs.Tiles.{TileMemory}
 use Rattle.tile.specs.Adding.{nameText, addLayer}

@@ -1,3 +1,9 @@
+pub mod Texts
+pub mod Values
+pub mod Features
+pub mod Entries
+pub mod Layers
+pub mod Lending
 pub mod Tiles
 pub mod Answers
 pub mod Adding

@@ -5,9 +5,11 @@ use mathlib.Core.Bool.{Bool, _&&_}
 use mathlib.Core.List.{List}
 use lib.ListN.{length, take}
 use lib.Dec.{leb}
+use denote.Ref.{now}
 use Rattle.table.specs.Keys.{keysIn}
 use Rattle.layer.specs.Held.{smaller}
 use Rattle.tile.specs.declared.Tile.{Tile}
+use Rattle.tile.specs.Lending.{Lent}
 
 -- the two lent lists
 pub record TileMemory : Type 0 where
@@ -16,6 +18,13 @@ pub record TileMemory : Type 0 where
 
 abbrev pub lists : List ℕ → List ℕ → TileMemory
 lists ns bs = record { names = ns; bytes = bs }
+
+-- at a call's entry and at its exit
+abbrev pub tileEntered : Lent → Lent → TileMemory
+tileEntered n b = lists (now (n .entry)) (now (b .entry))
+
+abbrev pub tileLeft : Lent → Lent → TileMemory
+tileLeft n b = lists (now (n .exit)) (now (b .exit))
 
 -- "a tile's bytes, stay at or below 4,294,967,295"
 abbrev pub maxTileBytes : ℕ

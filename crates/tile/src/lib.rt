@@ -4,19 +4,33 @@ ghost use mathlib.Core.Path.{_≡_};
 ghost use mathlib.Core.Bool.{true};
 ghost use lib.ListN.{take};
 ghost use Rattle.promise.specs.Answers.{Gives};
-ghost use Rattle.layer.specs.Held.{mem, seen};
+ghost use Rattle.layer.specs.Held.{seen};
 ghost use Rattle.layer.specs.Answers.{saidCreated};
 ghost use Rattle.layer.specs.Calls.{isShut, created};
-ghost use Rattle.tile.specs.Tiles.{lists, nameRoom, byteRoom, validTile, freshTile};
+ghost use Rattle.tile.specs.Lending.{given, entered};
+ghost use Rattle.tile.specs.Tiles.{lists, tileEntered, tileLeft, nameRoom, byteRoom, validTile, freshTile};
 ghost use Rattle.tile.specs.Answers.{saidTile, saidCounted};
 ghost use Rattle.tile.specs.Adding.{hasName, appended, addLayer};
-ghost use Rattle.tile.specs.Asking.{counted, numLayers, computeSize, toBytes};
+ghost use Rattle.tile.specs.Asking.{counted, numLayers, computeSize, toBytes, layerSize};
 ghost use Rattle.tile.specs.Steps.{Ready};
+
+mod text; // a text of the layer as a field
+mod value; // the message of a value
+mod feature; // the message of a feature
+mod feature_fields; // one field for each feature, key and value
+mod key_fields;
+mod value_fields;
+mod layer_message; // the message of a layer, and the layer as a field of the tile
+
+use crate::layer_message::held_size;
+use crate::layer_message::put_layer;
 use layer::Created;
 use layer::Layer;
 use layer::Open;
 use refusal::Refusal;
 use table::Found;
+use wire::field::Field;
+use wire::head::varint_field_size;
 
 // How much of the lent bytes is used, and how many layers the lent names have, two words each.
 pub struct Tile {
@@ -41,7 +55,7 @@ impl Tile {
     pub const MAX_BYTES: usize = 4294967295;
 
     // The room in lent bytes of this length.
-    pub fn byte_room(bytes: usize) -> usize
+    fn byte_room(bytes: usize) -> usize
         ensures { λ r. ⌜ r ≡ byteRoom bytes ⌝ }
     {
         if bytes <= Tile::MAX_BYTES {
@@ -51,7 +65,7 @@ impl Tile {
     }
 
     // The room in lent names of this length, two words an entry.
-    pub fn name_room(names: usize) -> usize
+    fn name_room(names: usize) -> usize
         ensures { λ r. ⌜ r ≡ nameRoom names ⌝ }
     {
         names / 2
@@ -77,7 +91,7 @@ impl Tile {
 
     // Whether a tile and its lists break no rule of STATE.
     pub fn is_valid(self, names: &[u32], bytes: &[u8]) -> bool
-        ensures { λ r. ⌜ r ≡ validTile self (lists (now (names .entry)) (now (bytes .entry))) ⌝ }
+        ensures { λ r. ⌜ r ≡ validTile self (tileEntered names bytes) ⌝ }
     {
         let used = self.used;
         let layers = self.layers;
@@ -101,7 +115,7 @@ impl Tile {
     // Whether the tile has a layer of this name.
     fn has_name(self, name: &[u8], names: &[u32], bytes: &[u8]) -> bool
         requires { ⌜ validTile self (lists (now names) (now bytes)) ≡ true ⌝ }
-        ensures { λ r. ⌜ r ≡ hasName self (lists (now (names .entry)) (now (bytes .entry))) (now (name .entry)) ⌝ }
+        ensures { λ r. ⌜ r ≡ hasName self (tileEntered names bytes) (now (name .entry)) ⌝ }
     {
         let n = self.layers * 2;
         let used = self.used;
@@ -122,25 +136,28 @@ impl Tile {
         names: &mut [u32],
         bytes: &mut [u8],
     ) -> Added
-        requires { ⌜ Ready self (seen s (mem (now keys) (now values) (now texts) (now features))) (lists (now names) (now bytes)) ⌝ }
-        ensures { λ r. ⌜ Gives (appended self (seen s (mem (now (keys .entry)) (now (values .entry)) (now (texts .entry)) (now (features .entry)))) (lists (now (names .entry)) (now (bytes .entry)))) (saidTile r) (lists (now (names .exit)) (now (bytes .exit))) ⌝ }
+        requires { ⌜ Ready self (seen s (given keys values texts features)) (lists (now names) (now bytes)) ⌝ }
+        ensures { λ r. ⌜ Gives (appended self (seen s (entered keys values texts features)) (tileEntered names bytes)) (saidTile r) (tileLeft names bytes) ⌝ }
     {
         let used = self.used;
         let layers = self.layers;
-        let size = layer_bytes::layer_size(s, keys, values, texts, features);
-        if !runs::has_room(used, size, Tile::byte_room(bytes.len())) {
+        let size = held_size(s, keys, values, texts, features);
+        let lead = varint_field_size(Field::TileLayer, size as u64);
+        let grown = lead + size;
+        if !runs::has_room(used, grown, Tile::byte_room(bytes.len())) {
             return Added::Refused(Refusal::Room, self);
         }
         if !runs::has_room(layers, 1, Tile::name_room(names.len())) {
             return Added::Refused(Refusal::Room, self);
         }
-        let start = used + layer_bytes::name_at(s, keys, values, texts, features);
+        let place = lead + varint_field_size(Field::LayerName, s.name as u64);
+        let start = used + place;
         let name = [start as u32, s.name as u32];
         runs::lay_words(&name, names, layers * 2);
-        layer_bytes::put_layer(s, keys, values, texts, features, &mut bytes[used..]);
+        put_layer(s, size, keys, values, texts, features, &mut bytes[used..]);
         Added::Done(Tile {
             extent: self.extent,
-            used: used + size,
+            used: used + grown,
             layers: layers + 1,
         })
     }
@@ -156,7 +173,7 @@ impl Tile {
         names: &mut [u32],
         bytes: &mut [u8],
     ) -> Added
-        ensures { λ r. ⌜ Gives (addLayer self (seen s (mem (now (keys .entry)) (now (values .entry)) (now (texts .entry)) (now (features .entry)))) (lists (now (names .entry)) (now (bytes .entry)))) (saidTile r) (lists (now (names .exit)) (now (bytes .exit))) ⌝ }
+        ensures { λ r. ⌜ Gives (addLayer self (seen s (entered keys values texts features)) (tileEntered names bytes)) (saidTile r) (tileLeft names bytes) ⌝ }
     {
         if !self.is_valid(&names[..], &bytes[..]) {
             return Added::Refused(Refusal::State, self);
@@ -178,9 +195,27 @@ impl Tile {
         self.append(s, keys, values, texts, features, names, bytes)
     }
 
+    // By how many bytes adding this layer lets the tile grow, asked before it is added.
+    pub fn layer_size(
+        self,
+        s: Layer,
+        keys: &[u32],
+        values: &[u32],
+        texts: &[u8],
+        features: &[u32],
+    ) -> Counted
+        ensures { λ r. ⌜ saidCounted r ≡ layerSize self (seen s (entered keys values texts features)) ⌝ }
+    {
+        if !layer::state::is_valid(s, keys, values, texts, features) {
+            return Counted::Refused(Refusal::State, self);
+        }
+        let size = held_size(s, keys, values, texts, features);
+        Counted::Is(varint_field_size(Field::TileLayer, size as u64) + size)
+    }
+
     // A figure of the tile, if the tile breaks no rule of STATE.
     fn count(self, figure: usize, names: &[u32], bytes: &[u8]) -> Counted
-        ensures { λ r. ⌜ saidCounted r ≡ counted self (lists (now (names .entry)) (now (bytes .entry))) figure ⌝ }
+        ensures { λ r. ⌜ saidCounted r ≡ counted self (tileEntered names bytes) figure ⌝ }
     {
         if !self.is_valid(names, bytes) {
             return Counted::Refused(Refusal::State, self);
@@ -190,21 +225,21 @@ impl Tile {
 
     // How many layers the tile has.
     pub fn num_layers(self, names: &[u32], bytes: &[u8]) -> Counted
-        ensures { λ r. ⌜ saidCounted r ≡ numLayers self (lists (now (names .entry)) (now (bytes .entry))) ⌝ }
+        ensures { λ r. ⌜ saidCounted r ≡ numLayers self (tileEntered names bytes) ⌝ }
     {
         self.count(self.layers, names, bytes)
     }
 
     // The encoded size in bytes.
     pub fn compute_size(self, names: &[u32], bytes: &[u8]) -> Counted
-        ensures { λ r. ⌜ saidCounted r ≡ computeSize self (lists (now (names .entry)) (now (bytes .entry))) ⌝ }
+        ensures { λ r. ⌜ saidCounted r ≡ computeSize self (tileEntered names bytes) ⌝ }
     {
         self.count(self.used, names, bytes)
     }
 
     // Where the tile's bytes end in the lent list, at whose front they stand. An answer holds no reference: `part` hands out the bytes themselves.
     pub fn to_bytes(self, names: &[u32], bytes: &[u8]) -> Counted
-        ensures { λ r. ⌜ saidCounted r ≡ toBytes self (lists (now (names .entry)) (now (bytes .entry))) ⌝ }
+        ensures { λ r. ⌜ saidCounted r ≡ toBytes self (tileEntered names bytes) ⌝ }
     {
         self.compute_size(names, bytes)
     }

@@ -5,15 +5,15 @@ use mathlib.Core.List.{List, [], _∷_, _++_, append-nil, append-assoc}
 use native.Mathlib.Omega.{arith}
 use lib.ListN.{length}
 use Rattle.wire.specs.declared.field.Field.{Field}
-use Rattle.varint.specs.Varints.{varint}
+use Rattle.wire.specs.Varints.{varint}
 use Rattle.wire.specs.Schema.{numberOf, typeOf, keyOf, head, varintType, fixed64Type, delimitedType, fixed32Type}
-use Rattle.varint.specs.Numbers.{fixed32, fixed64}
+use Rattle.wire.specs.Numbers.{fixed32, fixed64}
 use Rattle.wire.specs.Fields.{varintField, fixed32Field, fixed64Field, delimited, varints, packedField}
 use Rattle.wire.proofs.Schema.{head-one}
 use Rattle.wire.proofs.Fields.{varint-field, delimited-parts, delimited-long}
-use Rattle.varint.proofs.Readback.{varint-back}
+use Rattle.wire.proofs.Readback.{varint-back}
 use Rattle.wire.proofs.Heads.{head-back, key-number, key-type}
-use Rattle.feature_bytes.proofs.Features.{packed-short}
+use Rattle.tile.proofs.Features.{packed-short}
 use Rattle.well_formed.specs.Messages.{Kind, plain, message, inside, Reads, Content, number, eight, body, four, WellFormed, end, field, nested}
 
 pub both : {kind : Kind} {a b : List ℕ} → WellFormed kind a → WellFormed kind b → WellFormed kind (a ++ b)

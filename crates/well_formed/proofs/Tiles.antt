@@ -6,8 +6,8 @@ use mathlib.Core.List.{List, [], _∷_}
 use Rattle.wire.specs.declared.field.Field.the-variants.{TileLayer}
 use Rattle.wire.specs.Fields.{delimited}
 use Rattle.layer.specs.State.{valid}
-use Rattle.layer_bytes.specs.Layers.{layerBytes}
-use Rattle.layer_bytes.proofs.Layers.{field-valid}
+use Rattle.tile.specs.Layers.{layerBytes}
+use Rattle.tile.proofs.Layers.{field-parts}
 use Rattle.tile.specs.Holding.{Given, seenOf, tileBytes}
 use Rattle.well_formed.specs.Messages.{tile, WellFormed, end}
 use Rattle.well_formed.proofs.Fields.{both}
@@ -21,5 +21,5 @@ pub data Layers : List Given → Type 0 where
 pub tile-bytes-well : (gs : List Given) → Layers gs → WellFormed tile (tileBytes gs)
 tile-bytes-well [] none = end tile
 tile-bytes-well (g ∷ gs) (more _ _ h e v f rest) =
-    let w : WellFormed tile (delimited TileLayer (layerBytes (g .layer) (seenOf g .held))) = rw (sym (field-valid (seenOf g) h)) (field-well (g .layer) (g .memory) e v f) in
+    let w : WellFormed tile (delimited TileLayer (layerBytes (g .layer) (seenOf g .held))) = rw (sym (field-parts (seenOf g))) (field-well (g .layer) (g .memory) h e v f) in
     both w (tile-bytes-well gs rest)

@@ -9,7 +9,7 @@ use lib.Dec.{eqb}
 use lib.ListN.{length}
 use Rattle.wire.specs.declared.field.Field.the-variants.{TileLayer, LayerFeature, LayerValue}
 use Rattle.wire.specs.Schema.{numberOf, varintType, fixed64Type, delimitedType, fixed32Type}
-use Rattle.varint.specs.Reading.{readVarint, good}
+use Rattle.wire.specs.Reading.{readVarint, good}
 
 -- MVT's messages, and which fields of which of them hold messages
 pub data Kind : Type 0 where

@@ -16,7 +16,7 @@ use crate::add_known;
 use layer::Changed;
 use layer::Layer;
 use refusal::Refusal;
-use varint::number;
+use wire::number;
 
 pub enum Added {
     Done(Layer, usize),

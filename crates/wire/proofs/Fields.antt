@@ -6,12 +6,12 @@ use native.Mathlib.Omega.{arith}
 use lib.ListN.{length, getD, length-append}
 use Rattle.promise.specs.Answers.{Gives}
 use Rattle.wire.specs.declared.field.Field.{Field}
-use Rattle.varint.specs.Varints.{varint}
+use Rattle.wire.specs.Varints.{varint}
 use Rattle.wire.specs.Schema.{keyOf, head}
-use Rattle.varint.specs.Numbers.{fixed32, fixed64}
+use Rattle.wire.specs.Numbers.{fixed32, fixed64}
 use Rattle.wire.specs.Fields.{varintField, fixed32Field, fixed64Field, delimited, varints, packedField}
-use Rattle.varint.specs.Puts.{put}
-use Rattle.varint.proofs.Varints.{varint-ten, varint-five}
+use Rattle.wire.specs.Puts.{put}
+use Rattle.wire.proofs.Varints.{varint-ten, varint-five}
 use Rattle.wire.proofs.Schema.{head-one}
 
 -- ---- heads

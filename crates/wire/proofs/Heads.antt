@@ -4,9 +4,9 @@ use mathlib.Core.List.{List, _++_}
 use native.Mathlib.Omega.{arith}
 use lib.ListN.{length}
 use Prim.Native.Nat.{ℕ, _/_, _%_}
-use Rattle.varint.specs.Reading.{good, readVarint}
-use Rattle.varint.proofs.Varints.{varint-one}
-use Rattle.varint.proofs.Readback.{varint-back}
+use Rattle.wire.specs.Reading.{good, readVarint}
+use Rattle.wire.proofs.Varints.{varint-one}
+use Rattle.wire.proofs.Readback.{varint-back}
 use Rattle.wire.specs.declared.field.Field.{Field}
 use Rattle.wire.specs.Schema.{numberOf, typeOf, keyOf, head}
 use Rattle.wire.proofs.Schema.{small, key-small}

@@ -1,5 +1,10 @@
+pub mod Fronts
+pub mod Running
+pub mod Varints
+pub mod Numbers
+pub mod Readback
 pub mod Schema
 pub mod Heads
 pub mod Fields
-pub mod Copying
+pub mod Nested
 pub mod Packing

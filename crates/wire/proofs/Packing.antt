@@ -1,18 +1,19 @@
 -- The turns of the two loops over words that go out as varints.
 use Prim.Native.Nat.{ℕ, suc, _+_, _-_, _*_, _≤_, _<_, zero-le}
 use mathlib.Core.Path.{_≡_, refl, ap, _∙_}
-use mathlib.Core.List.{List, [], _∷_, _++_, append-nil, append-assoc}
+use mathlib.Core.List.{List, [], _∷_, _++_}
 use native.Mathlib.Omega.{arith}
 use lib.ListN.{length, getD, drop, length-append, drop-of-length-le}
 use lib.Seq.{drop-cons}
 use borrow.Rule.Slice.PartMut.{midOf, putMid}
 use Rattle.promise.specs.Answers.{Gives}
-use Rattle.varint.specs.Varints.{varint}
-use Rattle.varint.specs.Numbers.{Word}
+use Rattle.wire.specs.Varints.{varint}
+use Rattle.wire.specs.Numbers.{Word}
 use Rattle.wire.specs.Fields.{varints}
-use Rattle.varint.specs.Puts.{put, Puts}
-use Rattle.varint.proofs.Varints.{varint-five}
-use Rattle.varint.proofs.Fronts.{puts-none, puts-inside, puts-long, puts-more}
+use Rattle.wire.specs.Puts.{put, Puts}
+use Rattle.wire.proofs.Varints.{varint-five}
+use Rattle.wire.proofs.Fronts.{put-fits}
+use Rattle.wire.proofs.Running.{Run, run-start, run-inside, run-long, run-sum, run-turn, run-end}
 
 next : (l : List ℕ) (j k : ℕ) → k ≡ suc j → j < length l → drop j l ≡ getD l j 0 ∷ drop k l
 next l j k e h = rw e (drop-cons l j 0 h)
@@ -49,43 +50,24 @@ module _ (ws : List ℕ) (i size : ℕ) (I : Sizing ws i size) where
 -- ---- their bytes
 pub record Packing (ws out₀ out : List ℕ) (i at : ℕ) : Type 0 where
   pub within : i ≤ length ws
-  pub done : List ℕ
-  pub bytes : varints ws ≡ done ++ varints (drop i ws)
-  pub puts : Puts done out₀ at out
+  pub run : Run (varints ws) (varints (drop i ws)) out₀ out at
 
-pub packing-start : (ws out : List ℕ) → Packing ws out out 0 0
-packing-start ws out = record { within = zero-le; done = []; bytes = refl; puts = puts-none out }
+pub packing-start : (ws out : List ℕ) → length (varints ws) ≤ length out → Packing ws out out 0 0
+packing-start ws out h = record { within = zero-le; run = run-start (varints ws) out h }
 
-module _ (ws out₀ out : List ℕ) (i at : ℕ) (I : Packing ws out₀ out i at) (room : length (varints ws) ≤ length out₀) where
-  total : length (varints ws) ≡ length (I .done) + length (varints (drop i ws))
-  total = ap length (I .bytes) ∙ length-append (I .done) (varints (drop i ws))
-
+module _ (ws out₀ out : List ℕ) (i at : ℕ) (I : Packing ws out₀ out i at) where
   pub packing-inside : at ≤ length out
-  packing-inside = puts-inside (I .puts) (omega (arith, total))
+  packing-inside = run-inside (I .run)
 
   pub packing-long : length out ≡ length out₀
-  packing-long = puts-long (I .puts) (omega (arith, total))
+  packing-long = run-long (I .run)
 
   module _ (h : i < length ws) (n : ℕ) (w : Word (getD ws i 0) n) (k : ℕ) (ys : List ℕ) (g : Gives (put (varint n) (midOf at (length out - at) out)) k ys) where
-    fits : length (I .done) + length (varint n) ≤ length out₀
-    fits = omega (arith, total, ap length (one ws i n h (w .same)), length-append (varint n) (varints (drop (i + 1) ws)), room)
-
-    more : Puts (I .done ++ varint n) out₀ (at + k) (putMid at (length out - at) out ys)
-    more = puts-more (I .puts) (varint n) fits g
-
     pub packing-sum : at + k ≤ length out₀
-    packing-sum = omega (arith, more .count-is, length-append (I .done) (varint n), fits)
+    packing-sum = run-sum (I .run) (varint n) (varints (drop (i + 1) ws)) (one ws i n h (w .same)) g
 
     pub packing-turn : Packing ws out₀ (putMid at (length out - at) out ys) (i + 1) (at + k)
-    packing-turn =
-        record {
-          within = omega arith;
-          done = I .done ++ varint n;
-          bytes = I .bytes ∙ ap (λ (l : List ℕ). I .done ++ l) (one ws i n h (w .same)) ∙ rw append-assoc;
-          puts = more;
-        }
+    packing-turn = record { within = omega arith; run = run-turn (I .run) (varint n) (varints (drop (i + 1) ws)) (one ws i n h (w .same)) g }
 
   pub packing-end : length ws ≤ i → Puts (varints ws) out₀ at out
-  packing-end h =
-      let e : varints ws ≡ I .done = I .bytes ∙ rw (none ws i h, append-nil) in
-      rw e (I .puts)
+  packing-end h = put-fits (varints ws) out₀ (I .run .room) (run-end (I .run) (none ws i h))

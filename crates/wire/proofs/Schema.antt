@@ -7,7 +7,7 @@ use Rattle.wire.specs.declared.field.ValueKind.the-variants.{Text, Float
 use Rattle.wire.specs.declared.field.Field.{Field}
 use Rattle.wire.specs.declared.field.Field.the-variants.{TileLayer, LayerName, LayerFeature, LayerKey, LayerValue, LayerExtent, LayerVersion, FeatureId, FeatureTags, FeatureType, FeatureGeometry, Value}
 use Rattle.wire.specs.Schema.{numberOf, typeOf, keyOf, head}
-use Rattle.varint.proofs.Varints.{varint-one}
+use Rattle.wire.proofs.Varints.{varint-one}
 
 -- a number and a wire type
 pub record Small (field : Field) : Type 0 where

@@ -5,8 +5,8 @@ use mathlib.Core.List.{List, [], _∷_, _++_}
 use lib.ListN.{length}
 use Rattle.wire.specs.declared.field.Field.{Field}
 use Rattle.wire.specs.declared.field.Field.the-variants.{TileLayer, LayerName, LayerExtent, LayerVersion}
-use Rattle.varint.specs.Varints.{varint}
-use Rattle.varint.specs.Numbers.{fixed32, fixed64}
+use Rattle.wire.specs.Varints.{varint}
+use Rattle.wire.specs.Numbers.{fixed32, fixed64}
 use Rattle.wire.specs.Schema.{head}
 
 -- a number as a varint. Of a delimited field this is what stands before its body: the number is the body's length
@@ -34,6 +34,7 @@ packedField field [] = []
 packedField field (n ∷ ns) = delimited field (varints (n ∷ ns))
 
 -- ---- document 01's tile: extent 4096, layer "a" without features
-pub empty-layer : delimited TileLayer (delimited LayerName (97 ∷ []) ++ varintField LayerExtent 4096 ++ varintField LayerVersion 2) ≡ 26 ∷ 8 ∷ 10 ∷ 1 ∷ 97 ∷ 40 ∷ 128 ∷ 32 ∷ 120 ∷ 2 ∷ []
+pub empty-layer : delimited TileLayer (delimited LayerName (97 ∷ []) ++ varintField LayerExtent 4096 ++ varintField LayerVersion 2)
+    ≡ 26 ∷ 8 ∷ 10 ∷ 1 ∷ 97 ∷ 40 ∷ 128 ∷ 32 ∷ 120 ∷ 2 ∷ []
 unfolding delimited varintField head varint
 empty-layer = refl

@@ -1,2 +1,6 @@
+pub mod Puts
+pub mod Varints
+pub mod Numbers
+pub mod Reading
 pub mod Schema
 pub mod Fields

@@ -4,8 +4,9 @@ use mathlib.Core.List.{List}
 use Rattle.wire.specs.declared.field.ValueKind.{ValueKind}
 use Rattle.wire.specs.declared.field.ValueKind.the-variants.{Text, Float, Double, Int, Uint, Sint, Bool}
 use Rattle.wire.specs.declared.field.Field.{Field}
-use Rattle.wire.specs.declared.field.Field.the-variants.{TileLayer, LayerName, LayerFeature, LayerKey, LayerValue, LayerExtent, LayerVersion, FeatureId, FeatureTags, FeatureType, FeatureGeometry, Value}
-use Rattle.varint.specs.Varints.{varint}
+use Rattle.wire.specs.declared.field.Field.the-variants.{TileLayer, LayerName, LayerFeature, LayerKey, LayerValue, LayerExtent, LayerVersion}
+use Rattle.wire.specs.declared.field.Field.the-variants.{FeatureId, FeatureTags, FeatureType, FeatureGeometry, Value}
+use Rattle.wire.specs.Varints.{varint}
 
 -- ---- PB: wire types
 abbrev pub varintType : ℕ

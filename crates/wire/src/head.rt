@@ -4,10 +4,10 @@ ghost use lib.ListN.{length};
 ghost use Rattle.promise.specs.Answers.{Gives};
 ghost use Rattle.wire.specs.Schema.{head};
 ghost use Rattle.wire.specs.Fields.{varintField};
-ghost use Rattle.varint.specs.Puts.{put};
+ghost use Rattle.wire.specs.Puts.{put};
 use crate::field::Field;
-use varint::put_varint;
-use varint::varint_size;
+use crate::varint::put_varint;
+use crate::varint::varint_size;
 
 pub fn head_size(field: Field) -> usize
     ensures { λ r. ⌜ r ≡ length (head field) ⌝ }

@@ -4,13 +4,13 @@ ghost use Prim.Native.Nat.{_≤_};
 ghost use lib.ListN.{length};
 ghost use Rattle.promise.specs.Answers.{Gives};
 ghost use Rattle.wire.specs.Fields.{varints, packedField};
-ghost use Rattle.varint.specs.Numbers.{Word};
-ghost use Rattle.varint.specs.Puts.{put, Puts};
+ghost use Rattle.wire.specs.Numbers.{Word};
+ghost use Rattle.wire.specs.Puts.{put, Puts};
 use crate::field::Field;
 use crate::head::put_varint_field;
 use crate::head::varint_field_size;
-use varint::put_varint;
-use varint::varint_size;
+use crate::varint::put_varint;
+use crate::varint::varint_size;
 
 fn widened(word: u32) -> u64
     ensures { λ r. ⌜ Word word r ⌝ }

@@ -12,7 +12,7 @@ use Rattle.tile.proofs.Tile.add_layer.Tie as tie
 use Rattle.tile.proofs.Tile.is_valid.Reads as Tile-is-valid-reads
 
 abbrev start : tie.Else2 → tie.Start
-start c = c .before .before .before .before .before .before .before .before .before .before .before .before
+start c = let o = c .before .before .before .before .before .before in o .before .before .before .before .before .before
 
 -- the two checks of STATE have passed
 may : (c : tie.Else2) → Ready (start c .args .self) (seen (start c .args .s) (mem (start c .args .keys .now) (start c .args .values .now) (start c .args .texts .now) (start c .args .features .now))) (lists (start c .args .names .now) (start c .args .bytes .now))
@@ -67,7 +67,9 @@ slice-aggregate-has-name : tie.Need-slice-aggregate-has-name
 slice-aggregate-has-name c = sym (length-take-le _ _ (name-in _ _ _ _ _ (may (c .before .before .before .before .before .before) .layer)))
 
 has-name-requires : tie.Need-has-name-requires
-has-name-requires c κs = may (c .before .before .before .before .before .before .before .before) .tile
+has-name-requires c κs =
+    let o = c .before .before .before .before .before .before in
+    may (o .before .before) .tile
 
 same-length-9 : tie.Need-same-length-9
 same-length-9 c = search needs
@@ -79,7 +81,9 @@ returns-5 : tie.Need-returns-5
 returns-5 c = search (needs, name-there)
 
 append-requires : tie.Need-append-requires
-append-requires c κs = may (c .before .before .before .before .before .before .before .before .before .before .before .before)
+append-requires c κs =
+    let o = c .before .before .before .before .before .before in
+    may (o .before .before .before .before .before .before)
 
 same-length-11 : tie.Need-same-length-11
 same-length-11 c = search needs

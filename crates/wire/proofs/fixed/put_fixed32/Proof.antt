@@ -26,7 +26,9 @@ same-length : tie.Need-same-length
 same-length c = search needs
 
 returns : tie.Need-returns
-returns c = fixed32-put _ _ _ _ _ _ (c .before .before .before .before .before .before .before .before .low-byte .ensures) (c .before .before .before .before .before .before .before .low-byte2 .ensures) (c .before .before .before .before .before .before .low-byte3 .ensures) (c .before .before .before .before .before .low-byte4 .ensures) _ _ _ (c .before .before .put-headed .ensures)
+returns c =
+    let o = c .before .before .before .before .before in
+    fixed32-put _ _ _ _ _ _ (o .before .before .before .low-byte .ensures) (o .before .before .low-byte2 .ensures) (o .before .low-byte3 .ensures) (o .low-byte4 .ensures) _ _ _ (c .before .before .put-headed .ensures)
 
 pub put-fixed32-spec : {M : Type 1} → statement M
 put-fixed32-spec =

@@ -38,7 +38,10 @@ same-length : tie.Need-same-length
 same-length c = search needs
 
 returns : tie.Need-returns
-returns c = fixed64-put _ _ _ _ _ _ _ _ _ _ (c .before .before .before .before .before .before .before .before .before .before .before .before .low-byte .ensures) (c .before .before .before .before .before .before .before .before .before .before .before .low-byte2 .ensures) (c .before .before .before .before .before .before .before .before .before .before .low-byte3 .ensures) (c .before .before .before .before .before .before .before .before .before .low-byte4 .ensures) (c .before .before .before .before .before .before .before .before .low-byte5 .ensures) (c .before .before .before .before .before .before .before .low-byte6 .ensures) (c .before .before .before .before .before .before .low-byte7 .ensures) (c .before .before .before .before .before .low-byte8 .ensures) _ _ _ (c .before .before .put-headed .ensures)
+returns c =
+    let o = c .before .before .before .before .before in
+    let p = o .before .before in
+    fixed64-put _ _ _ _ _ _ _ _ _ _ (p .before .before .before .before .before .low-byte .ensures) (p .before .before .before .before .low-byte2 .ensures) (o .before .before .before .before .before .low-byte3 .ensures) (o .before .before .before .before .low-byte4 .ensures) (o .before .before .before .low-byte5 .ensures) (o .before .before .low-byte6 .ensures) (o .before .low-byte7 .ensures) (o .low-byte8 .ensures) _ _ _ (c .before .before .put-headed .ensures)
 
 pub put-fixed64-spec : {M : Type 1} → statement M
 put-fixed64-spec =

@@ -5,7 +5,7 @@ use mathlib.Core.List.{_++_}
 use native.Mathlib.Omega.{arith}
 use lib.ListN.{length, length-append}
 use Rattle.wire.specs.Schema.{head}
-use Rattle.varint.proofs.Fronts.{put-short, both-inside, both-sum, both-done}
+use Rattle.wire.proofs.Fronts.{put-short, both-inside, both-sum, both-done}
 use Rattle.wire.proofs.Schema.{head-one}
 use borrow.Author.Needs.{needs}
 use Rattle.wire.proofs.fixed.put_headed.Statement.{statement}
@@ -16,7 +16,7 @@ size : (c : tie.After-head-size) → c .head-size .result + length (c .before .b
 size c = let s = c .before .before .before .args in omega (arith, c .head-size .ensures, length-append (head (s .field)) (s .bytes .now))
 
 abbrev start : tie.After-slice-known2 → tie.Start
-start c = c .before .before .before .before .before .before .before .before
+start c = let o = c .before .before .before .before in o .before .before .before .before
 
 -- where the head has been put, both have room
 room : (c : tie.After-slice-known2) → length (head (start c .args .field) ++ start c .args .bytes .now) ≤ length (start c .args .out .now)

@@ -1,6 +1,6 @@
 -- Too short a list is left alone; in any other the head is put, and the number behind it.
 use native.Mathlib.Omega.{arith}
-use Rattle.varint.proofs.Fronts.{put-short, both-inside, both-sum, both-done}
+use Rattle.wire.proofs.Fronts.{put-short, both-inside, both-sum, both-done}
 use Rattle.wire.proofs.Fields.{varint-field}
 use borrow.Author.Needs.{needs}
 use Rattle.wire.proofs.head.put_varint_field.Statement.{statement}
@@ -16,10 +16,10 @@ put-head-requires : tie.Need-put-head-requires
 put-head-requires c κs = search needs
 
 sub-put-varint : tie.Need-sub-put-varint
-sub-put-varint c = both-inside _ _ _ _ (varint-field _ (c .before .before .before .before .before .before .before .args .n)) (c .before .before .put-head .ensures) (omega arith)
+sub-put-varint c = let o = c .before .before .before .before in both-inside _ _ _ _ (varint-field _ (o .before .before .before .args .n)) (c .before .before .put-head .ensures) (omega arith)
 
 part-put-varint-start : tie.Need-part-put-varint-start
-part-put-varint-start c = both-inside _ _ _ _ (varint-field _ (c .before .before .before .before .before .before .before .args .n)) (c .before .before .put-head .ensures) (omega arith)
+part-put-varint-start c = let o = c .before .before .before .before in both-inside _ _ _ _ (varint-field _ (o .before .before .before .args .n)) (c .before .before .put-head .ensures) (omega arith)
 
 part-put-varint-end : tie.Need-part-put-varint-end
 part-put-varint-end c = search needs

@@ -1,6 +1,6 @@
 -- A head of one byte and a varint of ten at most.
 use native.Mathlib.Omega.{arith}
-use Rattle.varint.proofs.Varints.{varint-ten}
+use Rattle.wire.proofs.Varints.{varint-ten}
 use Rattle.wire.proofs.Schema.{head-one}
 use Rattle.wire.proofs.Fields.{varint-field-long}
 use borrow.Author.Needs.{needs}

@@ -14,7 +14,7 @@ abbrev μ-loop : tie.MeasureT-loop
 μ-loop words out₀ i₀ at₀ out i at = length words - i
 
 loop-holds : tie.Need-loop-holds Inv-loop μ-loop
-loop-holds c = packing-start _ _
+loop-holds c = packing-start _ _ (c .before .before .pre)
 
 mul-widened : tie.Need-mul-widened Inv-loop μ-loop
 mul-widened c = search needs
@@ -38,7 +38,9 @@ put-varint-requires : tie.Need-put-varint-requires Inv-loop μ-loop
 put-varint-requires c κs = search needs
 
 add-at : tie.Need-add-at Inv-loop μ-loop
-add-at c = omega (arith, packing-sum _ _ _ _ _ (c .before .before .before .before .before .before .before .loop .inv) (c .before .before .before .before .before .before .before .before .before .before .pre) (c .before .before .before .before .before .before .loop-test .taken) _ (c .before .before .before .before .widened .ensures) _ _ (c .before .before .put-varint .ensures))
+add-at c =
+    let k = c .before .before .before .before .before .before in
+    omega (arith, packing-sum _ _ _ _ _ (k .before .loop .inv) (k .loop-test .taken) _ (c .before .before .before .before .widened .ensures) _ _ (c .before .before .put-varint .ensures))
 
 add-i : tie.Need-add-i Inv-loop μ-loop
 add-i c = search needs

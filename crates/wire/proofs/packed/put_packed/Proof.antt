@@ -6,7 +6,7 @@ use native.Mathlib.Omega.{arith}
 use lib.ListN.{length}
 use borrow.Rule.Slice.PartMut.{midOf}
 use Rattle.wire.specs.Fields.{varintField, varints, packedField}
-use Rattle.varint.proofs.Fronts.{put-short, put-nothing, put-done, both-inside, both-room, both-sum, both-done}
+use Rattle.wire.proofs.Fronts.{put-short, put-nothing, put-done, both-inside, both-room, both-sum, both-done}
 use Rattle.wire.proofs.Fields.{varint-field-short, packed-none, packed-parts, packed-long, varints-few}
 use borrow.Author.Needs.{needs}
 use Rattle.wire.proofs.packed.put_packed.Statement.{statement}
@@ -16,13 +16,16 @@ use Rattle.wire.proofs.packed.put_packed.Tie as tie
 size : (c : tie.After-varint-field-size) → c .varint-field-size .result + c .before .varints-size .result ≡ length (packedField (c .before .before .before .before .before .args .field) (c .before .before .before .before .before .args .words .now))
 size c = omega (arith, c .varint-field-size .ensures, packed-long (c .before .before .before .before .before .args .field) (c .before .before .before .before .before .args .words .now) (c .before .before .if1 .left) (c .before .varints-size .result) (c .before .varints-size .ensures))
 
+abbrev at-sizes : tie.After-slice-known2 → tie.After-varints-size
+at-sizes c = c .before .before .before .before .before .before
+
 abbrev start : tie.After-slice-known2 → tie.Start
-start c = c .before .before .before .before .before .before .before .before .before .before
+start c = at-sizes c .before .before .before .before
 
 -- where the size has been put: the field's two parts, room for both, and for the second behind the first
 module _ (c : tie.After-slice-known2) where
-  parts : packedField (start c .args .field) (start c .args .words .now) ≡ varintField (start c .args .field) (c .before .before .before .before .before .before .varints-size .result) ++ varints (start c .args .words .now)
-  parts = packed-parts (start c .args .field) (start c .args .words .now) (c .before .before .before .before .before .before .before .if1 .left) (c .before .before .before .before .before .before .varints-size .result) (c .before .before .before .before .before .before .varints-size .ensures)
+  parts : packedField (start c .args .field) (start c .args .words .now) ≡ varintField (start c .args .field) (at-sizes c .varints-size .result) ++ varints (start c .args .words .now)
+  parts = packed-parts (start c .args .field) (start c .args .words .now) (at-sizes c .before .if1 .left) (at-sizes c .varints-size .result) (at-sizes c .varints-size .ensures)
 
   room : length (packedField (start c .args .field) (start c .args .words .now)) ≤ length (start c .args .out .now)
   room = omega (arith, size (c .before .before .before .before .before))

@@ -4,7 +4,7 @@ use Prim.Native.Nat.{_+_, _≤_}
 use mathlib.Core.Path.{_≡_}
 use lib.ListN.{length}
 use Rattle.wire.specs.Fields.{delimited}
-use Rattle.varint.proofs.Fronts.{put-short, both-inside, both-sum, both-done}
+use Rattle.wire.proofs.Fronts.{put-short, both-inside, both-sum, both-done}
 use Rattle.wire.proofs.Fields.{varint-field-short, delimited-parts, delimited-long}
 use borrow.Author.Needs.{needs}
 use Rattle.wire.proofs.run.put_bytes.Statement.{statement}
@@ -15,7 +15,7 @@ size : (c : tie.After-varint-field-size) → c .varint-field-size .result + leng
 size c = let s = c .before .before .before .args in omega (arith, c .varint-field-size .ensures, delimited-long (s .field) (s .bytes .now))
 
 abbrev start : tie.After-slice-known2 → tie.Start
-start c = c .before .before .before .before .before .before .before .before
+start c = let o = c .before .before .before .before in o .before .before .before .before
 
 -- where the length has been put, the whole field has room
 room : (c : tie.After-slice-known2) → length (delimited (start c .args .field) (start c .args .bytes .now)) ≤ length (start c .args .out .now)

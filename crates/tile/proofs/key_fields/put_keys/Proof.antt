@@ -1,0 +1,144 @@
+-- After each turn the bytes put so far and those of the keys to come are those of all.
+use native.Mathlib.Omega.{arith}
+use Prim.Native.Nat.{_-_}
+use mathlib.Core.Path.{_≡_}
+use mathlib.Core.Bool.{true}
+use lib.ListN.{length, drop}
+use Rattle.table.specs.Keys.{keysIn}
+use Rattle.tile.specs.Entries.{keyFields}
+use Prim.Native.Nat.{ℕ}
+use mathlib.Core.List.{List}
+use Rattle.tile.proofs.Looping.{Laying, laying-start, laying-inside, laying-room, laying-long, laying-sum, laying-turn, laying-end}
+use Rattle.tile.proofs.Entries.{keyAt, KeyAt, key-at, key-end}
+use borrow.Author.Needs.{needs}
+use Rattle.tile.proofs.key_fields.put_keys.Statement.{statement}
+use Rattle.tile.proofs.key_fields.put_keys.Tie as tie
+use Rattle.tile.proofs.key_fields.put_keys.Reads as reads
+use Rattle.tile.proofs.key_fields.put_field.Reads as put-field-reads
+
+abbrev Inv-loop : tie.InvT-loop
+Inv-loop texts keys out₀ i₀ at₀ out i at = Laying (keysIn (length texts) (drop i keys) ≡ true) (keyFields texts keys) (keyFields texts (drop i keys)) out₀ out at i (length keys)
+
+abbrev μ-loop : tie.MeasureT-loop
+μ-loop texts keys out₀ i₀ at₀ out i at = length keys - i
+
+abbrev at-start : tie.In-loop Inv-loop μ-loop → tie.Start Inv-loop μ-loop
+at-start k = k .before .before .before .before .before
+
+-- the key that this turn is about
+here : (k : tie.In-loop Inv-loop μ-loop) → KeyAt (at-start k .args .texts .now) (at-start k .args .keys .now) (k .before .loop .i)
+here k = key-at _ _ _ (k .loop-test .taken) (k .before .loop .inv .sound)
+
+abbrev field : tie.In-loop Inv-loop μ-loop → List ℕ
+field k = keyAt (at-start k .args .texts .now) (at-start k .args .keys .now) (k .before .loop .i)
+
+loop-holds : tie.Need-loop-holds Inv-loop μ-loop
+loop-holds c =
+    let s = c .before .before .before in
+    laying-start _ _ _ (s .pre .good) (s .pre .room)
+
+mul-put-field : tie.Need-mul-put-field Inv-loop μ-loop
+mul-put-field c =
+    let s = c .before .before .before .before .before in
+    omega (arith, here c, s .good)
+
+shared-slice-read-put-field : tie.Need-shared-slice-read-put-field Inv-loop μ-loop
+shared-slice-read-put-field c =
+    let k = c .before in
+    omega (arith, here k)
+
+add-put-field : tie.Need-add-put-field Inv-loop μ-loop
+add-put-field c =
+    let k = c .before in
+    let s = k .before .before .before .before .before in
+    omega (arith, here k, s .good)
+
+mul-put-field-2 : tie.Need-mul-put-field-2 Inv-loop μ-loop
+mul-put-field-2 c =
+    let k = c .before in
+    let s = k .before .before .before .before .before in
+    omega (arith, here k, s .good)
+
+shared-slice-read-put-field-2 : tie.Need-shared-slice-read-put-field-2 Inv-loop μ-loop
+shared-slice-read-put-field-2 c =
+    let k = c .before .before in
+    omega (arith, here k)
+
+sub-put-field : tie.Need-sub-put-field Inv-loop μ-loop
+sub-put-field c =
+    let l = c .before .before .before in
+    laying-inside (l .loop .inv)
+
+part-put-field-start : tie.Need-part-put-field-start Inv-loop μ-loop
+part-put-field-start c =
+    let l = c .before .before .before in
+    laying-inside (l .loop .inv)
+
+part-put-field-end : tie.Need-part-put-field-end Inv-loop μ-loop
+part-put-field-end c = search needs
+
+put-field-requires : tie.Need-put-field-requires Inv-loop μ-loop
+put-field-requires c κs =
+    let k = c .before .before .before in
+    let l = k .before in
+    record { good = here k .inside-is; room = laying-room (l .loop .inv) (field k) _ (here k .fields) }
+
+add-at : tie.Need-add-at Inv-loop μ-loop
+add-at c =
+    let at-put-field = c .before .before in
+    let k = at-put-field .before .before .before .before in
+    let l = k .before in
+    let s = l .before .before .before .before in
+    omega (arith, laying-sum (l .loop .inv) (field k) _ (here k .fields) (at-put-field .put-field .ensures), s .good)
+
+add-i : tie.Need-add-i Inv-loop μ-loop
+add-i c =
+    let k = c .before .before .before .before .before .before in
+    let s = k .before .before .before .before .before in
+    omega (arith, here k, s .good)
+
+loop-less : tie.Need-loop-less Inv-loop μ-loop
+loop-less c =
+    let k = c .before .before .before .before .before .before in
+    omega (arith, here k)
+
+loop-again : tie.Need-loop-again Inv-loop μ-loop
+loop-again c =
+    let at-put-field = c .before .before in
+    let k = at-put-field .before .before .before .before in
+    let l = k .before in
+    laying-turn (l .loop .inv) (field k) _ (here k .fields) (at-put-field .put-field .ensures) (here k .rest) _ (here k .within)
+
+same-length : tie.Need-same-length Inv-loop μ-loop
+same-length c =
+    let l = c .before in
+    laying-long (l .loop .inv)
+
+returns : tie.Need-returns Inv-loop μ-loop
+returns c =
+    let l = c .before in
+    let s = l .before .before .before .before in
+    laying-end (l .loop .inv) (key-end (s .args .texts .now) (s .args .keys .now) (l .loop .i) (c .loop-test .left))
+
+pub put-keys-spec : {M : Type 1} → statement M
+put-keys-spec =
+    tie.close
+    (tie.spec
+    Inv-loop
+    μ-loop
+    loop-holds
+    mul-put-field
+    shared-slice-read-put-field
+    add-put-field
+    mul-put-field-2
+    shared-slice-read-put-field-2
+    sub-put-field
+    part-put-field-start
+    part-put-field-end
+    put-field-requires
+    add-at
+    add-i
+    loop-less
+    loop-again
+    same-length
+    returns)

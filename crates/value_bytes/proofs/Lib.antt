@@ -1,4 +1,0 @@
-pub mod Running
-pub mod Nested
-pub mod Texts
-pub mod Values

@@ -1,4 +1,0 @@
-pub mod Fronts
-pub mod Varints
-pub mod Numbers
-pub mod Readback

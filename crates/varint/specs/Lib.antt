@@ -1,4 +1,0 @@
-pub mod Puts
-pub mod Varints
-pub mod Numbers
-pub mod Reading
