@@ -17,14 +17,14 @@ use Rattle.clip.specs.declared.Pt.{Pt}
 use Rattle.clip.specs.Domain.{isCoord, isGood}
 use Rattle.words.specs.Geometries.{maxWords, room}
 use Rattle.words.specs.Commands.{commandWord}
-use Rattle.points.specs.declared.MaybePt.{MaybePt}
-use Rattle.points.specs.declared.MaybePt.the-variants.{Nowhere, At}
-use Rattle.points.specs.declared.boundary.Ends.{Ends}
-use Rattle.points.specs.Boundary.{bounds, endsOf}
-use Rattle.commands.specs.Pushed.{moveTo, lineTo, closePath, countWord}
-use Rattle.commands.specs.Ends.{layIf, layEnd}
-use Rattle.commands.proofs.Commands.{count-is}
-use Rattle.commands.proofs.Stores.{Fitting, fitting-laid, fitting-long}
+use Rattle.encoder.specs.declared.points.MaybePt.{MaybePt}
+use Rattle.encoder.specs.declared.points.MaybePt.the-variants.{Nowhere, At}
+use Rattle.encoder.specs.declared.boundary.Ends.{Ends}
+use Rattle.encoder.specs.Boundary.{bounds, endsOf}
+use Rattle.encoder.specs.Pushed.{moveTo, lineTo, closePath, countWord}
+use Rattle.encoder.specs.Ends.{layIf, layEnd}
+use Rattle.encoder.proofs.CommandWords.{count-is}
+use Rattle.encoder.proofs.Laying.{Fitting, fitting-laid, fitting-long}
 use Rattle.encoder.specs.declared.GeomEncoder.{GeomEncoder}
 use Rattle.encoder.specs.declared.Run.the-variants.{Nothing}
 use Rattle.encoder.specs.declared.Plan.{Plan}
@@ -36,7 +36,7 @@ use Rattle.encoder.specs.Adding.{boundary, emitted, drawn, ended, added}
 use Rattle.encoder.specs.Completing.{counting, closing, cleared, finished, isEmpty, completed}
 use Rattle.encoder.specs.Planning.{planned, emissionIf, Ready, endOf, layAt, laid, Under, Planned}
 use Rattle.encoder.proofs.States.{yes-of, no-of, Valid, valid-facts, valid-ready, room-length, room-cap}
-use Rattle.encoder.proofs.Boundaries.{bounds-are}
+use Rattle.encoder.proofs.Bounds.{bounds-are}
 use Rattle.encoder.proofs.Steps.{Step, emission-step, if-step, emitted-three}
 
 -- ---- the plan of a point

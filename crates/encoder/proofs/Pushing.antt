@@ -8,15 +8,15 @@ use lib.Dec.{leb, eqb}
 use lib.IntN.{_-ℤ_}
 use Rattle.clip.specs.declared.Pt.{Pt}
 use Rattle.words.specs.Params.{param}
-use Rattle.points.specs.declared.MaybePt.{MaybePt}
-use Rattle.points.specs.declared.MaybePt.the-variants.{Nowhere, At}
+use Rattle.encoder.specs.declared.points.MaybePt.{MaybePt}
+use Rattle.encoder.specs.declared.points.MaybePt.the-variants.{Nowhere, At}
 use Rattle.encoder.specs.declared.GeomEncoder.{GeomEncoder}
-use Rattle.commands.specs.declared.MaybeWord.{MaybeWord}
-use Rattle.commands.specs.declared.MaybeWord.the-variants.{NoWord, Word}
+use Rattle.encoder.specs.declared.commands.MaybeWord.{MaybeWord}
+use Rattle.encoder.specs.declared.commands.MaybeWord.the-variants.{NoWord, Word}
 use Rattle.encoder.specs.declared.Run.the-variants.{Nothing, Two, Three}
 use Rattle.encoder.specs.declared.Plan.{Plan}
-use Rattle.points.specs.Points.{clamped, isLast, lastBetween, lastOf}
-use Rattle.commands.specs.Pushed.{wordOf, command}
+use Rattle.encoder.specs.Points.{clamped, isLast, lastBetween, lastOf}
+use Rattle.encoder.specs.Pushed.{wordOf, command}
 use Rattle.encoder.specs.Emitting.{takenOut, popped, advanced, pushed, skipped, emission}
 use Rattle.encoder.specs.Planning.{planned, emissionIf, Ready}
 use Rattle.encoder.proofs.States.{both}

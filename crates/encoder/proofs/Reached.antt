@@ -25,13 +25,13 @@ use Rattle.clip.specs.declared.BBox.{BBox}
 use Rattle.clip.specs.Domain.{isCoord, isGood}
 use Rattle.words.specs.Geometries.{isKind, maxWords, room}
 use Rattle.words.specs.Commands.{commandWord}
-use Rattle.points.specs.declared.MaybePt.{MaybePt}
-use Rattle.points.specs.declared.MaybePt.the-variants.{Nowhere, At}
+use Rattle.encoder.specs.declared.points.MaybePt.{MaybePt}
+use Rattle.encoder.specs.declared.points.MaybePt.the-variants.{Nowhere, At}
 use Rattle.encoder.specs.declared.GeomEncoder.{GeomEncoder}
 use Rattle.encoder.specs.States.{fresh, valid}
 use Rattle.encoder.specs.Answers.{done, started}
-use Rattle.points.specs.Points.{inLimit, clamped, isLast, lastOf}
-use Rattle.commands.specs.Pushed.{closePath}
+use Rattle.encoder.specs.Points.{inLimit, clamped, isLast, lastOf}
+use Rattle.encoder.specs.Pushed.{closePath}
 use Rattle.encoder.specs.Emitting.{Emission, emission, steps, placeOf}
 use Rattle.encoder.specs.Adding.{pointAt, boundary, emissions, emitted, ended, added}
 use Rattle.encoder.specs.Completing.{counting, closing, cleared, finished, completed}

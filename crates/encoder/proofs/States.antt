@@ -9,8 +9,8 @@ use Rattle.promise.proofs.Cases.{told-yes, told-no}
 use Rattle.clip.specs.Domain.{isGood}
 use Rattle.words.specs.Geometries.{isKind, maxWords, room}
 use Rattle.encoder.specs.declared.GeomEncoder.{GeomEncoder}
-use Rattle.points.specs.Points.{inLimit, inLimits}
-use Rattle.commands.specs.Figures.{figuresFit}
+use Rattle.encoder.specs.Points.{inLimit, inLimits}
+use Rattle.encoder.specs.Figures.{figuresFit}
 use Rattle.encoder.specs.States.{valid}
 use Rattle.encoder.specs.Planning.{Ready}
 

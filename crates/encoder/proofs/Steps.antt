@@ -17,13 +17,13 @@ use Rattle.clip.specs.declared.Pt.{Pt}
 use Rattle.clip.specs.Domain.{isCoord}
 use Rattle.clip.proofs.Callers.{coord-is}
 use Rattle.words.specs.Commands.{commandWord}
-use Rattle.points.specs.declared.MaybePt.{MaybePt}
-use Rattle.points.specs.declared.MaybePt.the-variants.{Nowhere, At}
+use Rattle.encoder.specs.declared.points.MaybePt.{MaybePt}
+use Rattle.encoder.specs.declared.points.MaybePt.the-variants.{Nowhere, At}
 use Rattle.encoder.specs.declared.GeomEncoder.{GeomEncoder}
-use Rattle.points.specs.Points.{clamped, isLast, lastOf}
-use Rattle.points.specs.Boundary.{listOf}
-use Rattle.points.proofs.Coords.{clamped-coord}
-use Rattle.commands.specs.Pushed.{command, moveTo, lineTo}
+use Rattle.encoder.specs.Points.{clamped, isLast, lastOf}
+use Rattle.encoder.specs.Boundary.{listOf}
+use Rattle.encoder.proofs.Coords.{clamped-coord}
+use Rattle.encoder.specs.Pushed.{command, moveTo, lineTo}
 use Rattle.encoder.specs.Emitting.{takenOut, popped, steps, pushed, begun, skipped, emission, Emission}
 use Rattle.encoder.specs.Adding.{emitted}
 use Rattle.encoder.specs.Planning.{emissionIf, Ready}

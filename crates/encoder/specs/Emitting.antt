@@ -7,9 +7,9 @@ use lib.IntN.{_-ℤ_}
 use lib.ListN.{length}
 use Rattle.clip.specs.declared.Pt.{Pt}
 use Rattle.words.specs.Params.{param}
-use Rattle.points.specs.declared.MaybePt.the-variants.{At}
-use Rattle.points.specs.Points.{clamped, isLast, outBefore, lastOf}
-use Rattle.commands.specs.Pushed.{command}
+use Rattle.encoder.specs.declared.points.MaybePt.the-variants.{At}
+use Rattle.encoder.specs.Points.{clamped, isLast, outBefore, lastOf}
+use Rattle.encoder.specs.Pushed.{command}
 use Rattle.encoder.specs.declared.GeomEncoder.{GeomEncoder}
 
 -- ---- taking out: "Polygons with count ≥ 2", the last point "strictly between the one before and the new one on one horizontal or vertical"

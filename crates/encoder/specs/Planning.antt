@@ -9,9 +9,9 @@ use Rattle.promise.specs.Laid.{lay}
 use Rattle.clip.specs.declared.Pt.{Pt}
 use Rattle.clip.specs.Domain.{isGood}
 use Rattle.words.specs.Geometries.{maxWords}
-use Rattle.points.specs.declared.MaybePt.{MaybePt}
-use Rattle.points.specs.declared.MaybePt.the-variants.{Nowhere, At}
-use Rattle.points.specs.Points.{inLimit}
+use Rattle.encoder.specs.declared.points.MaybePt.{MaybePt}
+use Rattle.encoder.specs.declared.points.MaybePt.the-variants.{Nowhere, At}
+use Rattle.encoder.specs.Points.{inLimit}
 use Rattle.encoder.specs.declared.GeomEncoder.{GeomEncoder}
 use Rattle.encoder.specs.declared.Run.{Run}
 use Rattle.encoder.specs.declared.Run.the-variants.{Nothing, Two, Three}

@@ -4,9 +4,9 @@ use mathlib.Core.Bool.{Bool, _&&_}
 use Rattle.clip.specs.declared.BBox.{BBox}
 use Rattle.clip.specs.Domain.{isGood}
 use Rattle.words.specs.Geometries.{isKind}
-use Rattle.points.specs.declared.MaybePt.the-variants.{Nowhere}
-use Rattle.points.specs.Points.{inLimits}
-use Rattle.commands.specs.Figures.{figuresFit}
+use Rattle.encoder.specs.declared.points.MaybePt.the-variants.{Nowhere}
+use Rattle.encoder.specs.Points.{inLimits}
+use Rattle.encoder.specs.Figures.{figuresFit}
 use Rattle.encoder.specs.declared.GeomEncoder.{GeomEncoder}
 
 abbrev pub fresh : ℕ → BBox → GeomEncoder

@@ -11,22 +11,28 @@ ghost use Rattle.promise.specs.Laid.{lay};
 ghost use Rattle.clip.specs.Facts.{Coord};
 ghost use Rattle.words.specs.Geometries.{maxWords};
 ghost use Rattle.words.specs.Params.{param};
-ghost use Rattle.points.specs.Boundary.{endsOf};
-ghost use Rattle.commands.specs.Pushed.{wordOf};
+ghost use Rattle.encoder.specs.Boundary.{endsOf};
+ghost use Rattle.encoder.specs.Pushed.{wordOf};
 ghost use Rattle.encoder.specs.States.{valid};
 ghost use Rattle.encoder.specs.Answers.{saidStarted, started, saidDrawn, fitting};
 ghost use Rattle.encoder.specs.Emitting.{popped, advanced, pushed, skipped, emission};
 ghost use Rattle.encoder.specs.Adding.{boundary, drawn, ended, pointAt, added};
 ghost use Rattle.encoder.specs.Completing.{cleared, finished, completed};
 ghost use Rattle.encoder.specs.Planning.{planLimit, planned, endOf, layAt, laid, Under, Planned, emissionIf, Ready};
+use crate::boundary::Ends;
+use crate::commands::MaybeWord;
+use crate::points::MaybePt;
 use clip::BBox;
 use clip::Pt;
-use commands::MaybeWord;
-use points::MaybePt;
-use points::boundary::Ends;
 use refusal::Refusal;
 use words::geometry::Geometry;
 use words::param::ParamInt;
+
+mod boundary;
+mod commands;
+pub mod points;
+mod stretch;
+pub mod whole_job;
 
 // The state between calls; a carried one may be bad.
 pub struct GeomEncoder {
@@ -87,10 +93,10 @@ pub fn is_valid(s: GeomEncoder, length: usize) -> bool
     let xy_end = s.xy_end;
     let pt0 = s.pt0;
     let pt1 = s.pt1;
-    let fits = commands::figures_fit(s.used, s.count, s.cmd_offset, length);
+    let fits = crate::commands::figures_fit(s.used, s.count, s.cmd_offset, length);
     let kinds = kind.is_good();
     let boxes = BBox::is_good(bbox);
-    let limits = points::are_in_limit(xy_end, pt0, pt1);
+    let limits = crate::points::are_in_limit(xy_end, pt0, pt1);
     fits & kinds & boxes & limits
 }
 
@@ -167,7 +173,7 @@ fn push_point(command: MaybeWord, s: GeomEncoder, p: Pt) -> Plan
     let used = s.used;
     let cmd_offset = s.cmd_offset;
     let pt1 = s.pt1;
-    let last = points::last_of(pt1);
+    let last = crate::points::last_of(pt1);
     let dx = step_x(last, p);
     let dy = step_y(last, p);
     match command {
@@ -221,12 +227,12 @@ fn add_tile_point(s: GeomEncoder, p: Pt) -> Plan
     let bbox = s.bbox;
     let pt0 = s.pt0;
     let pt1 = s.pt1;
-    let q = points::make_point(p, bbox);
-    if points::is_last(pt1, q) {
+    let q = crate::points::make_point(p, bbox);
+    if crate::points::is_last(pt1, q) {
         return skip_point(s);
     }
-    let command = commands::push_command(s.kind, s.count);
-    if points::should_simplify_point(s.kind, s.count, pt0, pt1, q) {
+    let command = crate::commands::push_command(s.kind, s.count);
+    if crate::points::should_simplify_point(s.kind, s.count, pt0, pt1, q) {
         return push_point(command, pop_point(s), q);
     }
     push_point(command, s, q)
@@ -421,8 +427,8 @@ fn add(s: GeomEncoder, p: Pt, words: &mut [u32]) -> Drawn
     }
     let bbox = s.bbox;
     let xy_end = s.xy_end;
-    let ends = points::boundary::add_boundary_points(s.kind, bbox, xy_end, p);
-    if points::boundary::is_alone(ends) {
+    let ends = crate::boundary::add_boundary_points(s.kind, bbox, xy_end, p);
+    if crate::boundary::is_alone(ends) {
         return add_alone(s, p, words);
     }
     add_cut(s, p, ends, words)
@@ -488,7 +494,7 @@ impl GeomEncoder {
         if room < next.used {
             return Drawn::Refused(Refusal::Room, self);
         }
-        commands::write_end(self.kind, self.count, self.cmd_offset, self.used, words);
+        crate::commands::write_end(self.kind, self.count, self.cmd_offset, self.used, words);
         Drawn::Done(next)
     }
 }

@@ -20,14 +20,14 @@ use Rattle.clip.specs.declared.BBox.{BBox}
 use Rattle.clip.specs.Domain.{isCoord, isGood}
 use Rattle.clip.specs.Cutting.{crossAtX, cuts, overlap, clip}
 use Rattle.clip.specs.Numbers.{segAt, boxAt}
-use Rattle.points.specs.declared.MaybePt.{MaybePt}
-use Rattle.points.specs.declared.MaybePt.the-variants.{Nowhere, At}
-use Rattle.points.specs.Points.{inLimit, inLimits, clampTo, clamped, eqZ, samePt, isLast, strictly, between, outBefore, lastBetween, lastOf}
-use Rattle.points.specs.declared.boundary.Ends.{Ends}
-use Rattle.points.specs.Boundary.{moved, movedEnds, cutOf, outside, missing, alone}
-use Rattle.commands.specs.Pushed.{moveTo, lineTo, closePath, command, countWord, closeWord}
-use Rattle.commands.specs.Figures.{figuresFit}
-use Rattle.commands.specs.Ends.{layIf, layEnd}
+use Rattle.encoder.specs.declared.points.MaybePt.{MaybePt}
+use Rattle.encoder.specs.declared.points.MaybePt.the-variants.{Nowhere, At}
+use Rattle.encoder.specs.Points.{inLimit, inLimits, clampTo, clamped, eqZ, samePt, isLast, strictly, between, outBefore, lastBetween, lastOf}
+use Rattle.encoder.specs.declared.boundary.Ends.{Ends}
+use Rattle.encoder.specs.Boundary.{moved, movedEnds, cutOf, outside, missing, alone}
+use Rattle.encoder.specs.Pushed.{moveTo, lineTo, closePath, command, countWord, closeWord}
+use Rattle.encoder.specs.Figures.{figuresFit}
+use Rattle.encoder.specs.Ends.{layIf, layEnd}
 use Rattle.encoder.specs.declared.GeomEncoder.{GeomEncoder}
 use Rattle.encoder.specs.States.{fresh, valid}
 use Rattle.encoder.specs.Answers.{done, turned, fitting, started}

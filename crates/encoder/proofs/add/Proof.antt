@@ -1,5 +1,5 @@
 -- The definition is the same chain of checks; then the point by itself, or with its boundary points.
-use Rattle.points.proofs.Boundaries.{alone-none}
+use Rattle.encoder.proofs.Boundaries.{alone-none}
 use Rattle.encoder.proofs.Calls.{add-state, add-coord, add-bounds, add-ready, add-within}
 use borrow.Author.Needs.{needs}
 use Rattle.encoder.proofs.add.Statement.{statement}

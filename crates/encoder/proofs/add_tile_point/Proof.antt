@@ -2,7 +2,7 @@
 use mathlib.Core.Path.{sym, _∙_}
 use Prim.Native.Nat.{_≤_}
 use Rattle.clip.specs.Facts.{Coord}
-use Rattle.points.proofs.Coords.{clamped-coord}
+use Rattle.encoder.proofs.Coords.{clamped-coord}
 use Rattle.encoder.proofs.Pushing.{out-count, out-used, popped-ready, emit-skip, emit-out, emit-plain}
 use borrow.Author.Needs.{needs}
 use Rattle.encoder.proofs.add_tile_point.Statement.{statement}

@@ -1,6 +1,6 @@
 -- Steps between points within the limit; two words more, or three with a command.
 use Rattle.clip.specs.Facts.{Coord}
-use Rattle.points.proofs.Coords.{last-coord}
+use Rattle.encoder.proofs.Coords.{last-coord}
 use Rattle.encoder.proofs.Pushing.{push-two, push-three}
 use borrow.Author.Needs.{needs}
 use Rattle.encoder.proofs.push_point.Statement.{statement}

@@ -1,0 +1,38 @@
+-- Nothing where the state is none to start from; else the pen's loop, up to the last point that the list has.
+use Rattle.encoder.proofs.Drawing.{stretch-none, stretch-asked, stretch-run, last-within}
+use borrow.Author.Needs.{needs}
+use Rattle.encoder.proofs.stretch.add_stretch.Statement.{statement}
+use Rattle.encoder.proofs.stretch.add_stretch.Tie as tie
+
+is-start-requires : tie.Need-is-start-requires
+is-start-requires c κs = search needs
+
+returns : tie.Need-returns
+returns c = search (needs, stretch-none)
+
+last-point-requires : tie.Need-last-point-requires
+last-point-requires c κs = search needs
+
+pen-of-requires : tie.Need-pen-of-requires
+pen-of-requires c κs = search needs
+
+draw-all-requires : tie.Need-draw-all-requires
+draw-all-requires c κs = search (needs, last-within, stretch-asked)
+
+same-length : tie.Need-same-length
+same-length c = search needs
+
+returns-2 : tie.Need-returns-2
+returns-2 c = search (needs, stretch-run)
+
+pub add-stretch-spec : {M : Type 1} → statement M
+add-stretch-spec =
+    tie.close
+    (tie.spec
+    is-start-requires
+    returns
+    last-point-requires
+    pen-of-requires
+    draw-all-requires
+    same-length
+    returns-2)
