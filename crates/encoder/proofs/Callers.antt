@@ -16,7 +16,7 @@ use Rattle.encoder.specs.declared.GeomEncoder.{GeomEncoder}
 use Rattle.encoder.specs.Answers.{Counted, done}
 use Rattle.encoder.specs.Adding.{added}
 use Rattle.encoder.proofs.States.{both}
-use Rattle.encoder.specs.declared.stretch.Pen.{Pen}
+use Rattle.encoder.specs.declared.pen.Pen.{Pen}
 use Rattle.encoder.specs.declared.stretch.Stretch.{Stretch}
 use Rattle.encoder.specs.Stretches.{isStart, pointIn, isPlain, halted, run, lastPoint, stretched}
 use Rattle.encoder.specs.Pens.{penOf, stateOf, drawnBy}

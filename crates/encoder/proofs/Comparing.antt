@@ -3,7 +3,7 @@ use mathlib.Core.Path.{_≡_, refl, sym, _∙_, ap}
 use mathlib.Core.Bool.{Bool, true, false, _&&_, _||_}
 use Prim.Native.Nat.{ℕ}
 use borrow.Author.Tests.{eq-eqb, ne-eqb}
-use lib.Dec.{leb, eqb}
+use lib.Dec.{eqb}
 use lib.IntN.{ℤ, pos, negsuc, ℤ-discrete}
 use lib.Signed.{ltZ}
 use mir.Syntax.{w32}
@@ -11,9 +11,7 @@ use mir.Val.{SFits, ofZ, toZ}
 use mir.Facts.{toZ-ofZ}
 use Rattle.clip.specs.declared.Pt.{Pt}
 use Rattle.clip.specs.declared.BBox.{BBox}
-use Rattle.encoder.specs.declared.points.MaybePt.{MaybePt}
-use Rattle.encoder.specs.declared.points.MaybePt.the-variants.{At}
-use Rattle.encoder.specs.Points.{eqZ, clampTo, clamped, strictly, between, lastBetween, outBefore}
+use Rattle.encoder.specs.Points.{eqZ, clampTo, clamped, strictly, between}
 
 -- ---- equal numbers
 pub eqZ-refl : (a : ℤ) → eqZ a a ≡ true
@@ -67,9 +65,6 @@ module _ (a m b : Pt) (ax : SFits w32 (a .x)) (ay : SFits w32 (a .y)) (mx : SFit
       let f′ : v ≡ strictly (a .x) (m .x) (b .x) = rw (toZ-ofZ ax, toZ-ofZ mx, toZ-ofZ bx) at f in
       rw (eq-bits ax mx, eq-bits mx bx, eq-bits ay my, eq-bits my by′, e′, f′)
 
-pub last-between-is : (l m : MaybePt) (a q b : Pt) (r : Bool) → l ≡ At a → m ≡ At q → r ≡ between a q b → r ≡ lastBetween l m b
-last-between-is l m a q b r e f g = rw (e, f) g
-
 -- a clamped coordinate, by what the code hands over and gets back
 clamp-back : {lo hi z r : ℤ} → SFits w32 lo → SFits w32 hi → SFits w32 z → r ≡ clampTo (toZ w32 (ofZ w32 lo)) (toZ w32 (ofZ w32 hi)) (toZ w32 (ofZ w32 z)) → r ≡ clampTo lo hi z
 clamp-back fl fh fz e = rw (toZ-ofZ fl, toZ-ofZ fh, toZ-ofZ fz) at e
@@ -80,11 +75,3 @@ module _ (b : BBox) (p : Pt) (x y : ℤ) (fx : SFits w32 x) (fy : SFits w32 y) (
       y ≡ clampTo (toZ w32 (ofZ w32 (b .«y_min»))) (toZ w32 (ofZ w32 (b .«y_max»))) (toZ w32 (ofZ w32 (p .y))) →
       _≡_ {A = Pt} (record { x = toZ w32 (ofZ w32 x); y = toZ w32 (ofZ w32 y) }) (clamped b p)
   made-point e f = rw (toZ-ofZ fx, toZ-ofZ fy, clamp-back l r px e, clamp-back d u py f)
-
--- not a polygon; a polygon
-module _ (kind count : ℕ) (l m : MaybePt) (p : Pt) where
-  pub no-ring : (kind ≡ 3 → ⊥) → false ≡ outBefore kind count l m p
-  no-ring h = rw (ne-eqb kind 3 h)
-
-  pub a-ring : kind ≡ 3 → (b : Bool) → b ≡ lastBetween l m p → (leb 2 count && b) ≡ outBefore kind count l m p
-  a-ring h b e = rw (eq-eqb kind 3 h, e)

@@ -24,10 +24,12 @@ use Rattle.encoder.specs.declared.GeomEncoder.{GeomEncoder}
 use Rattle.encoder.specs.Adding.{added}
 use Rattle.encoder.proofs.States.{both, room-length, room-cap}
 use Rattle.encoder.specs.Boundary.{outside}
-use Rattle.encoder.specs.declared.stretch.Pen.{Pen}
+use Rattle.encoder.specs.declared.pen.Pen.{Pen}
 use Rattle.encoder.specs.declared.stretch.Stretch.{Stretch}
 use Rattle.encoder.specs.Stretches.{isStart, pointIn, halted, run, lastPoint, stretched}
-use Rattle.encoder.specs.Pens.{penOf, stateOf, drawnBy, Steady}
+use Rattle.encoder.specs.declared.draft.Draft.{Draft}
+use Rattle.encoder.specs.Drafts.{draftOf}
+use Rattle.encoder.specs.Pens.{stateOf, drawnBy, Steady}
 use Rattle.encoder.proofs.Tests.{inside-coord, pen-whole}
 use Rattle.encoder.proofs.Marks.{drawn-raw}
 use Rattle.encoder.proofs.Plain.{Ongoing, ongoing-start, Next, next-is}
@@ -121,14 +123,14 @@ module _ (s : GeomEncoder) (l : List ℤ) (from to : ℕ) (out : List ℕ) (t : 
   unfolding stretched
   stretch-none h = rw (sym e ∙ not-true t h) (gives-kept (halted s from) out)
 
-  module _ (h : not t ≡ false) (pen : Pen) (f : pen ≡ penOf s) where
-    whole : stateOf s pen ≡ s
-    whole = ap (stateOf s) f ∙ pen-whole s (length out) (sym e ∙ not-false t h)
+  module _ (h : not t ≡ false) (d : Draft) (f : d ≡ draftOf s) where
+    whole : stateOf s (d .pen) ≡ s
+    whole = ap (λ (x : Draft). stateOf s (x .pen)) f ∙ pen-whole s (length out) (sym e ∙ not-false t h)
 
-    pub stretch-asked : isStart (stateOf s pen) (length out) ≡ true
+    pub stretch-asked : isStart (stateOf s (d .pen)) (length out) ≡ true
     stretch-asked = rw whole (sym e ∙ not-false t h)
 
-    pub stretch-run : (end : ℕ) → end ≡ lastPoint (length l) to → (r : Stretch) (o : List ℕ) → Gives (run (end - from) l from (stateOf s pen) out) r o → Gives (stretched s l from to out) r o
+    pub stretch-run : (end : ℕ) → end ≡ lastPoint (length l) to → (r : Stretch) (o : List ℕ) → Gives (run (end - from) l from (stateOf s (d .pen)) out) r o → Gives (stretched s l from to out) r o
     unfolding stretched
     stretch-run end k r o g = rw (sym e ∙ not-false t h) (rw (whole, k) at g)
 

@@ -2,8 +2,9 @@ pub mod States
 pub mod Differences
 pub mod Stores
 pub mod Pushing
-pub mod Bounds
 pub mod Steps
+pub mod Drafting
+pub mod Plans
 pub mod Calls
 pub mod Accepted
 pub mod Reached
@@ -15,6 +16,7 @@ pub mod Boundaries
 pub mod CommandWords
 pub mod Laying
 pub mod Tests
+pub mod Bounds
 pub mod Marks
 pub mod Plain
 pub mod Drawing

@@ -8,7 +8,7 @@ use mathlib.Core.Bool.{Bool, true, false, cond, not, _&&_, _||_}
 use mathlib.Core.List.{List, [], _∷_, _++_}
 use Prim.Native.Nat.{ℕ, _+_, _-_, _*_, _≤_}
 use native.Mathlib.Omega.{arith}
-use borrow.Author.Tests.{le-leb, ne-eqb}
+use borrow.Author.Tests.{le-leb, ne-eqb, not-true, not-false}
 use lib.Dec.{leb, eqb}
 use lib.ListN.{length, set, length-append}
 use lib.IntN.{_-ℤ_}
@@ -26,7 +26,7 @@ use Rattle.encoder.specs.declared.GeomEncoder.{GeomEncoder}
 use Rattle.encoder.specs.Pushed.{command}
 use Rattle.encoder.specs.Emitting.{Emission, steps, popped, pushed, emittedAt, emission}
 use Rattle.encoder.specs.Points.{clamped, samePt, between}
-use Rattle.encoder.specs.Boundary.{moved, movedEnds}
+use Rattle.encoder.specs.Boundary.{moved, movedEnds, movedBy}
 use Rattle.encoder.specs.Adding.{emitted}
 use Rattle.encoder.specs.Boundary.{outside}
 use Rattle.clip.proofs.Callers.{coord-facts, clip-within}
@@ -34,7 +34,8 @@ use Rattle.encoder.proofs.States.{both}
 use Rattle.encoder.proofs.Boundaries.{inside-same, stays}
 use Rattle.words.specs.Params.{param}
 use Rattle.encoder.proofs.Stores.{two-stores}
-use Rattle.encoder.specs.declared.stretch.Pen.{Pen}
+use Rattle.encoder.specs.declared.pen.Pen.{Pen}
+use Rattle.encoder.specs.declared.boundary.Ends.{Ends}
 use Rattle.encoder.specs.Pens.{stateOf, withRaw, Mark, still, taken, beforePush, onward, mark, laid, marked, markedIf, markedEnds, marks, ends, drawnBy, Fit, Able}
 use Rattle.encoder.proofs.Tests.{clamped-inside, made-coord, fixed0, fixed1, neither}
 
@@ -45,6 +46,9 @@ module _ (ring : Bool) (pen : Pen) (q : Pt) (u : Bool) (f : u ≡ (ring && betwe
 
   pub push-kept : u ≡ false → pen ≡ beforePush ring pen q
   push-kept k = rw (sym f ∙ k)
+
+pub may-pop : (ring b : Bool) (pen : Pen) → (ring ≡ true → (2 ≤ pen .count) × (2 ≤ pen .used)) → (u : Bool) → u ≡ (ring && b) → u ≡ true → (2 ≤ pen .count) × (2 ≤ pen .used)
+may-pop ring b pen h u f k = h (both ring b (sym f ∙ k) .0)
 
 module _ (ring : Bool) (pen : Pen) (q : Pt) (out : List ℕ) (t : Bool) (e : t ≡ samePt (pen .pt1) q) where
   pub emit-still : t ≡ true → Gives (marked ring pen q out) pen out
@@ -57,15 +61,15 @@ module _ (ring : Bool) (pen : Pen) (q : Pt) (out : List ℕ) (t : Bool) (e : t �
       let g′ : Gives (laid (onward (beforePush ring pen q) q) out) r o = subst (λ (x : Pen). Gives (laid (onward x q) out) r o) f g in
       rw (sym e ∙ h) g′
 
-pub some-used : {n : ℕ} {pen : Pen} → Able 2 pen n → (2 ≤ pen .count) × (2 ≤ pen .used)
-some-used a = (a .two, omega (arith, a .two, a .counted))
+pub some-used : {n : ℕ} {pen : Pen} (ring : Bool) → Able 2 pen n → ring ≡ true → (2 ≤ pen .count) × (2 ≤ pen .used)
+some-used ring a e = (a .two, omega (arith, a .two, a .counted))
 
 pub push-fits : (n : ℕ) (ring : Bool) (pen : Pen) (q : Pt) → Able 2 pen n → (base : Pen) → base ≡ beforePush ring pen q → Fit base n
 push-fits n ring pen q a base e = subst (λ (x : Pen). Fit x n) (sym e) (by (ring && between (pen .pt0) (pen .pt1) q))
   where
     by : (u : Bool) → Fit (cond u (taken pen) pen) n
-    by true = record { room = omega (arith, a .room); few = omega (arith, a .few, a .counted); at1 = a .at0 }
-    by false = record { room = a .room; few = omega (arith, a .few, a .counted); at1 = a .at1 }
+    by true = record { room = omega (arith, a .room); words = omega (arith, a .few); few = omega (arith, a .few, a .counted); at1 = a .at0 }
+    by false = record { room = a .room; words = omega (arith, a .few); few = omega (arith, a .few, a .counted); at1 = a .at1 }
 
 -- ---- what is asked of a pen
 pub less : {m k n : ℕ} {pen : Pen} → k ≤ m → Able m pen n → Able k pen n
@@ -83,23 +87,20 @@ module _ (m n : ℕ) (ring : Bool) (pen : Pen) (a : Able (m + 2) pen n) where
           record { room = omega (arith, a .room); few = omega (arith, a .few); two = omega (arith, a .two); counted = omega (arith, a .counted, a .two); at0 = a .at0; at1 = c }
       by false false = record { room = omega (arith, a .room); few = omega (arith, a .few); two = omega (arith, a .two); counted = omega (arith, a .counted); at0 = a .at1; at1 = c }
 
-  pub if-able : (raw end : Pt) (out : List ℕ) → isCoord end ≡ true → Able m (markedIf ring pen raw end out .answer) n
+  pub if-able : (moved : Bool) (end : Pt) (out : List ℕ) → isCoord end ≡ true → Able m (markedIf moved ring pen end out .answer) n
   unfolding markedIf
-  if-able raw end out c = by (samePt raw end)
-    where
-      by : (t : Bool) → Able m (cond t (kept pen out) (marked ring pen end out) .answer) n
-      by true = less (omega arith) a
-      by false = marked-able end out (coord-facts c)
+  if-able true end out c = marked-able end out (coord-facts c)
+  if-able false end out c = less (omega arith) a
 
--- ---- the returns of `emit_moved`
-module _ (ring : Bool) (pen : Pen) (raw end : Pt) (out : List ℕ) (t : Bool) (e : t ≡ samePt raw end) where
-  pub moved-none : t ≡ true → Gives (markedIf ring pen raw end out) pen out
+-- ---- the returns of `emit_if`
+module _ (moved ring : Bool) (pen : Pen) (end : Pt) (out : List ℕ) where
+  pub moved-none : not moved ≡ true → Gives (markedIf moved ring pen end out) pen out
   unfolding markedIf
-  moved-none h = rw (sym e ∙ h) (record { answer = refl; memory = refl })
+  moved-none h = rw (not-true moved h) (record { answer = refl; memory = refl })
 
-  pub moved-some : t ≡ false → (r : Pen) (o : List ℕ) → Gives (marked ring pen end out) r o → Gives (markedIf ring pen raw end out) r o
+  pub moved-some : not moved ≡ false → (r : Pen) (o : List ℕ) → Gives (marked ring pen end out) r o → Gives (markedIf moved ring pen end out) r o
   unfolding markedIf
-  moved-some h r o g = rw (sym e ∙ h) g
+  moved-some h r o g = rw (not-false moved h) g
 
 -- ---- emissions after emissions
 pub marks-then : (b : BBox) (ring : Bool) (ps qs : List Pt) (pen : Pen) (out : List ℕ) →
@@ -108,45 +109,42 @@ marks-then b ring [] qs pen out = refl
 marks-then b ring (p ∷ ps) qs pen out = marks-then b ring ps qs (marked ring pen (clamped b p) out .answer) (marked ring pen (clamped b p) out .memory)
 
 -- ---- what `emit_ends` asks and gives
-pub two-coords : (s : Seg) → areCoords s ≡ true → (isCoord (s .p0) ≡ true) × (isCoord (s .p1) ≡ true)
-two-coords s e = both (isCoord (s .p0)) (isCoord (s .p1)) e
+module _ (ring : Bool) (pen : Pen) (e : Ends) (out : List ℕ) (c0 : isCoord (e .end0) ≡ true) (c1 : isCoord (e .end1) ≡ true) where
+  module _ (first : Pen) (o : List ℕ) (g : Gives (markedIf (e .moved0) ring pen (e .end0) out) first o) where
+    pub second-asked : Able 4 pen (length out) → length o ≡ length out → Able 2 first (length o) × (isCoord (e .end1) ≡ true)
+    second-asked a l =
+        let r : Able 2 first (length out) = subst (λ (x : Pen). Able 2 x (length out)) (sym (g .answer)) (if-able 2 (length out) ring pen a (e .moved0) (e .end0) out c0) in
+        (rw l r, c1)
 
-module _ (ring : Bool) (pen : Pen) (raw cut : Seg) (out : List ℕ) (c : areCoords cut ≡ true) where
-  module _ (first : Pen) (o : List ℕ) (g : Gives (markedIf ring pen (raw .p0) (cut .p0) out) first o) where
-    pub second-asked : Able 4 pen (length out) → length o ≡ length out → Able 2 first (length o) × (isCoord (cut .p1) ≡ true)
-    second-asked a e =
-        let r : Able 2 first (length out) = subst (λ (x : Pen). Able 2 x (length out)) (sym (g .answer)) (if-able 2 (length out) ring pen a (raw .p0) (cut .p0) out (two-coords cut c .0)) in
-        (rw e r, two-coords cut c .1)
-
-    pub ends-both : (second : Pen) (m : List ℕ) → Gives (markedIf ring first (raw .p1) (cut .p1) o) second m → Gives (markedEnds ring pen raw cut out) second m
+    pub ends-both : (second : Pen) (m : List ℕ) → Gives (markedIf (e .moved1) ring first (e .end1) o) second m → Gives (markedEnds ring pen e out) second m
     unfolding markedEnds
     ends-both second m d =
-        let w : markedIf ring (markedIf ring pen (raw .p0) (cut .p0) out .answer) (raw .p1) (cut .p1) (markedIf ring pen (raw .p0) (cut .p0) out .memory) ≡ kept second m =
-        (λ i. markedIf ring (sym (g .answer) i) (raw .p1) (cut .p1) (sym (g .memory) i)) ∙ (λ i. kept (sym (d .answer) i) (sym (d .memory) i)) in
+        let w : markedIf (e .moved1) ring (markedIf (e .moved0) ring pen (e .end0) out .answer) (e .end1) (markedIf (e .moved0) ring pen (e .end0) out .memory) ≡ kept second m =
+        (λ i. markedIf (e .moved1) ring (sym (g .answer) i) (e .end1) (sym (g .memory) i)) ∙ (λ i. kept (sym (d .answer) i) (sym (d .memory) i)) in
         rw w (record { answer = refl; memory = refl })
 
-ends-able : (m n : ℕ) (ring : Bool) (pen : Pen) → Able (m + 4) pen n → (raw cut : Seg) (out : List ℕ) → areCoords cut ≡ true → Able m (markedEnds ring pen raw cut out .answer) n
+ends-able : (m n : ℕ) (ring : Bool) (pen : Pen) → Able (m + 4) pen n → (e : Ends) (out : List ℕ) → isCoord (e .end0) ≡ true → isCoord (e .end1) ≡ true → Able m (markedEnds ring pen e out .answer) n
 unfolding markedEnds
-ends-able m n ring pen a raw cut out c =
+ends-able m n ring pen a e out c0 c1 =
     let a′ : Able (m + 2 + 2) pen n = less (omega arith) a in
-    let w = markedIf ring pen (raw .p0) (cut .p0) out in
-    if-able m n ring (w .answer) (if-able (m + 2) n ring pen a′ (raw .p0) (cut .p0) out (two-coords cut c .0)) (raw .p1) (cut .p1) (w .memory) (two-coords cut c .1)
+    let w = markedIf (e .moved0) ring pen (e .end0) out in
+    if-able m n ring (w .answer) (if-able (m + 2) n ring pen a′ (e .moved0) (e .end0) out c0) (e .moved1) (e .end1) (w .memory) c1
 
 -- ---- a moved end is not clamped, so the two ends are emitted as the definition says
 module _ (b : BBox) (ring : Bool) where
-  if-is : (pen : Pen) (raw end : Pt) (out : List ℕ) → (samePt raw end ≡ false → clamped b end ≡ end) → marks b ring pen (moved raw end) out ≡ markedIf ring pen raw end out
+  if-is : (pen : Pen) (raw end : Pt) (out : List ℕ) → (samePt raw end ≡ false → clamped b end ≡ end) → marks b ring pen (moved raw end) out ≡ markedIf (not (samePt raw end)) ring pen end out
   unfolding markedIf
   if-is pen raw end out f = by (samePt raw end) refl
     where
-      by : (t : Bool) → samePt raw end ≡ t → marks b ring pen (cond t [] (end ∷ [])) out ≡ cond t (kept pen out) (marked ring pen end out)
+      by : (t : Bool) → samePt raw end ≡ t → marks b ring pen (cond t [] (end ∷ [])) out ≡ cond (not t) (marked ring pen end out) (kept pen out)
       by true e = refl
       by false e = ap (λ (q : Pt). marked ring pen q out) (f e)
 
-  ends-is : (pen : Pen) (s : Seg) (out : List ℕ) → isGood b ≡ true → marks b ring pen (movedEnds s (clip b s .seg)) out ≡ markedEnds ring pen s (clip b s .seg) out
+  ends-is : (pen : Pen) (s : Seg) (out : List ℕ) → isGood b ≡ true → marks b ring pen (movedEnds s (clip b s .seg)) out ≡ markedEnds ring pen (movedBy (s .p0) (s .p1) (clip b s .seg)) out
   unfolding markedEnds
   ends-is pen s out g =
       let cut = clip b s .seg in
-      let w = markedIf ring pen (s .p0) (cut .p0) out in
+      let w = markedIf (not (samePt (s .p0) (cut .p0))) ring pen (cut .p0) out in
       marks-then b ring (moved (s .p0) (cut .p0)) (moved (s .p1) (cut .p1)) pen out ∙
       ap (λ (x : Written Pen (List ℕ)). marks b ring (x .answer) (moved (s .p1) (cut .p1)) (x .memory)) (if-is pen (s .p0) (cut .p0) out (fixed0 b s g)) ∙
       if-is (w .answer) (s .p1) (cut .p1) (w .memory) (fixed1 b s g)
@@ -162,23 +160,28 @@ module _ (b : BBox) (ring : Bool) (pen : Pen) (p : Pt) (out : List ℕ) where
       let g′ : Gives (marked ring pen (clamped b p) out) last o = subst (λ (x : Pt). Gives (marked ring pen x out) last o) (sym (clamped-inside b p (neither (outside b (pen .raw)) (outside b p) f .1))) g in
       rw n (record { answer = k ∙ ap (λ (x : Pen). withRaw x p) (g′ .answer); memory = g′ .memory })
 
-  module _ (h : isGood b ≡ true) (cut : Seg) (c : cut ≡ clip b (record { p0 = pen .raw; p1 = p }) .seg) where
-    pub ends-asked : (n : ℕ) → Able 6 pen n → areCoords (record { p0 = pen .raw; p1 = p }) ≡ true → Able 4 pen n × (areCoords cut ≡ true)
-    ends-asked n a e = (less {m = 6} (omega arith) a, rw c (clip-within b (record { p0 = pen .raw; p1 = p }) h e))
+  module _ (h : isGood b ≡ true) (e : Ends) (c : e ≡ movedBy (pen .raw) p (clip b (record { p0 = pen .raw; p1 = p }) .seg)) where
+    cut-coords : areCoords (record { p0 = pen .raw; p1 = p }) ≡ true → (isCoord (e .end0) ≡ true) × (isCoord (e .end1) ≡ true)
+    cut-coords x =
+        let cut = clip b (record { p0 = pen .raw; p1 = p }) .seg in
+        rw c (both (isCoord (cut .p0)) (isCoord (cut .p1)) (clip-within b (record { p0 = pen .raw; p1 = p }) h x))
 
-    module _ (after : Pen) (o : List ℕ) (g : Gives (markedEnds ring pen (record { p0 = pen .raw; p1 = p }) cut out) after o) where
+    pub ends-asked : (n : ℕ) → Able 6 pen n → areCoords (record { p0 = pen .raw; p1 = p }) ≡ true → Able 4 pen n × ((isCoord (e .end0) ≡ true) × (isCoord (e .end1) ≡ true))
+    ends-asked n a x = (less {m = 6} (omega arith) a, cut-coords x)
+
+    module _ (after : Pen) (o : List ℕ) (g : Gives (markedEnds ring pen e out) after o) where
       pub cut-asked : areCoords (record { p0 = pen .raw; p1 = p }) ≡ true → Able 6 pen (length out) → length o ≡ length out → (q : Pt) → q ≡ clamped b p → Able 2 after (length o) × Coord q
-      cut-asked x a e q f =
-          let y : areCoords cut ≡ true = ends-asked (length out) a x .1 in
-          let r : Able 2 after (length out) = subst (λ (x : Pen). Able 2 x (length out)) (sym (g .answer)) (ends-able 2 (length out) ring pen a (record { p0 = pen .raw; p1 = p }) cut out y) in
-          (rw e r, made-coord b p q h f)
+      cut-asked x a l q f =
+          let (c0, c1) = cut-coords x in
+          let r : Able 2 after (length out) = subst (λ (x : Pen). Able 2 x (length out)) (sym (g .answer)) (ends-able 2 (length out) ring pen a e out c0 c1) in
+          (rw l r, made-coord b p q h f)
 
       pub draw-cut : (q : Pt) → q ≡ clamped b p → (last : Pen) (m : List ℕ) → Gives (marked ring after q o) last m → (r : Pen) → r ≡ withRaw last p → Gives (drawnBy b ring pen p out) r m
       unfolding drawnBy
       draw-cut q f last m d r k =
           let d′ : Gives (marked ring after (clamped b p) o) last m = subst (λ (x : Pt). Gives (marked ring after x o) last m) f d in
           let v : marks b ring pen (ends b (pen .raw) p) out ≡ kept after o =
-          ends-is b ring pen (record { p0 = pen .raw; p1 = p }) out h ∙ ap (λ (x : Seg). markedEnds ring pen (record { p0 = pen .raw; p1 = p }) x out) (sym c) ∙ (λ i. kept (sym (g .answer) i) (sym (g .memory) i)) in
+          ends-is b ring pen (record { p0 = pen .raw; p1 = p }) out h ∙ ap (λ (x : Ends). markedEnds ring pen x out) (sym c) ∙ (λ i. kept (sym (g .answer) i) (sym (g .memory) i)) in
           let w : marks b ring pen (ends b (pen .raw) p ++ (p ∷ [])) out ≡ marked ring after (clamped b p) o =
           marks-then b ring (ends b (pen .raw) p) (p ∷ []) pen out ∙ ap (λ (x : Written Pen (List ℕ)). marks b ring (x .answer) (p ∷ []) (x .memory)) v in
           rw w (record { answer = k ∙ ap (λ (x : Pen). withRaw x p) (d′ .answer); memory = d′ .memory })

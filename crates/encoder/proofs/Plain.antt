@@ -15,7 +15,7 @@ use Rattle.encoder.specs.declared.GeomEncoder.{GeomEncoder}
 use Rattle.encoder.specs.States.{valid}
 use Rattle.encoder.specs.Answers.{done, fitting}
 use Rattle.encoder.specs.Adding.{boundary, emitted, ended, drawn, added}
-use Rattle.encoder.specs.declared.stretch.Pen.{Pen}
+use Rattle.encoder.specs.declared.pen.Pen.{Pen}
 use Rattle.encoder.specs.Stretches.{isStart}
 use Rattle.encoder.specs.Pens.{stateOf, withRaw, marks, ends, drawnBy}
 use Rattle.encoder.proofs.Reached.{Sound, valid-is, add-sound}

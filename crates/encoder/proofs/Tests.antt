@@ -24,8 +24,8 @@ use Rattle.encoder.specs.declared.points.MaybePt.{MaybePt}
 use Rattle.encoder.specs.declared.points.MaybePt.the-variants.{Nowhere, At}
 use Rattle.encoder.specs.declared.GeomEncoder.{GeomEncoder}
 use Rattle.encoder.specs.States.{valid}
-use Rattle.encoder.specs.Points.{clampTo, clamped, samePt, lastOf}
-use Rattle.encoder.specs.Boundary.{outside, missing}
+use Rattle.encoder.specs.Points.{clampTo, clamped, samePt, lastOf, missing}
+use Rattle.encoder.specs.Boundary.{outside}
 use Rattle.encoder.proofs.States.{both, Valid, valid-facts}
 use Rattle.encoder.proofs.Comparing.{eqZ-refl}
 use Rattle.encoder.proofs.Coords.{clamped-coord}

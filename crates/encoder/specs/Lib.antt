@@ -12,4 +12,5 @@ pub mod Pushed
 pub mod Ends
 pub mod Stretches
 pub mod Pens
+pub mod Drafts
 pub mod Jobs

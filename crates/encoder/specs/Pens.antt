@@ -17,7 +17,8 @@ use Rattle.encoder.specs.declared.GeomEncoder.{GeomEncoder}
 use Rattle.encoder.specs.Points.{clamped, samePt, between, lastOf}
 use Rattle.encoder.specs.Emitting.{steps}
 use Rattle.encoder.specs.Boundary.{movedEnds}
-use Rattle.encoder.specs.declared.stretch.Pen.{Pen}
+use Rattle.encoder.specs.declared.pen.Pen.{Pen}
+use Rattle.encoder.specs.declared.boundary.Ends.{Ends}
 
 abbrev pub penOf : GeomEncoder → Pen
 penOf s = record { raw = lastOf (s .«xy_end»); pt0 = lastOf (s .pt0); pt1 = lastOf (s .pt1); count = s .count; used = s .used }
@@ -58,14 +59,14 @@ laid m out = record { answer = m .pen; memory = lay (m .at) (m .run) out }
 unfoldable pub marked : Bool → Pen → Pt → List ℕ → Written Pen (List ℕ)
 marked ring pen q out = laid (mark ring pen q) out
 
--- an end that was raw and is `end`, emitted if it moved; and the two ends of a segment
-unfoldable pub markedIf : Bool → Pen → Pt → Pt → List ℕ → Written Pen (List ℕ)
-markedIf ring pen raw end out = cond (samePt raw end) (kept pen out) (marked ring pen end out)
+-- an end, emitted if it moved; and both ends of a segment
+unfoldable pub markedIf : Bool → Bool → Pen → Pt → List ℕ → Written Pen (List ℕ)
+markedIf moved ring pen end out = cond moved (marked ring pen end out) (kept pen out)
 
-unfoldable pub markedEnds : Bool → Pen → Seg → Seg → List ℕ → Written Pen (List ℕ)
-markedEnds ring pen raw cut out =
-    let w : Written Pen (List ℕ) = markedIf ring pen (raw .p0) (cut .p0) out in
-    markedIf ring (w .answer) (raw .p1) (cut .p1) (w .memory)
+unfoldable pub markedEnds : Bool → Pen → Ends → List ℕ → Written Pen (List ℕ)
+markedEnds ring pen e out =
+    let w : Written Pen (List ℕ) = markedIf (e .moved0) ring pen (e .end0) out in
+    markedIf (e .moved1) ring (w .answer) (e .end1) (w .memory)
 
 -- ---- points emitted one after the other, and the whole of a point
 abbrev pub marks : BBox → Bool → Pen → List Pt → List ℕ → Written Pen (List ℕ)
@@ -83,6 +84,7 @@ drawnBy b ring pen p out =
 -- ---- what the code asks of a pen: a push fits a list of length n
 pub record Fit (pen : Pen) (n : ℕ) : Type 0 where
   pub room : pen .used + 2 ≤ n
+  pub words : pen .used ≤ maxWords
   pub few : pen .count ≤ maxWords
   pub at1 : Coord (pen .pt1)
 

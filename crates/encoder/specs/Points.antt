@@ -59,3 +59,8 @@ outBefore kind count before last p = eqb kind 3 && leb 2 count && lastBetween be
 abbrev pub lastOf : MaybePt → Pt
 lastOf Nowhere = record { x = pos 0; y = pos 0 }
 lastOf (At p) = p
+
+-- no point
+abbrev pub missing : MaybePt → Bool
+missing Nowhere = true
+missing (At p) = false

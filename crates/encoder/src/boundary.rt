@@ -1,36 +1,39 @@
 // The boundary points: the ends of the raw segment that the clip moved.
 ghost use mathlib.Core.Path.{_≡_};
-ghost use Rattle.encoder.specs.Boundary.{moved, movedEnds, cutOf, bounds, listOf, endsOf, outside, missing, alone};
-use crate::points::MaybePt;
+ghost use mathlib.Core.Bool.{true};
+ghost use Rattle.clip.specs.Answer.{areCoords};
+ghost use Rattle.clip.specs.Cutting.{clip};
+ghost use Rattle.clip.specs.Domain.{isCoord, isGood};
+ghost use Rattle.encoder.specs.Adding.{boundary};
+ghost use Rattle.encoder.specs.Boundary.{outside, movedBy, Brought};
+ghost use Rattle.encoder.specs.Drafts.{stateIn};
+ghost use Rattle.encoder.specs.Points.{inLimit};
+use crate::draft::Draft;
+use crate::points::is_same;
 use clip::BBox;
 use clip::Clipped;
 use clip::Pt;
 use clip::Seg;
 use words::geometry::Geometry;
 
-// The ends of a clipped segment that moved.
-pub struct Ends {
-    pub first: MaybePt,
-    pub second: MaybePt,
+// The ends of a clipped segment, and whether each has moved.
+pub(crate) struct Ends {
+    pub moved0: bool,
+    pub moved1: bool,
+    pub end0: Pt,
+    pub end1: Pt,
 }
 
-// The raw segment cut at the box; one whose clip is refused stays as it is.
+// The raw segment cut at the box. The clip of a good box and two coordinates is never refused.
 pub(crate) fn clip_raw(raw: Seg, bbox: BBox) -> Seg
-    ensures { λ r. ⌜ r ≡ cutOf bbox raw ⌝ }
+    requires { ⌜ isGood bbox ≡ true ⌝ }
+    requires { ⌜ areCoords raw ≡ true ⌝ }
+    ensures { λ r. ⌜ r ≡ clip bbox raw .seg ⌝ }
 {
     match clip::clip(raw, bbox) {
         Clipped::Done(c) => c.seg,
         Clipped::Refused(_) => raw,
     }
-}
-
-fn if_moved(raw: Pt, end: Pt) -> MaybePt
-    ensures { λ r. ⌜ listOf r ≡ moved raw end ⌝ }
-{
-    if crate::points::is_same(raw, end) {
-        return MaybePt::Nowhere;
-    }
-    MaybePt::At(end)
 }
 
 // Whether a point lies strictly outside an edge.
@@ -46,67 +49,42 @@ pub(crate) fn is_outside(p: Pt, b: BBox) -> bool
     (x < left) | (right < x) | (y < bottom) | (top < y)
 }
 
-// A segment inside the box is not cut, and need not be clipped to see it.
-fn moved_ends(raw: Seg, bbox: BBox) -> Ends
-    ensures { λ r. ⌜ endsOf r ≡ movedEnds raw (cutOf bbox raw) ⌝ }
+// The ends of the segment from raw to p, once it is cut.
+pub(crate) fn moved_ends(raw: Pt, p: Pt, cut: Seg) -> Ends
+    ensures { λ r. ⌜ r ≡ movedBy raw p cut ⌝ }
 {
-    let p0 = raw.p0;
-    let p1 = raw.p1;
-    let out0 = is_outside(p0, bbox);
-    let out1 = is_outside(p1, bbox);
-    if !(out0 | out1) {
-        return Ends {
-            first: MaybePt::Nowhere,
-            second: MaybePt::Nowhere,
-        };
-    }
-    let cut = clip_raw(raw, bbox);
     let c0 = cut.p0;
     let c1 = cut.p1;
-    let first = if_moved(p0, c0);
-    let second = if_moved(p1, c1);
+    let same0 = is_same(raw, c0);
+    let same1 = is_same(p, c1);
     Ends {
-        first: first,
-        second: second,
+        moved0: !same0,
+        moved1: !same1,
+        end0: c0,
+        end1: c1,
     }
 }
 
-// The boundary points that p brings to a geometry of that kind, in order; xy_end is the part's last raw point.
-pub(crate) fn add_boundary_points(kind: u32, bbox: BBox, xy_end: MaybePt, p: Pt) -> Ends
-    ensures { λ r. ⌜ endsOf r ≡ bounds kind bbox «xy_end» p ⌝ }
+// The boundary points that p brings, in order. A segment inside the box is not cut, and need not be clipped to see it.
+pub(crate) fn add_boundary_points(d: Draft, p: Pt) -> Ends
+    requires { ⌜ isGood (d .bbox) ≡ true ⌝ }
+    requires { ⌜ inLimit (stateIn d .«xy_end») ≡ true ⌝ }
+    requires { ⌜ isCoord p ≡ true ⌝ }
+    ensures { λ r. ⌜ Brought (d .bbox) (boundary (stateIn d) p) r ⌝ }
 {
-    if kind == Geometry::POINT {
-        return Ends {
-            first: MaybePt::Nowhere,
-            second: MaybePt::Nowhere,
-        };
+    let bbox = d.bbox;
+    let pen = d.pen;
+    let raw = pen.raw;
+    let out0 = is_outside(raw, bbox);
+    let out1 = is_outside(p, bbox);
+    if (d.kind != Geometry::POINT) & d.joins & (out0 | out1) {
+        let cut = clip_raw(Seg { p0: raw, p1: p }, bbox);
+        return moved_ends(raw, p, cut);
     }
-    match xy_end {
-        MaybePt::Nowhere => Ends {
-            first: MaybePt::Nowhere,
-            second: MaybePt::Nowhere,
-        },
-        MaybePt::At(q) => moved_ends(Seg { p0: q, p1: p }, bbox),
-    }
-}
-
-// Whether there is none.
-pub(crate) fn is_alone(ends: Ends) -> bool
-    ensures { λ r. ⌜ r ≡ alone ends ⌝ }
-{
-    let first = ends.first;
-    let second = ends.second;
-    let a = is_missing(first);
-    let b = is_missing(second);
-    a & b
-}
-
-// Whether there is no point.
-pub(crate) fn is_missing(m: MaybePt) -> bool
-    ensures { λ r. ⌜ r ≡ missing m ⌝ }
-{
-    match m {
-        MaybePt::Nowhere => true,
-        MaybePt::At(_) => false,
+    Ends {
+        moved0: false,
+        moved1: false,
+        end0: p,
+        end1: p,
     }
 }

@@ -1,10 +1,9 @@
-// Points as the encoder looks at them (document 01, "Adding a point"): a point that may be missing, within the limit, clamped to the box, equal to the last one, between two others; and in `boundary` the
-// points that a segment which leaves the box brings. Functions of points alone: they know no state and no words.
+// Points as the encoder looks at them (document 01, "Adding a point"): a point that may be missing, within the limit, clamped to the box, equal to another one, between two others.
+// Functions of points alone: they know no state and no words.
 ghost use mathlib.Core.Path.{_≡_};
-ghost use Rattle.encoder.specs.Points.{inLimit, inLimits, clampTo, clamped, samePt, isLast, strictly, between, lastBetween, outBefore, lastOf};
+ghost use Rattle.encoder.specs.Points.{inLimit, inLimits, clampTo, clamped, samePt, strictly, between, lastOf, missing};
 use clip::BBox;
 use clip::Pt;
-use words::geometry::Geometry;
 
 // A point that may be missing.
 pub enum MaybePt {
@@ -63,16 +62,6 @@ pub(crate) fn is_same(p: Pt, q: Pt) -> bool
     (px == qx) & (py == qy)
 }
 
-// Whether p is the last point.
-pub(crate) fn is_last(m: MaybePt, p: Pt) -> bool
-    ensures { λ r. ⌜ r ≡ isLast m p ⌝ }
-{
-    match m {
-        MaybePt::Nowhere => false,
-        MaybePt::At(q) => is_same(q, p),
-    }
-}
-
 fn is_strictly(a: i32, m: i32, b: i32) -> bool
     ensures { λ r. ⌜ r ≡ strictly a m b ⌝ }
 {
@@ -94,36 +83,6 @@ pub(crate) fn is_between(a: Pt, m: Pt, b: Pt) -> bool
     ((ax == mx) & (mx == bx) & up) | ((ay == my) & (my == by) & along)
 }
 
-// Whether the last point lies strictly between the one before it and b, on one horizontal or vertical.
-fn is_last_between(pt0: MaybePt, pt1: MaybePt, b: Pt) -> bool
-    ensures { λ r. ⌜ r ≡ lastBetween pt0 pt1 b ⌝ }
-{
-    match pt0 {
-        MaybePt::Nowhere => false,
-        MaybePt::At(a) => match pt1 {
-            MaybePt::Nowhere => false,
-            MaybePt::At(m) => is_between(a, m, b),
-        },
-    }
-}
-
-// Whether the last emitted point is taken out before p.
-pub(crate) fn should_simplify_point(
-    kind: u32,
-    count: u32,
-    pt0: MaybePt,
-    pt1: MaybePt,
-    p: Pt,
-) -> bool
-    ensures { λ r. ⌜ r ≡ outBefore kind count pt0 pt1 p ⌝ }
-{
-    if kind != Geometry::POLYGON {
-        return false;
-    }
-    let between = is_last_between(pt0, pt1, p);
-    (2 <= count) & between
-}
-
 // The last point, (0, 0) at the start.
 pub(crate) fn last_of(m: MaybePt) -> Pt
     ensures { λ r. ⌜ r ≡ lastOf m ⌝ }
@@ -131,5 +90,15 @@ pub(crate) fn last_of(m: MaybePt) -> Pt
     match m {
         MaybePt::Nowhere => Pt { x: 0, y: 0 },
         MaybePt::At(p) => p,
+    }
+}
+
+// Whether there is no point.
+pub(crate) fn is_missing(m: MaybePt) -> bool
+    ensures { λ r. ⌜ r ≡ missing m ⌝ }
+{
+    match m {
+        MaybePt::Nowhere => true,
+        MaybePt::At(_) => false,
     }
 }

@@ -1,8 +1,12 @@
--- Nothing where the state is none to start from; else the pen's loop, up to the last point that the list has.
+-- Nothing where the state is none to start from; else the loop of its pen, up to the last point that the list has.
 use Rattle.encoder.proofs.Drawing.{stretch-none, stretch-asked, stretch-run, last-within}
 use borrow.Author.Needs.{needs}
 use Rattle.encoder.proofs.stretch.add_stretch.Statement.{statement}
 use Rattle.encoder.proofs.stretch.add_stretch.Tie as tie
+use Rattle.encoder.proofs.draft.draft_of.Reads as draft-of-reads
+use Rattle.encoder.proofs.stretch.draw_all.Reads as draw-all-reads
+use Rattle.encoder.proofs.stretch.is_start.Reads as is-start-reads
+use Rattle.encoder.proofs.stretch.last_point.Reads as last-point-reads
 
 is-start-requires : tie.Need-is-start-requires
 is-start-requires c κs = search needs
@@ -13,8 +17,8 @@ returns c = search (needs, stretch-none)
 last-point-requires : tie.Need-last-point-requires
 last-point-requires c κs = search needs
 
-pen-of-requires : tie.Need-pen-of-requires
-pen-of-requires c κs = search needs
+draft-of-requires : tie.Need-draft-of-requires
+draft-of-requires c κs = search needs
 
 draw-all-requires : tie.Need-draw-all-requires
 draw-all-requires c κs = search (needs, last-within, stretch-asked)
@@ -32,7 +36,7 @@ add-stretch-spec =
     is-start-requires
     returns
     last-point-requires
-    pen-of-requires
+    draft-of-requires
     draw-all-requires
     same-length
     returns-2)

@@ -48,14 +48,14 @@ is-outside-requires-2 c κs = search needs
 is-plain-requires : tie.Need-is-plain-requires Inv-loop μ-loop
 is-plain-requires c κs = plain-asked _ _ _ _ _ _ _ _ _ _ _ _ _ (c .before .before .before .before .loop .inv) _ _ (c .is-outside2 .ensures)
 
-state-of-requires : tie.Need-state-of-requires Inv-loop μ-loop
-state-of-requires c κs = search needs
+state-with-requires : tie.Need-state-with-requires Inv-loop μ-loop
+state-with-requires c κs = search needs
 
 same-length : tie.Need-same-length Inv-loop μ-loop
 same-length c = search needs
 
 returns : tie.Need-returns Inv-loop μ-loop
-returns c = draw-stop _ _ _ _ _ _ _ _ _ _ _ _ _ (c .before .before .before .before .before .before .before .loop .inv) _ _ (c .before .before .before .is-outside2 .ensures) _ (c .before .before .is-plain .ensures) (c .before .before .before .before .before .before .loop-test .taken) (point-is (c .before .before .before .before .before .before .before .before .before .before .before .before .before .before .args .points .now) (c .before .before .before .before .before .before .before .loop .i) (c .before .before .before .before .before .x .given) (c .before .before .before .before .y .given)) (c .before .if1 .taken) _ (c .state-of .ensures)
+returns c = draw-stop _ _ _ _ _ _ _ _ _ _ _ _ _ (c .before .before .before .before .before .before .before .loop .inv) _ _ (c .before .before .before .is-outside2 .ensures) _ (c .before .before .is-plain .ensures) (c .before .before .before .before .before .before .loop-test .taken) (point-is (c .before .before .before .before .before .before .before .before .before .before .before .before .before .before .args .points .now) (c .before .before .before .before .before .before .before .loop .i) (c .before .before .before .before .before .x .given) (c .before .before .before .before .y .given)) (c .before .if1 .taken) _ (c .state-with .ensures)
 
 draw-requires : tie.Need-draw-requires Inv-loop μ-loop
 draw-requires c κs = draw-asked _ _ _ _ _ _ _ _ _ _ _ _ _ (c .before .before .before .before .before .before .before .loop .inv) _ _ (c .before .before .before .is-outside2 .ensures) _ (c .before .before .is-plain .ensures) (c .before .if1 .left)
@@ -69,8 +69,8 @@ loop-less c = search needs
 loop-again : tie.Need-loop-again Inv-loop μ-loop
 loop-again c = draw-turn _ _ _ _ _ _ _ _ _ _ _ _ _ (c .before .before .before .before .before .before .before .before .before .before .loop .inv) _ _ (c .before .before .before .before .before .before .is-outside2 .ensures) _ (c .before .before .before .before .before .is-plain .ensures) (c .before .before .before .before .before .before .before .before .before .loop-test .taken) (point-is (c .before .before .before .before .before .before .before .before .before .before .before .before .before .before .before .before .before .args .points .now) (c .before .before .before .before .before .before .before .before .before .before .loop .i) (c .before .before .before .before .before .before .before .before .x .given) (c .before .before .before .before .before .before .before .y .given)) (c .before .before .before .before .if1 .left) _ _ (c .before .before .draw .ensures)
 
-state-of-requires-2 : tie.Need-state-of-requires-2 Inv-loop μ-loop
-state-of-requires-2 c κs = search needs
+state-with-requires-2 : tie.Need-state-with-requires-2 Inv-loop μ-loop
+state-with-requires-2 c κs = search needs
 
 same-length-2 : tie.Need-same-length-2 Inv-loop μ-loop
 same-length-2 c = search needs
@@ -96,13 +96,13 @@ draw-all-spec =
     shared-slice-copy-out-y
     is-outside-requires-2
     is-plain-requires
-    state-of-requires
+    state-with-requires
     same-length
     returns
     draw-requires
     add-i
     loop-less
     loop-again
-    state-of-requires-2
+    state-with-requires-2
     same-length-2
     returns-2)

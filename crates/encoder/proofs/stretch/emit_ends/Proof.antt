@@ -1,15 +1,19 @@
 -- One end after the other.
 use native.Mathlib.Omega.{arith}
-use Rattle.encoder.proofs.Marks.{less, two-coords, second-asked, ends-both}
+use Rattle.encoder.proofs.Marks.{less, second-asked, ends-both}
 use borrow.Author.Needs.{needs}
 use Rattle.encoder.proofs.stretch.emit_ends.Statement.{statement}
 use Rattle.encoder.proofs.stretch.emit_ends.Tie as tie
+use Rattle.encoder.proofs.stretch.emit_if.Reads as emit-if-reads
 
-emit-moved-requires : tie.Need-emit-moved-requires
-emit-moved-requires c κs = let s = c .before .before .before .before .before .before in (less {m = 4} (omega arith) (s .pre .0), two-coords (s .args .cut) (s .pre .1) .0)
+abbrev at-start : (c : tie.After-emit-if-arg) → tie.Start
+at-start c = c .before .before .before .before
 
-emit-moved-requires-2 : tie.Need-emit-moved-requires-2
-emit-moved-requires-2 c κs = let s = c .before .before .before .before .before .before .before .before .before .before in second-asked _ _ (s .args .raw) (s .args .cut) _ (s .pre .1) _ _ (c .before .before .before .emit-moved .ensures) (s .pre .0) (search needs)
+emit-if-requires : tie.Need-emit-if-requires
+emit-if-requires c κs = let s = c .before .before .before .before in (less {m = 4} (omega arith) (s .pre .0), s .pre .1 .0)
+
+emit-if-requires-2 : tie.Need-emit-if-requires-2
+emit-if-requires-2 c κs = let o = c .before .before .before in let s = at-start (o .before) in second-asked _ _ (s .args .ends) _ (s .pre .1 .0) (s .pre .1 .1) _ _ (o .emit-if .ensures) (s .pre .0) (search needs)
 
 same-length : tie.Need-same-length
 same-length c = search needs
@@ -18,4 +22,4 @@ returns : tie.Need-returns
 returns c = search (needs, ends-both)
 
 pub emit-ends-spec : {M : Type 1} → statement M
-emit-ends-spec = tie.close (tie.spec emit-moved-requires emit-moved-requires-2 same-length returns)
+emit-ends-spec = tie.close (tie.spec emit-if-requires emit-if-requires-2 same-length returns)
