@@ -18,10 +18,12 @@ use Rattle.encoder.specs.Adding.{added}
 use Rattle.encoder.proofs.States.{both}
 use Rattle.encoder.specs.declared.pen.Pen.{Pen}
 use Rattle.encoder.specs.declared.stretch.Stretch.{Stretch}
-use Rattle.encoder.specs.Stretches.{isStart, pointIn, isPlain, halted, run, lastPoint, stretched}
+use Rattle.encoder.specs.Stretches.{isStart, Ongoing, pointIn, isPlain, halted, run, lastPoint, stretched}
+use Rattle.encoder.specs.States.{Sound}
+use Rattle.encoder.specs.Drafts.{draftOf}
 use Rattle.encoder.specs.Pens.{penOf, stateOf, drawnBy}
 use Rattle.encoder.proofs.Tests.{pen-whole}
-use Rattle.encoder.proofs.Plain.{Ongoing, ongoing-start, next-is}
+use Rattle.encoder.proofs.Plain.{ongoing-start, next-is}
 
 abbrev Answered : Type 0
 Answered = Written (Said Counted) (List ℕ)
@@ -60,19 +62,19 @@ last-before n to = by (leb to (n / 2)) refl
 -- whatever holds of the place, the state and the list at the start, and is kept by each accepted point before `to`, holds at the end
 pub stretch-keeps : (l : List ℤ) (to : ℕ) (P : ℕ → GeomEncoder → List ℕ → Type 0) →
     ((i : ℕ) (s t : GeomEncoder) (out m : List ℕ) → i < to → added s (pointIn l i) out ≡ kept (done t) m → length m ≡ length out → P i s out → P (i + 1) t m) →
-    (s : GeomEncoder) (from : ℕ) (out : List ℕ) → P from s out → P (stretched s l from to out .answer .reached) (stretched s l from to out .answer .state) (stretched s l from to out .memory)
+    (s : GeomEncoder) (from : ℕ) (out : List ℕ) → Sound s (length out) → P from s out → P (stretched s l from to out .answer .reached) (stretched s l from to out .answer .state) (stretched s l from to out .memory)
 unfolding stretched
-stretch-keeps l to P step s from out x = by (isStart s (length out)) refl
+stretch-keeps l to P step s from out S x = by (isStart (draftOf s)) refl
   where
     step′ : (i : ℕ) (s t : GeomEncoder) (out m : List ℕ) → i < lastPoint (length l) to → added s (pointIn l i) out ≡ kept (done t) m → length m ≡ length out → P i s out → P (i + 1) t m
     step′ i s t out m h = step i s t out m (omega (arith, last-before (length l) to))
 
-    by : (b : Bool) → isStart s (length out) ≡ b →
+    by : (b : Bool) → isStart (draftOf s) ≡ b →
         P (cond b (run (lastPoint (length l) to - from) l from s out) (kept (halted s from) out) .answer .reached) (cond b (run (lastPoint (length l) to - from) l from s out) (kept (halted s from) out) .answer .state)
         (cond b (run (lastPoint (length l) to - from) l from s out) (kept (halted s from) out) .memory)
     by true e =
-        let w = pen-whole s (length out) e in
+        let w = pen-whole s e in
         subst (λ (t : GeomEncoder). Ends l (lastPoint (length l) to) P step′ (run (lastPoint (length l) to - from) l from t out)) w
         (run-keeps l (lastPoint (length l) to) P step′ s (lastPoint (length l) to - from) from (penOf s) out (omega arith)
-        (ongoing-start s (penOf s) (length out) (rw w e)) (rw w x))
+        (ongoing-start s (length out) S e) (rw w x))
     by false e = x

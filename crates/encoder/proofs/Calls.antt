@@ -21,12 +21,12 @@ use Rattle.encoder.specs.Ends.{layIf, layEnd}
 use Rattle.encoder.proofs.CommandWords.{count-is}
 use Rattle.encoder.proofs.Laying.{Fitting, fitting-laid, fitting-long}
 use Rattle.encoder.specs.declared.GeomEncoder.{GeomEncoder}
-use Rattle.encoder.specs.States.{valid}
+use Rattle.encoder.specs.States.{valid, Valid}
 use Rattle.encoder.specs.Answers.{Counted, done, turned, fitting}
 use Rattle.encoder.specs.Emitting.{placeOf}
 use Rattle.encoder.specs.Adding.{drawn, added}
 use Rattle.encoder.specs.Completing.{counting, closing, cleared, finished, isEmpty, completed}
-use Rattle.encoder.proofs.States.{yes-of, no-of, Valid, valid-facts, room-length, room-cap}
+use Rattle.encoder.proofs.States.{yes-of, no-of, valid-facts, room-length, room-cap}
 
 -- ---- the state after completing
 module _ (s : GeomEncoder) where
@@ -71,76 +71,76 @@ finished-used s = by (eqb (s .kind) 1) refl
     by true e = let k : s .kind ≡ 1 = eqb-true (s .kind) 1 e in let n : eqb (s .kind) 3 ≡ false = ne-eqb (s .kind) 3 (λ z. omega arith) in rw n (omega arith)
     by false e = refl
 
--- ---- the returns of `add`
-module _ (s : GeomEncoder) (p : Pt) (out : List ℕ) (v : Bool) (e : v ≡ valid s (length out)) where
-  pub add-state : not v ≡ true → Gives (added s p out) (turned State s) out
+-- ---- the returns of `add_point` and `add_valid`
+module _ (s : GeomEncoder) (p : Pt) (out : List ℕ) where
+  pub add-state : (v : Bool) → v ≡ valid s (length out) → not v ≡ true → Gives (added s p out) (turned State s) out
   unfolding added
-  add-state h = rw (no-of v (valid s (length out)) e h) (gives-kept (turned State s) out)
+  add-state v e h = rw (no-of v (valid s (length out)) e h) (gives-kept (turned State s) out)
 
-  module _ (h : not v ≡ false) (t : Bool) (f : t ≡ isCoord p) where
+  module _ (w : valid s (length out) ≡ true) (t : Bool) (f : t ≡ isCoord p) where
     pub add-coord : not t ≡ true → Gives (added s p out) (turned Coord s) out
     unfolding added
-    add-coord k = rw (yes-of v (valid s (length out)) e h, no-of t (isCoord p) f k) (gives-kept (turned Coord s) out)
+    add-coord k = rw (w, no-of t (isCoord p) f k) (gives-kept (turned Coord s) out)
 
     module _ (k : not t ≡ false) where
       pub add-asked : (valid s (length out) ≡ true) × (isCoord p ≡ true)
-      add-asked = (yes-of v (valid s (length out)) e h, yes-of t (isCoord p) f k)
+      add-asked = (w, yes-of t (isCoord p) f k)
 
       pub add-within : {a : Said Counted} {o : List ℕ} → Gives (fitting s out (drawn s p out)) a o → Gives (added s p out) a o
       unfolding added
       add-within g = rw (add-asked .0, add-asked .1) g
 
--- ---- the returns of `complete_geom`
-module _ (s : GeomEncoder) (out : List ℕ) (v : Bool) (e : v ≡ valid s (length out)) where
-  pub end-state : not v ≡ true → Gives (completed s out) (turned State s) out
+-- ---- the returns of `complete_geom` and `complete_valid`
+module _ (s : GeomEncoder) (out : List ℕ) where
+  pub end-state : (v : Bool) → v ≡ valid s (length out) → not v ≡ true → Gives (completed s out) (turned State s) out
   unfolding completed
-  end-state h = rw (no-of v (valid s (length out)) e h) (gives-kept (turned State s) out)
+  end-state v e h = rw (no-of v (valid s (length out)) e h) (gives-kept (turned State s) out)
 
-  module _ (h : not v ≡ false) where
-    pub end-empty : isEmpty s ≡ true → Gives (completed s out) (turned Empty s) out
-    unfolding completed
-    end-empty k = rw (yes-of v (valid s (length out)) e h, k) (gives-kept (turned Empty s) out)
+module _ (s : GeomEncoder) (out : List ℕ) (w : valid s (length out) ≡ true) where
+  pub end-empty : isEmpty s ≡ true → Gives (completed s out) (turned Empty s) out
+  unfolding completed
+  end-empty k = rw (w, k) (gives-kept (turned Empty s) out)
 
-    module _ (k : isEmpty s ≡ false) where
-      facts : Valid s (length out)
-      facts = valid-facts s (length out) (yes-of v (valid s (length out)) e h)
+  module _ (k : isEmpty s ≡ false) where
+    facts : Valid s (length out)
+    facts = valid-facts s (length out) (w)
 
-      pub end-used : s .used ≤ maxWords
-      end-used = omega (arith, facts .fits, room-cap (length out))
+    pub end-used : s .used ≤ maxWords
+    end-used = omega (arith, facts .fits, room-cap (length out))
 
-      pub end-count : s .count ≤ maxWords
-      end-count = omega (arith, facts .counted, end-used)
+    pub end-count : s .count ≤ maxWords
+    end-count = omega (arith, facts .counted, end-used)
 
-      module _ (next : GeomEncoder) (d : next ≡ finished s) (m : ℕ) (q : m ≡ room (length out)) where
-        pub end-room : m < next .used → Gives (completed s out) (turned Room s) out
-        unfolding completed
-        end-room l =
+    module _ (next : GeomEncoder) (d : next ≡ finished s) (m : ℕ) (q : m ≡ room (length out)) where
+      pub end-room : m < next .used → Gives (completed s out) (turned Room s) out
+      unfolding completed
+      end-room l =
+          let u : next .used ≡ finished s .used = ap (λ (x : GeomEncoder). x .used) d in
+          let b : leb (finished s .used) (room (length out)) ≡ false = lt-leb (finished s .used) (room (length out)) (omega arith) in
+          rw (w, k, b) (gives-kept (turned Room s) out)
+
+      module _ (l : next .used ≤ m) where
+        count-fits : Fitting (s .«cmd_offset») (counting s) (length out)
+        count-fits =
+            let g = room-length (length out) in
+            record { fits = λ z. omega (arith, facts .placed (counted-some s k z), facts .fits, one-word s) }
+
+        close-fits : (o : List ℕ) → length o ≡ length out → Fitting (s .used) (closing s) (length o)
+        close-fits o n =
+            let g = room-length (length out) in
             let u : next .used ≡ finished s .used = ap (λ (x : GeomEncoder). x .used) d in
-            let b : leb (finished s .used) (room (length out)) ≡ false = lt-leb (finished s .used) (room (length out)) (omega arith) in
-            rw (yes-of v (valid s (length out)) e h, k, b) (gives-kept (turned Room s) out)
+            record { fits = λ z. omega (arith, finished-used s) }
 
-        module _ (l : next .used ≤ m) where
-          count-fits : Fitting (s .«cmd_offset») (counting s) (length out)
-          count-fits =
-              let g = room-length (length out) in
-              record { fits = λ z. omega (arith, facts .placed (counted-some s k z), facts .fits, one-word s) }
+        end-laid : layEnd (s .kind) (s .count) (s .«cmd_offset») (s .used) out ≡ lay (s .used) (closing s) (lay (s .«cmd_offset») (counting s) out)
+        end-laid =
+            let o : List ℕ = lay (s .«cmd_offset») (counting s) out in
+            ap (λ (c : List ℕ). layIf (s .used) (closing s) (layIf (s .«cmd_offset») c out)) (count-is (s .kind) (s .count) end-count)
+            ∙ ap (layIf (s .used) (closing s)) (fitting-laid (s .«cmd_offset») (counting s) out count-fits)
+            ∙ fitting-laid (s .used) (closing s) o (close-fits o (fitting-long (s .«cmd_offset») (counting s) out count-fits))
 
-          close-fits : (o : List ℕ) → length o ≡ length out → Fitting (s .used) (closing s) (length o)
-          close-fits o n =
-              let g = room-length (length out) in
-              let u : next .used ≡ finished s .used = ap (λ (x : GeomEncoder). x .used) d in
-              record { fits = λ z. omega (arith, finished-used s) }
-
-          end-laid : layEnd (s .kind) (s .count) (s .«cmd_offset») (s .used) out ≡ lay (s .used) (closing s) (lay (s .«cmd_offset») (counting s) out)
-          end-laid =
-              let o : List ℕ = lay (s .«cmd_offset») (counting s) out in
-              ap (λ (c : List ℕ). layIf (s .used) (closing s) (layIf (s .«cmd_offset») c out)) (count-is (s .kind) (s .count) end-count)
-              ∙ ap (layIf (s .used) (closing s)) (fitting-laid (s .«cmd_offset») (counting s) out count-fits)
-              ∙ fitting-laid (s .used) (closing s) o (close-fits o (fitting-long (s .«cmd_offset») (counting s) out count-fits))
-
-          pub end-done : (o : List ℕ) → o ≡ layEnd (s .kind) (s .count) (s .«cmd_offset») (s .used) out → Gives (completed s out) (done next) o
-          unfolding completed
-          end-done o x =
-              let u : next .used ≡ finished s .used = ap (λ (x : GeomEncoder). x .used) d in
-              let z : leb (finished s .used) (room (length out)) ≡ true = le-leb (finished s .used) (room (length out)) (omega arith) in
-              rw (yes-of v (valid s (length out)) e h, k, z) (record { answer = ap done d; memory = x ∙ end-laid })
+        pub end-done : (o : List ℕ) → o ≡ layEnd (s .kind) (s .count) (s .«cmd_offset») (s .used) out → Gives (completed s out) (done next) o
+        unfolding completed
+        end-done o x =
+            let u : next .used ≡ finished s .used = ap (λ (x : GeomEncoder). x .used) d in
+            let z : leb (finished s .used) (room (length out)) ≡ true = le-leb (finished s .used) (room (length out)) (omega arith) in
+            rw (w, k, z) (record { answer = ap done d; memory = x ∙ end-laid })

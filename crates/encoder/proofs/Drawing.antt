@@ -1,5 +1,5 @@
 -- The loop of a stretch, over plain lists and numbers: what is left to take gives the rest of the answer.
-use mathlib.Core.Path.{_≡_, refl, sym, _∙_, ap}
+use mathlib.Core.Path.{_≡_, refl, sym, _∙_, ap, subst}
 use mathlib.Core.Bool.{Bool, true, false, cond, not, _&&_, _||_}
 use mathlib.Core.List.{List}
 use Prim.Native.Nat.{ℕ, suc, _+_, _-_, _*_, _/_, _^_, _≤_, _<_}
@@ -21,18 +21,19 @@ use Rattle.clip.specs.Domain.{isCoord, isGood}
 use Rattle.clip.proofs.Callers.{coord-facts}
 use Rattle.words.specs.Geometries.{maxWords, room}
 use Rattle.encoder.specs.declared.GeomEncoder.{GeomEncoder}
+use Rattle.encoder.specs.States.{Sound}
 use Rattle.encoder.specs.Adding.{added}
 use Rattle.encoder.proofs.States.{both, room-length, room-cap}
 use Rattle.encoder.specs.Boundary.{outside}
 use Rattle.encoder.specs.declared.pen.Pen.{Pen}
 use Rattle.encoder.specs.declared.stretch.Stretch.{Stretch}
-use Rattle.encoder.specs.Stretches.{isStart, pointIn, halted, run, lastPoint, stretched}
+use Rattle.encoder.specs.Stretches.{isStart, Ongoing, pointIn, halted, run, lastPoint, stretched}
 use Rattle.encoder.specs.declared.draft.Draft.{Draft}
 use Rattle.encoder.specs.Drafts.{draftOf}
 use Rattle.encoder.specs.Pens.{stateOf, drawnBy, Steady}
 use Rattle.encoder.proofs.Tests.{inside-coord, pen-whole}
 use Rattle.encoder.proofs.Marks.{drawn-raw}
-use Rattle.encoder.proofs.Plain.{Ongoing, ongoing-start, Next, next-is}
+use Rattle.encoder.proofs.Plain.{ongoing-start, Next, next-is}
 
 -- the point that the code reads
 pub point-is : (l : List ℤ) (i : ℕ) → mag (getD l (2 * i) (pos 0)) < 2 ^ 31 → mag (getD l (2 * i + 1) (pos 0)) < 2 ^ 31 →
@@ -48,9 +49,9 @@ pub record Drawing (s : GeomEncoder) (l : List ℤ) (from end : ℕ) (out₀ : L
   pub ongoing : Ongoing s pen (length out)
   pub rest : run (end - from) l from (stateOf s start) out₀ ≡ run (end - i) l i (stateOf s pen) out
 
-pub draw-start : (s : GeomEncoder) (l : List ℤ) (from end : ℕ) (out : List ℕ) (most : ℕ) (start : Pen) → isStart (stateOf s start) (length out) ≡ true → most ≡ room (length out) →
+pub draw-start : (s : GeomEncoder) (l : List ℤ) (from end : ℕ) (out : List ℕ) (most : ℕ) (start : Pen) → Ongoing s start (length out) → most ≡ room (length out) →
     (away : Bool) → away ≡ outside (s .bbox) (start .raw) → Drawing s l from end out (s .bbox) (eqb (s .kind) 3) most start out start away from
-draw-start s l from end out most start e m away w = record { was = w; box = refl; rings = refl; room = m; long = refl; ongoing = ongoing-start s start (length out) e; rest = refl }
+draw-start s l from end out most start e m away w = record { was = w; box = refl; rings = refl; room = m; long = refl; ongoing = e; rest = refl }
 
 module _ (s : GeomEncoder) (l : List ℤ) (from end : ℕ) (out₀ : List ℕ) (bbox : BBox) (ring : Bool) (most : ℕ) (start : Pen) (out : List ℕ) (pen : Pen) (away : Bool) (i : ℕ)
     (I : Drawing s l from end out₀ bbox ring most start out pen away i) where
@@ -118,21 +119,27 @@ module _ (s : GeomEncoder) (l : List ℤ) (from end : ℕ) (out₀ : List ℕ) (
           }
 
 -- ---- the returns of `add_stretch`
-module _ (s : GeomEncoder) (l : List ℤ) (from to : ℕ) (out : List ℕ) (t : Bool) (e : t ≡ isStart s (length out)) where
+module _ (s : GeomEncoder) (l : List ℤ) (from to : ℕ) (out : List ℕ) (d : Draft) (f : d ≡ draftOf s) (t : Bool) (e : t ≡ isStart d) where
+  starts : t ≡ isStart (draftOf s)
+  starts = e ∙ ap isStart f
+
   pub stretch-none : not t ≡ true → Gives (stretched s l from to out) (record { state = s; reached = from }) out
   unfolding stretched
-  stretch-none h = rw (sym e ∙ not-true t h) (gives-kept (halted s from) out)
+  stretch-none h = rw (sym starts ∙ not-true t h) (gives-kept (halted s from) out)
 
-  module _ (h : not t ≡ false) (d : Draft) (f : d ≡ draftOf s) where
+  module _ (h : not t ≡ false) where
+    begins : isStart (draftOf s) ≡ true
+    begins = sym starts ∙ not-false t h
+
     whole : stateOf s (d .pen) ≡ s
-    whole = ap (λ (x : Draft). stateOf s (x .pen)) f ∙ pen-whole s (length out) (sym e ∙ not-false t h)
+    whole = ap (λ (x : Draft). stateOf s (x .pen)) f ∙ pen-whole s begins
 
-    pub stretch-asked : isStart (stateOf s (d .pen)) (length out) ≡ true
-    stretch-asked = rw whole (sym e ∙ not-false t h)
+    pub stretch-asked : (n : ℕ) → Sound s n → Ongoing s (d .pen) n
+    stretch-asked n S = subst (λ (x : Draft). Ongoing s (x .pen) n) (sym f) (ongoing-start s n S begins)
 
     pub stretch-run : (end : ℕ) → end ≡ lastPoint (length l) to → (r : Stretch) (o : List ℕ) → Gives (run (end - from) l from (stateOf s (d .pen)) out) r o → Gives (stretched s l from to out) r o
     unfolding stretched
-    stretch-run end k r o g = rw (sym e ∙ not-false t h) (rw (whole, k) at g)
+    stretch-run end k r o g = rw begins (rw (whole, k) at g)
 
 pub last-within : (n to end : ℕ) → end ≡ lastPoint n to → end ≤ n / 2
 last-within n to end e = by (leb to (n / 2)) refl e

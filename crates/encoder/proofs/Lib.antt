@@ -21,7 +21,7 @@ pub mod Marks
 pub mod Plain
 pub mod Drawing
 pub mod Callers
+pub mod Within
 pub mod Courses
 pub mod Turns
 pub mod Whole
-pub mod Within

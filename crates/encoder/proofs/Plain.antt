@@ -12,15 +12,16 @@ use Rattle.clip.specs.declared.Pt.{Pt}
 use Rattle.clip.specs.Domain.{isCoord}
 use Rattle.words.specs.Geometries.{room}
 use Rattle.encoder.specs.declared.GeomEncoder.{GeomEncoder}
-use Rattle.encoder.specs.States.{valid}
+use Rattle.encoder.specs.States.{valid, Sound}
 use Rattle.encoder.specs.Answers.{done, fitting}
 use Rattle.encoder.specs.Adding.{boundary, emitted, ended, drawn, added}
 use Rattle.encoder.specs.declared.pen.Pen.{Pen}
-use Rattle.encoder.specs.Stretches.{isStart}
-use Rattle.encoder.specs.Pens.{stateOf, withRaw, marks, ends, drawnBy}
-use Rattle.encoder.proofs.Reached.{Sound, valid-is, add-sound}
+use Rattle.encoder.specs.Stretches.{isStart, Ongoing}
+use Rattle.encoder.specs.Drafts.{draftOf}
+use Rattle.encoder.specs.Pens.{penOf, stateOf, withRaw, marks, ends, drawnBy}
+use Rattle.encoder.proofs.Reached.{valid-is, add-sound}
 use Rattle.encoder.proofs.Marks.{Begun, lifted, marks-emitted, drawn-used, drawn-begun}
-use Rattle.encoder.proofs.Tests.{start-facts}
+use Rattle.encoder.proofs.Tests.{start-facts, pen-whole}
 
 module _ (s : GeomEncoder) (pen : Pen) (p : Pt) (out : List ℕ) (k : s .kind ≡ 1 → ⊥) (B : Begun pen) where
   boundary-is : boundary (stateOf s pen) p ≡ ends (s .bbox) (pen .raw) p
@@ -51,16 +52,9 @@ module _ (s : GeomEncoder) (pen : Pen) (p : Pt) (out : List ℕ) (k : s .kind �
       let f = le-leb (drawnBy (s .bbox) (eqb (s .kind) 3) pen p out .answer .used) (room (length out)) (omega arith) in
       rw (v, c) (ap (fitting (stateOf s pen) out) drawn-is ∙ rw f)
 
--- ---- a pen that a stretch can go on from, with a list of length n, and what a plain point makes of it
-pub record Ongoing (s : GeomEncoder) (pen : Pen) (n : ℕ) : Type 0 where
-  pub kind : s .kind ≡ 1 → ⊥
-  pub two : 2 ≤ pen .count
-  pub sound : Sound (stateOf s pen) n
-
-pub ongoing-start : (s : GeomEncoder) (pen : Pen) (n : ℕ) → isStart (stateOf s pen) n ≡ true → Ongoing s pen n
-ongoing-start s pen n e =
-    let S = start-facts (stateOf s pen) n e in
-    record { kind = S .kind; two = S .two; sound = record { valid = S .valid; points = λ z. S .valid .placed (λ c. omega (arith, S .two)) } }
+-- ---- the pen of a state that a stretch starts from, and what a plain point makes of one
+pub ongoing-start : (s : GeomEncoder) (n : ℕ) → Sound s n → isStart (draftOf s) ≡ true → Ongoing s (penOf s) n
+ongoing-start s n S e = let F = start-facts s e in record { kind = F .kind; two = F .two; sound = rw (pen-whole s e) S }
 
 pub record Next (s : GeomEncoder) (pen : Pen) (p : Pt) (out : List ℕ) (next : Pen) (o : List ℕ) : Type 0 where
   pub accepted : added (stateOf s pen) p out ≡ kept (done (stateOf s next)) o

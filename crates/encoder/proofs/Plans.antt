@@ -20,7 +20,7 @@ use Rattle.encoder.specs.declared.GeomEncoder.{GeomEncoder}
 use Rattle.encoder.specs.declared.boundary.Ends.{Ends}
 use Rattle.encoder.specs.declared.draft.Draft.{Draft}
 use Rattle.encoder.specs.declared.plan.Plan.{Plan}
-use Rattle.encoder.specs.States.{valid}
+use Rattle.encoder.specs.States.{valid, Valid}
 use Rattle.encoder.specs.Answers.{done, turned, fitting}
 use Rattle.encoder.specs.Points.{inLimit, clamped}
 use Rattle.encoder.specs.Boundary.{maybe, endsOf, Brought}
@@ -28,7 +28,7 @@ use Rattle.encoder.specs.Emitting.{Emission, emittedAt, emission}
 use Rattle.encoder.specs.Adding.{boundary, emitted, emissions, drawn, ended}
 use Rattle.encoder.specs.Planning.{emissionIf, planLimit, Ready}
 use Rattle.encoder.specs.Drafts.{draftOf, stateIn, emittedIf, Near, Planned, Writable, EndsFit, AllFit, laidAll}
-use Rattle.encoder.proofs.States.{Valid, valid-facts, valid-ready, room-length}
+use Rattle.encoder.proofs.States.{valid-facts, valid-ready, room-length}
 use Rattle.encoder.proofs.Coords.{clamped-coord}
 use Rattle.encoder.proofs.Drafting.{whole}
 use Rattle.encoder.proofs.Steps.{Step, at-step, if-step, same-box, emitted-three}

@@ -3,8 +3,8 @@ use mathlib.Core.Path.{_≡_, refl, sym, subst}
 use mathlib.Core.Bool.{Bool, true, false, cond, not, _&&_, _||_}
 use Prim.Native.Nat.{ℕ, _+_, _≤_, _<_}
 use native.Mathlib.Omega.{arith}
-use borrow.Author.Tests.{eq-eqb, ne-eqb, le-leb, lt-leb, lt-ltb, le-ltb, eqb-false, ltb-false, not-true, not-false}
-use lib.Dec.{leb, ltb, eqb}
+use borrow.Author.Tests.{le-leb, lt-leb, leb-true, eqb-false, not-true, not-false}
+use lib.Dec.{leb, eqb}
 use lib.IntN.{ℤ}
 use lib.Signed.{_≤ℤ_, ltZ}
 use Rattle.clip.specs.declared.Pt.{Pt}
@@ -23,14 +23,14 @@ use mathlib.Core.Logic.{⊎-elim}
 use Rattle.encoder.specs.declared.points.MaybePt.{MaybePt}
 use Rattle.encoder.specs.declared.points.MaybePt.the-variants.{Nowhere, At}
 use Rattle.encoder.specs.declared.GeomEncoder.{GeomEncoder}
-use Rattle.encoder.specs.States.{valid}
 use Rattle.encoder.specs.Points.{clampTo, clamped, samePt, lastOf, missing}
 use Rattle.encoder.specs.Boundary.{outside}
-use Rattle.encoder.proofs.States.{both, Valid, valid-facts}
+use Rattle.encoder.proofs.States.{both}
 use Rattle.encoder.proofs.Comparing.{eqZ-refl}
 use Rattle.encoder.proofs.Coords.{clamped-coord}
 use Rattle.encoder.proofs.Boundaries.{kept-in}
 use Rattle.encoder.specs.Stretches.{isStart}
+use Rattle.encoder.specs.Drafts.{draftOf}
 use Rattle.encoder.specs.Pens.{penOf, stateOf}
 
 -- ---- a point of the box
@@ -93,49 +93,30 @@ module _ (used room : ℕ) (p : Pt) where
     plain-inside c = rw (le-leb (used + 6) room h, c)
 
 -- ---- a state to start from
-module _ (s : GeomEncoder) (n : ℕ) where
-  pub start-point : s .kind ≡ 1 → false ≡ isStart s n
-  unfolding isStart
-  start-point e = rw (eq-eqb (s .kind) 1 e)
-
-  module _ (e : s .kind ≡ 1 → ⊥) where
-    pub start-few : s .count < 2 → false ≡ isStart s n
-    unfolding isStart
-    start-few h = rw (ne-eqb (s .kind) 1 e, lt-ltb (s .count) 2 h)
-
-    pub start-is : 2 ≤ s .count → (a b c v : Bool) → a ≡ missing (s .«xy_end») → b ≡ missing (s .pt0) → c ≡ missing (s .pt1) → v ≡ valid s n → (v && not a && not b && not c) ≡ isStart s n
-    unfolding isStart
-    start-is h a b c v i j k l = rw (ne-eqb (s .kind) 1 e, le-ltb (s .count) 2 h, i, j, k, l)
-
-pub record Start (s : GeomEncoder) (n : ℕ) : Type 0 where
+pub record Start (s : GeomEncoder) : Type 0 where
   pub kind : s .kind ≡ 1 → ⊥
   pub two : 2 ≤ s .count
-  pub valid : Valid s n
   pub end : not (missing (s .«xy_end»)) ≡ true
   pub at0 : not (missing (s .pt0)) ≡ true
   pub at1 : not (missing (s .pt1)) ≡ true
 
-pub start-facts : (s : GeomEncoder) (n : ℕ) → isStart s n ≡ true → Start s n
-unfolding isStart
-start-facts s n = by (eqb (s .kind) 1) (ltb (s .count) 2) refl refl
-  where
-    by : (k c : Bool) → eqb (s .kind) 1 ≡ k → ltb (s .count) 2 ≡ c
-        → cond k false (cond c false (valid s n && not (missing (s .«xy_end»)) && not (missing (s .pt0)) && not (missing (s .pt1)))) ≡ true → Start s n
-    by true c f g e = absurd (let z : _≡_ {A = ℕ} 0 1 = cc in omega arith)
-    by false true f g e = absurd (let z : _≡_ {A = ℕ} 0 1 = cc in omega arith)
-    by false false f g e =
-        let (h, at1) = both (valid s n && not (missing (s .«xy_end»)) && not (missing (s .pt0))) (not (missing (s .pt1))) e in
-        let (i, at0) = both (valid s n && not (missing (s .«xy_end»))) (not (missing (s .pt0))) h in
-        let (v, end) = both (valid s n) (not (missing (s .«xy_end»))) i in
-        record { kind = eqb-false (s .kind) 1 f; two = let l = ltb-false (s .count) 2 g in omega arith; valid = valid-facts s n v; end = end; at0 = at0; at1 = at1 }
+pub start-facts : (s : GeomEncoder) → isStart (draftOf s) ≡ true → Start s
+start-facts s e =
+    let k = not (eqb (s .kind) 1) in
+    let c = leb 2 (s .count) in
+    let (h, at1) = both (k && c && not (missing (s .«xy_end»)) && not (missing (s .pt0))) (not (missing (s .pt1))) e in
+    let (i, at0) = both (k && c && not (missing (s .«xy_end»))) (not (missing (s .pt0))) h in
+    let (j, end) = both (k && c) (not (missing (s .«xy_end»))) i in
+    let (f, g) = both k c j in
+    record { kind = eqb-false (s .kind) 1 (not-true (eqb (s .kind) 1) f); two = leb-true 2 (s .count) g; end = end; at0 = at0; at1 = at1 }
 
 -- its pen loses nothing
 there : (m : MaybePt) → not (missing m) ≡ true → At (lastOf m) ≡ m
 there Nowhere e = absurd (let z : _≡_ {A = ℕ} 0 1 = cc in omega arith)
 there (At p) e = refl
 
-pub pen-whole : (s : GeomEncoder) (n : ℕ) → isStart s n ≡ true → stateOf s (penOf s) ≡ s
-pen-whole s n e = let S = start-facts s n e in rw (there (s .«xy_end») (S .end), there (s .pt0) (S .at0), there (s .pt1) (S .at1))
+pub pen-whole : (s : GeomEncoder) → isStart (draftOf s) ≡ true → stateOf s (penOf s) ≡ s
+pen-whole s e = let S = start-facts s e in rw (there (s .«xy_end») (S .end), there (s .pt0) (S .at0), there (s .pt1) (S .at1))
 
 -- the segment of two coordinates
 pub is-seg : (q p : Pt) → isCoord q ≡ true → isCoord p ≡ true → areCoords (record { p0 = q; p1 = p }) ≡ true

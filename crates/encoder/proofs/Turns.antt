@@ -30,6 +30,9 @@ use Rattle.encoder.proofs.Callers.{stretch-keeps}
 use Rattle.encoder.specs.declared.whole_job.Course.{Course}
 use Rattle.encoder.specs.declared.whole_job.Course.the-variants.{On, Off}
 use Rattle.encoder.specs.Jobs.{pointsOf, endsAt, isJob, part, jobCalls, on, go, outcomeOf}
+use Rattle.encoder.specs.States.{valid, Sound}
+use Rattle.encoder.proofs.Reached.{valid-is, add-sound}
+use Rattle.encoder.proofs.Within.{go-sound}
 use Rattle.encoder.proofs.Courses.{go-on, go-off, off-list, then, go-then}
 
 -- the element at j, and those behind it
@@ -89,10 +92,11 @@ part-over ps i to e = let z : to - i ≡ 0 = omega arith in rw z
 pub record Adding (l : List ℤ) (from to : ℕ) (out₀ : List ℕ) (s : GeomEncoder) (out : List ℕ) (q : GeomEncoder) (i : ℕ) : Type 0 where
   pub upto : i ≤ to
   pub long : length out ≡ length out₀
+  pub sound : Sound q (length out)
   pub rest : go (partCalls (part (pointsOf l) from to)) from s out₀ ≡ go (partCalls (part (pointsOf l) i to)) i q out
 
-pub add-start : (l : List ℤ) (from to : ℕ) (out : List ℕ) (s : GeomEncoder) → from ≤ to → Adding l from to out s out s from
-add-start l from to out s h = record { upto = h; long = refl; rest = refl }
+pub add-start : (l : List ℤ) (from to : ℕ) (out : List ℕ) (s : GeomEncoder) → from ≤ to → Sound s (length out) → Adding l from to out s out s from
+add-start l from to out s h S = record { upto = h; long = refl; sound = S; rest = refl }
 
 -- one more accepted point
 one-more : (l : List ℤ) (from to : ℕ) (out₀ : List ℕ) (s : GeomEncoder) → to ≤ length l / 2 → (i : ℕ) (q t : GeomEncoder) (out o : List ℕ) →
@@ -100,13 +104,14 @@ one-more : (l : List ℤ) (from to : ℕ) (out₀ : List ℕ) (s : GeomEncoder) 
 one-more l from to out₀ s k i q t out o h g f I = record {
   upto = omega arith;
   long = f ∙ I .long;
+  sound = add-sound q (pointIn l i) out t o (I .sound) (λ j. kept (sym (g .answer) j) (sym (g .memory) j)) .0;
   rest = I .rest ∙ rw (part-more l i to h k) (go-on (add (pointIn l i)) (partCalls (part (pointsOf l) (i + 1) to)) i q t out o g);
 }
 
 -- a stretch of them
 stretch-turn : (l : List ℤ) (from to : ℕ) (out₀ : List ℕ) (s : GeomEncoder) (out : List ℕ) (q : GeomEncoder) (i : ℕ) → to ≤ length l / 2 → Adding l from to out₀ s out q i →
     (x : Stretch) (y : List ℕ) → Gives (stretched q l i to out) x y → Adding l from to out₀ s y (x .state) (x .reached) × (i ≤ x .reached)
-stretch-turn l from to out₀ s out q i k I x y g = rw (g .answer, g .memory) (stretch-keeps l to Holds step q i out (I, omega arith))
+stretch-turn l from to out₀ s out q i k I x y g = rw (g .answer, g .memory) (stretch-keeps l to Holds step q i out (I .sound) (I, omega arith))
   where
     Holds : ℕ → GeomEncoder → List ℕ → Type 0
     Holds j p m = Adding l from to out₀ s m p j × (i ≤ j)
@@ -115,6 +120,9 @@ stretch-turn l from to out₀ s out q i k I x y g = rw (g .answer, g .memory) (s
     step j p t m o h a f J = (one-more l from to out₀ s k j p t m o h (rw a (record { answer = refl; memory = refl })) f (J .0), let b = J .1 in omega arith)
 
 module _ (l : List ℤ) (from to : ℕ) (out₀ : List ℕ) (s : GeomEncoder) (out : List ℕ) (q : GeomEncoder) (i : ℕ) (I : Adding l from to out₀ s out q i) where
+  pub valid-in : valid q (length out) ≡ true
+  valid-in = valid-is q (length out) (I .sound .valid)
+
   module _ (h : i < to) (k : to ≤ length l / 2) (r : Drawn) (o : List ℕ)
       (m : mag (getD l (2 * i) (pos 0)) < 2 ^ 31) (n : mag (getD l (2 * i + 1) (pos 0)) < 2 ^ 31)
       (g : Gives (added q (pointAt (toZ w32 (ofZ w32 (getD l (2 * i) (pos 0)))) (toZ w32 (ofZ w32 (getD l (2 * i + 1) (pos 0))))) out) (saidDrawn r) o) where
@@ -163,11 +171,12 @@ ends-le from (x ∷ es) n e = let (h, k) = ends-more from x es n e in let m = en
 pub record Going (l : List ℤ) (ends out₀ : List ℕ) (s : GeomEncoder) (out : List ℕ) (q : GeomEncoder) (from j : ℕ) : Type 0 where
   pub at : j ≤ length ends
   pub long : length out ≡ length out₀
+  pub sound : Sound q (length out)
   pub good : endsAt from (drop j ends) (length l / 2) ≡ true
   pub rest : go (jobCalls (pointsOf l) 0 ends) 0 s out₀ ≡ go (jobCalls (pointsOf l) from (drop j ends)) from q out
 
-pub parts-start : (l : List ℤ) (ends out : List ℕ) (s : GeomEncoder) → endsAt 0 ends (length l / 2) ≡ true → Going l ends out s out s 0 0
-parts-start l ends out s e = record { at = omega arith; long = refl; good = e; rest = refl }
+pub parts-start : (l : List ℤ) (ends out : List ℕ) (s : GeomEncoder) → endsAt 0 ends (length l / 2) ≡ true → Sound s (length out) → Going l ends out s out s 0 0
+parts-start l ends out s e S = record { at = omega arith; long = refl; sound = S; good = e; rest = refl }
 
 module _ (l : List ℤ) (ends out₀ : List ℕ) (s : GeomEncoder) (out : List ℕ) (q : GeomEncoder) (from j : ℕ) (I : Going l ends out₀ s out q from j) where
   pub parts-all : length ends ≤ j → Gives (go (jobCalls (pointsOf l) 0 ends) 0 s out₀) (outcomeOf (length l / 2) (On q)) out
@@ -183,16 +192,21 @@ module _ (l : List ℤ) (ends out₀ : List ℕ) (s : GeomEncoder) (out : List �
     told : (from ≤ getD ends j 0) × (endsAt (getD ends j 0) (drop (j + 1) ends) (length l / 2) ≡ true)
     told = ends-more from (getD ends j 0) (drop (j + 1) ends) (length l / 2) (rw here at (I .good))
 
-    pub part-asked : (from ≤ getD ends j 0) × (getD ends j 0 ≤ length l / 2)
-    part-asked = (told .0, ends-le (getD ends j 0) (drop (j + 1) ends) (length l / 2) (told .1))
+    pub part-asked : (from ≤ getD ends j 0) × ((getD ends j 0 ≤ length l / 2) × Sound q (length out))
+    part-asked = (told .0, (ends-le (getD ends j 0) (drop (j + 1) ends) (length l / 2) (told .1), I .sound))
 
     module _ (r : Course) (o : List ℕ) (g : Gives (go (partCalls (part (pointsOf l) from (getD ends j 0))) from q out) (outcomeOf (getD ends j 0) r) o) where
       behind : go (jobCalls (pointsOf l) 0 ends) 0 s out₀ ≡ then (outcomeOf (getD ends j 0) r) (jobCalls (pointsOf l) (getD ends j 0) (drop (j + 1) ends)) o
       behind = I .rest ∙ rw here (go-then (jobCalls (pointsOf l) (getD ends j 0) (drop (j + 1) ends)) (partCalls (part (pointsOf l) from (getD ends j 0))) from q out ∙
           (λ k. then (sym (g .answer) k) (jobCalls (pointsOf l) (getD ends j 0) (drop (j + 1) ends)) (sym (g .memory) k)))
 
+      sound-after : (t : GeomEncoder) → r ≡ On t → Sound t (length o)
+      sound-after t e =
+          let a : go (partCalls (part (pointsOf l) from (getD ends j 0))) from q out .answer ≡ on (getD ends j 0) t = sym (g .answer) ∙ ap (outcomeOf (getD ends j 0)) e in
+          rw (g .memory) (go-sound (partCalls (part (pointsOf l) from (getD ends j 0))) from q out (I .sound) (getD ends j 0) t a)
+
       pub parts-turn : (t : GeomEncoder) → r ≡ On t → length o ≡ length out → Going l ends out₀ s o t (getD ends j 0) (j + 1)
-      parts-turn t e f = record { at = omega arith; long = f ∙ I .long; good = told .1; rest = rw e at behind }
+      parts-turn t e f = record { at = omega arith; long = f ∙ I .long; sound = sound-after t e; good = told .1; rest = rw e at behind }
 
       pub parts-stop : (x : Refusal) (n : ℕ) → r ≡ Off x n → Gives (go (jobCalls (pointsOf l) 0 ends) 0 s out₀) (outcomeOf (length l / 2) (Off x n)) o
       parts-stop x n e = rw (behind, e) (record { answer = refl; memory = refl })

@@ -19,9 +19,10 @@ use Rattle.words.specs.Geometries.{isKind}
 use Rattle.encoder.specs.declared.GeomEncoder.{GeomEncoder}
 use Rattle.encoder.specs.declared.Started.{Started}
 use Rattle.encoder.specs.declared.Started.the-variants.{Fresh, Refused as NotStarted}
-use Rattle.encoder.specs.States.{fresh}
+use Rattle.encoder.specs.States.{fresh, Sound}
 use Rattle.encoder.specs.Answers.{saidStarted, started}
 use Rattle.encoder.proofs.States.{yes-of, no-of}
+use Rattle.encoder.proofs.Reached.{fresh-sound}
 use Rattle.encoder.specs.declared.whole_job.Encoded.{Encoded}
 use Rattle.encoder.specs.declared.whole_job.Encoded.the-variants.{Words, Refused}
 use Rattle.encoder.specs.declared.whole_job.Course.{Course}
@@ -78,10 +79,15 @@ module _ (kind : ℕ) (bbox : BBox) (points : List ℤ) (ends out : List ℕ) (v
   job-none h = rw (no-of v (isJob points ends) e h) (gives-kept (refused Job 0) out)
 
   module _ (h : not v ≡ false) where
-    pub job-ends : endsAt 0 ends (length points / 2) ≡ true
+    job-ends : endsAt 0 ends (length points / 2) ≡ true
     job-ends = good-ends points ends (yes-of v (isJob points ends) e h)
 
     module _ (b : Started) (f : saidStarted b ≡ started kind bbox) where
+      pub job-asked : (s : GeomEncoder) → b ≡ Fresh s → (endsAt 0 ends (length points / 2) ≡ true) × Sound s (length out)
+      job-asked s g =
+          let (i, (j, q)) = start-fresh kind bbox b f s g in
+          (job-ends, rw q (fresh-sound kind bbox (length out) i j))
+
       pub job-start : (x : Refusal) → b ≡ NotStarted x → Gives (encodedJob kind bbox points ends out) (refused x 0) out
       unfolding encodedJob
       job-start x g = rw (yes-of v (isJob points ends) e h) (start-refused kind bbox b f x g (run (jobCalls (pointsOf points) 0 ends) (fresh kind bbox) out) out)

@@ -1,5 +1,5 @@
 -- An accepted job uses no more words than its list has.
-use mathlib.Core.Path.{_≡_, refl, sym, ap}
+use mathlib.Core.Path.{_≡_, refl, sym, ap, subst}
 use mathlib.Core.Bool.{Bool, true, false, cond}
 use mathlib.Core.List.{List, [], _∷_}
 use Prim.Native.Nat.{ℕ, _≤_}
@@ -17,14 +17,14 @@ use Rattle.clip.specs.declared.BBox.{BBox}
 use Rattle.clip.specs.Domain.{isCoord, isGood}
 use Rattle.words.specs.Geometries.{isKind, room}
 use Rattle.encoder.specs.declared.GeomEncoder.{GeomEncoder}
-use Rattle.encoder.specs.States.{fresh, valid}
+use Rattle.encoder.specs.States.{fresh, valid, Sound}
 use Rattle.encoder.specs.Answers.{Counted, done, turned, fitting}
 use Rattle.encoder.specs.Adding.{drawn, added}
 use Rattle.encoder.specs.Completing.{isEmpty, closed, completed}
 use Rattle.encoder.specs.Calls.{Call, add, complete, call}
 use Rattle.encoder.proofs.States.{room-length}
-use Rattle.encoder.proofs.Reached.{Sound, fresh-sound, add-sound, complete-sound}
-use Rattle.encoder.specs.Jobs.{off, pointsOf, isJob, jobCalls, taken, stopped, go, outcome, run, encodedJob}
+use Rattle.encoder.proofs.Reached.{fresh-sound, add-sound, complete-sound}
+use Rattle.encoder.specs.Jobs.{Outcome, on, off, pointsOf, isJob, jobCalls, taken, stopped, go, outcome, run, encodedJob}
 
 -- ---- a call whose number is zero says that it is done
 abbrev Answered : Type 0
@@ -68,6 +68,28 @@ sound-call (add p) s out S e = add-sound s p out _ _ S (added-done s p out e)
 sound-call complete s out S e = complete-sound s out _ _ S (completed-done s out e)
 
 -- ---- calls in order
+state-in : GeomEncoder → Outcome → GeomEncoder
+state-in d (on n s) = s
+state-in d (off a) = d
+
+is-on : Outcome → ℕ
+is-on (on n s) = 1
+is-on (off a) = 0
+
+pub go-sound : (cs : List Call) (n : ℕ) (s : GeomEncoder) (out : List ℕ) → Sound s (length out) → (m : ℕ) (t : GeomEncoder) → go cs n s out .answer ≡ on m t → Sound t (length (go cs n s out .memory))
+unfolding state-in is-on
+go-sound [] n s out S m t e = subst (λ (x : GeomEncoder). Sound x (length out)) (ap (state-in s) e) S
+go-sound (c ∷ cs) n s out S m t e =
+    by (eqb (call c s out .answer .number) 0) refl (λ T. go-sound cs (taken c n) (call c s out .answer .values .state) (call c s out .memory) T m t) e
+  where
+    by : (b : Bool) → eqb (call c s out .answer .number) 0 ≡ b
+        → (Sound (call c s out .answer .values .state) (length (call c s out .memory))
+        → go cs (taken c n) (call c s out .answer .values .state) (call c s out .memory) .answer ≡ on m t → Sound t (length (go cs (taken c n) (call c s out .answer .values .state) (call c s out .memory) .memory)))
+        → cond b (go cs (taken c n) (call c s out .answer .values .state) (call c s out .memory)) (kept (off (stopped n (call c s out .answer))) out) .answer ≡ on m t
+        → Sound t (length (cond b (go cs (taken c n) (call c s out .answer .values .state) (call c s out .memory)) (kept (off (stopped n (call c s out .answer))) out) .memory))
+    by true f r g = r (sound-call c s out S (eqb-true (call c s out .answer .number) 0 f) .0) g
+    by false f r g = absurd (let z : _≡_ {A = ℕ} 0 1 = ap is-on g in omega arith)
+
 within : (cs : List Call) (n : ℕ) (s : GeomEncoder) (out : List ℕ) → Sound s (length out) → (k : ℕ) → outcome (go cs n s out .answer) ≡ accepted k → k ≤ length out
 within [] n s out S k e =
     let u : s .used ≡ k = ap (λ (a : Said ℕ). a .values) e in

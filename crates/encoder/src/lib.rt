@@ -132,17 +132,32 @@ fn draw(s: GeomEncoder, p: Pt, words: &mut [u32]) -> Drawn
     Drawn::Done(state_of(set_end(last, p)))
 }
 
-// STATE, COORD, and the point.
-fn add(s: GeomEncoder, p: Pt, words: &mut [u32]) -> Drawn
+// A point added to a state that breaks no rule: COORD, ROOM.
+pub(crate) fn add_valid(s: GeomEncoder, p: Pt, words: &mut [u32]) -> Drawn
+    requires { ⌜ valid s (length (now words)) ≡ true ⌝ }
     ensures { λ r. ⌜ Gives (added s p (now (words .entry))) (saidDrawn r) (now (words .exit)) ⌝ }
 {
-    if !is_valid(s, words.len()) {
-        return Drawn::Refused(Refusal::State, s);
-    }
     if !BBox::is_coord(p) {
         return Drawn::Refused(Refusal::Coord, s);
     }
     draw(s, p, words)
+}
+
+// A part of a state that breaks no rule, completed: EMPTY, ROOM; then everything that is written.
+pub(crate) fn complete_valid(s: GeomEncoder, words: &mut [u32]) -> Drawn
+    requires { ⌜ valid s (length (now words)) ≡ true ⌝ }
+    ensures { λ r. ⌜ Gives (completed s (now (words .entry))) (saidDrawn r) (now (words .exit)) ⌝ }
+{
+    if (s.kind == Geometry::POINT) & (s.count == 0) {
+        return Drawn::Refused(Refusal::Empty, s);
+    }
+    let next = finish(s);
+    let room = Geometry::room(words.len());
+    if room < next.used {
+        return Drawn::Refused(Refusal::Room, s);
+    }
+    write_end(s.kind, s.count, s.cmd_offset, s.used, words);
+    Drawn::Done(next)
 }
 
 impl GeomEncoder {
@@ -187,25 +202,19 @@ impl GeomEncoder {
     pub fn add_point(self, x: i32, y: i32, words: &mut [u32]) -> Drawn
         ensures { λ r. ⌜ Gives (added self (pointAt x y) (now (words .entry))) (saidDrawn r) (now (words .exit)) ⌝ }
     {
-        add(self, Pt { x: x, y: y }, words)
+        if !is_valid(self, words.len()) {
+            return Drawn::Refused(Refusal::State, self);
+        }
+        add_valid(self, Pt { x: x, y: y }, words)
     }
 
-    // Completes a part: STATE, EMPTY, ROOM; then everything that is written.
+    // Completes a part: STATE, EMPTY, ROOM.
     pub fn complete_geom(self, words: &mut [u32]) -> Drawn
         ensures { λ r. ⌜ Gives (completed self (now (words .entry))) (saidDrawn r) (now (words .exit)) ⌝ }
     {
         if !is_valid(self, words.len()) {
             return Drawn::Refused(Refusal::State, self);
         }
-        if (self.kind == Geometry::POINT) & (self.count == 0) {
-            return Drawn::Refused(Refusal::Empty, self);
-        }
-        let next = finish(self);
-        let room = Geometry::room(words.len());
-        if room < next.used {
-            return Drawn::Refused(Refusal::Room, self);
-        }
-        write_end(self.kind, self.count, self.cmd_offset, self.used, words);
-        Drawn::Done(next)
+        complete_valid(self, words)
     }
 }

@@ -1,5 +1,5 @@
 // A stretch: many points of a part in one loop (document 01, "Adding a point", for lines and polygons that have begun).
-// STATE is asked once, and a point with room for all that it can bring is emitted without a plan.
+// The state is sound, and a point with room for all that it can bring is emitted without a plan.
 ghost use mathlib.Core.Path.{_≡_};
 ghost use mathlib.Core.Bool.{true, false, _&&_, _||_};
 ghost use Prim.Native.Nat.{_+_, _-_, _/_, _≤_};
@@ -9,7 +9,8 @@ ghost use Rattle.promise.specs.Answers.{Gives};
 ghost use Rattle.clip.specs.Domain.{isCoord, isGood};
 ghost use Rattle.words.specs.Geometries.{maxWords};
 ghost use Rattle.encoder.specs.Boundary.{outside};
-ghost use Rattle.encoder.specs.Stretches.{isStart, run, lastPoint, stretched};
+ghost use Rattle.encoder.specs.Stretches.{isStart, Ongoing, run, lastPoint, stretched};
+ghost use Rattle.encoder.specs.States.{Sound};
 ghost use Rattle.encoder.specs.Pens.{stateOf, markedIf, markedEnds, drawnBy, Able, Steady};
 use crate::GeomEncoder;
 use crate::boundary::Ends;
@@ -22,14 +23,13 @@ use crate::draft::state_of;
 use crate::pen::Pen;
 use crate::pen::emit;
 use crate::pen::set_raw;
-use crate::points::is_missing;
 use crate::points::make_point;
 use clip::BBox;
 use clip::Pt;
 use clip::Seg;
 use words::geometry::Geometry;
 
-pub(crate) struct Stretch {
+pub struct Stretch {
     pub state: GeomEncoder,
     pub reached: usize, // the first point that is not taken
 }
@@ -90,24 +90,12 @@ fn draw(b: BBox, ring: bool, pen: Pen, p: Pt, crossing: bool, words: &mut [u32])
     set_raw(last, p)
 }
 
-// Whether a stretch starts from this state; what is cheap is asked first.
-fn is_start(s: GeomEncoder, length: usize) -> bool
-    ensures { λ r. ⌜ r ≡ isStart s length ⌝ }
+// Whether a stretch starts from this draft: a line or a polygon with two points in this part.
+fn is_start(d: Draft) -> bool
+    ensures { λ r. ⌜ r ≡ isStart d ⌝ }
 {
-    if s.kind == Geometry::POINT {
-        return false;
-    }
-    if s.count < 2 {
-        return false;
-    }
-    let xy_end = s.xy_end;
-    let pt0 = s.pt0;
-    let pt1 = s.pt1;
-    let a = is_missing(xy_end);
-    let b = is_missing(pt0);
-    let c = is_missing(pt1);
-    let valid = crate::is_valid(s, length);
-    valid & !a & !b & !c
+    let pen = d.pen;
+    (d.kind != Geometry::POINT) & (2 <= pen.count) & d.joins & d.has0 & d.has1
 }
 
 // The state that the pen has come to.
@@ -151,7 +139,7 @@ fn draw_all(
     words: &mut [u32],
 ) -> Stretch
     requires { ⌜ end ≤ length (now points) / 2 ⌝ }
-    requires { ⌜ isStart (stateOf s start) (length (now words)) ≡ true ⌝ }
+    requires { ⌜ Ongoing s start (length (now words)) ⌝ }
     ensures { λ r. ⌜ Gives (run (end - from) (now (points .entry)) from (stateOf s start) (now (words .entry))) r (now (words .exit)) ⌝ }
 {
     let bbox = s.bbox;
@@ -199,16 +187,17 @@ pub(crate) fn add_stretch(
     to: usize,
     words: &mut [u32],
 ) -> Stretch
+    requires { ⌜ Sound s (length (now words)) ⌝ }
     ensures { λ r. ⌜ Gives (stretched s (now (points .entry)) from to (now (words .entry))) r (now (words .exit)) ⌝ }
 {
-    if !is_start(s, words.len()) {
+    let d = draft_of(s);
+    if !is_start(d) {
         return Stretch {
             state: s,
             reached: from,
         };
     }
     let end = last_point(points.len(), to);
-    let d = draft_of(s);
     let pen = d.pen;
     draw_all(s, pen, points, from, end, words)
 }

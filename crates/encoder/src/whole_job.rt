@@ -1,15 +1,20 @@
-// The whole job (document 01 module 7, without the file): a list of coordinates and a list of part ends to words, as the calls in order.
+// The whole job (document 01 module 7, without the file): a list of coordinates and a list of part ends to words, as the calls in order. STATE is asked by none of them: a fresh state is sound, and accepted calls keep it so.
 ghost use mathlib.Core.Path.{_≡_};
 ghost use mathlib.Core.Bool.{true};
 ghost use Prim.Native.Nat.{_*_, _/_, _≤_};
 ghost use lib.ListN.{length};
 ghost use Rattle.promise.specs.Answers.{Gives};
 ghost use Rattle.encoder.specs.Calls.{partCalls};
+ghost use Rattle.encoder.specs.States.{Sound};
 ghost use Rattle.encoder.specs.Jobs.{pointsOf, isJob, endsAt, part, jobCalls, go, encodedJob, saidEncoded, outcomeOf};
 use crate::Drawn;
 use crate::GeomEncoder;
 use crate::Started;
+use crate::add_valid;
+use crate::complete_valid;
+use crate::stretch::add_stretch;
 use clip::BBox;
+use clip::Pt;
 use refusal::Refusal;
 
 pub enum Encoded {
@@ -49,6 +54,7 @@ fn is_job(points: &[i32], ends: &[u32]) -> bool
 fn add_part(s: GeomEncoder, points: &[i32], from: usize, to: usize, words: &mut [u32]) -> Course
     requires { ⌜ from ≤ to ⌝ }
     requires { ⌜ to ≤ length (now points) / 2 ⌝ }
+    requires { ⌜ Sound s (length (now words)) ⌝ }
     ensures { λ r. ⌜ Gives (go (partCalls (part (pointsOf (now (points .entry))) from to)) from s (now (words .entry))) (outcomeOf to r) (now (words .exit)) ⌝ }
 {
     let mut q = s;
@@ -56,7 +62,7 @@ fn add_part(s: GeomEncoder, points: &[i32], from: usize, to: usize, words: &mut 
     while i < to {
         let x = points[2 * i];
         let y = points[2 * i + 1];
-        match q.add_point(x, y, words) {
+        match add_valid(q, Pt { x: x, y: y }, words) {
             Drawn::Done(t) => q = t,
             Drawn::Refused(r, _) => return Course::Off(r, i),
         }
@@ -64,11 +70,11 @@ fn add_part(s: GeomEncoder, points: &[i32], from: usize, to: usize, words: &mut 
         if q.count < 2 {
             continue;
         }
-        let plain = crate::stretch::add_stretch(q, points, i, to, words);
+        let plain = add_stretch(q, points, i, to, words);
         q = plain.state;
         i = plain.reached;
     }
-    match q.complete_geom(words) {
+    match complete_valid(q, words) {
         Drawn::Done(t) => Course::On(t),
         Drawn::Refused(r, _) => Course::Off(r, to),
     }
@@ -77,6 +83,7 @@ fn add_part(s: GeomEncoder, points: &[i32], from: usize, to: usize, words: &mut 
 // Adds the parts one after the other.
 fn add_parts(s: GeomEncoder, points: &[i32], ends: &[u32], words: &mut [u32]) -> Course
     requires { ⌜ endsAt 0 (now ends) (length (now points) / 2) ≡ true ⌝ }
+    requires { ⌜ Sound s (length (now words)) ⌝ }
     ensures { λ r. ⌜ Gives (go (jobCalls (pointsOf (now (points .entry))) 0 (now (ends .entry))) 0 s (now (words .entry))) (outcomeOf (length (now (points .entry)) / 2) r) (now (words .exit)) ⌝ }
 {
     let mut q = s;

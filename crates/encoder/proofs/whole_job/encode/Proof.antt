@@ -1,5 +1,5 @@
 -- JOB, then what a fresh encoder answers, then the calls: the definition is the same chain.
-use Rattle.encoder.proofs.Whole.{job-none, job-ends, job-start, job-words, job-stop}
+use Rattle.encoder.proofs.Whole.{job-none, job-asked, job-start, job-words, job-stop}
 use borrow.Author.Needs.{needs}
 use Rattle.encoder.proofs.whole_job.encode.Statement.{statement}
 use Rattle.encoder.proofs.whole_job.encode.Tie as tie
@@ -20,7 +20,12 @@ enum-known-s : tie.Need-enum-known-s
 enum-known-s c = search needs
 
 add-parts-requires : tie.Need-add-parts-requires
-add-parts-requires c κs = search (needs, job-ends)
+add-parts-requires c κs =
+    let fresh = c .before .before in
+    let new = fresh .before .before in
+    let job = new .before .before in
+    let s = job .before .before .before in
+    job-asked (s .args .kind) (s .args .bbox) (s .args .points .now) (s .args .ends .now) (s .args .words .now) _ (job .is-job .ensures) (new .before .if1 .left) (new .new .result) (new .new .ensures) _ (fresh .s .given .1)
 
 enum-known-t : tie.Need-enum-known-t
 enum-known-t c = search needs
