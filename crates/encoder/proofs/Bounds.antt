@@ -1,24 +1,21 @@
 -- The two returns of `add_boundary_points`: the ends of the clip, those that moved in the box; and none.
-use mathlib.Core.Path.{_≡_, refl, sym, _∙_, ap, subst}
+use mathlib.Core.Path.{_≡_, refl, ap, subst}
 use mathlib.Core.Bool.{Bool, true, false, cond, not, _&&_, _||_}
-use mathlib.Core.List.{List, [], _∷_, _++_}
+use mathlib.Core.List.{[], _∷_, _++_}
 use Prim.Native.Nat.{ℕ}
 use native.Mathlib.Omega.{arith}
 use lib.Dec.{eqb}
 use Rattle.clip.specs.declared.Pt.{Pt}
 use Rattle.clip.specs.declared.Seg.{Seg}
-use Rattle.clip.specs.declared.BBox.{BBox}
 use Rattle.clip.specs.Domain.{isCoord, isGood}
 use Rattle.clip.specs.Answer.{areCoords}
 use Rattle.clip.specs.Cutting.{clip}
 use Rattle.encoder.specs.declared.boundary.Ends.{Ends}
 use Rattle.encoder.specs.declared.draft.Draft.{Draft}
-use Rattle.encoder.specs.declared.pen.Pen.{Pen}
-use Rattle.encoder.specs.Points.{inLimit, clamped, samePt}
-use Rattle.encoder.specs.Boundary.{moved, movedEnds, maybe, listOf, endsOf, movedBy, outside, Brought}
+use Rattle.encoder.specs.Points.{inLimit, samePt}
+use Rattle.encoder.specs.Boundary.{moved, maybe, listOf, movedBy, outside, Brought}
 use Rattle.encoder.specs.Adding.{cutFrom, boundary}
 use Rattle.encoder.specs.Drafts.{stateIn}
-use Rattle.encoder.proofs.States.{both}
 use Rattle.encoder.proofs.Boundaries.{inside-same, stays}
 use Rattle.encoder.proofs.Tests.{fixed0, fixed1}
 

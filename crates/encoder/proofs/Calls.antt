@@ -16,7 +16,7 @@ use Rattle.clip.specs.declared.Pt.{Pt}
 use Rattle.clip.specs.Domain.{isCoord}
 use Rattle.words.specs.Geometries.{maxWords, room}
 use Rattle.words.specs.Commands.{commandWord}
-use Rattle.encoder.specs.Pushed.{moveTo, lineTo, closePath, countWord}
+use Rattle.encoder.specs.Pushed.{moveTo, lineTo, closePath}
 use Rattle.encoder.specs.Ends.{layIf, layEnd}
 use Rattle.encoder.proofs.CommandWords.{count-is}
 use Rattle.encoder.proofs.Laying.{Fitting, fitting-laid, fitting-long}

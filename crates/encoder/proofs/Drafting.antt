@@ -5,7 +5,7 @@
 use mathlib.Core.Path.{_≡_, refl, sym, _∙_, ap, subst}
 use mathlib.Core.Bool.{Bool, true, false, cond, not, _&&_}
 use mathlib.Core.List.{List, [], _∷_, _++_}
-use Prim.Native.Nat.{ℕ, _+_, _-_, _/_, _≤_, _<_}
+use Prim.Native.Nat.{ℕ, _+_, _-_, _≤_, _<_}
 use native.Mathlib.Omega.{arith}
 use borrow.Author.Tests.{eq-eqb, ne-eqb, leb-true, not-true, not-false}
 use lib.Dec.{leb, eqb}
@@ -13,10 +13,8 @@ use lib.ListN.{length, set, length-append}
 use Rattle.promise.specs.Laid.{lay}
 use Rattle.promise.proofs.Laying.{lay-one, lay-next, lay-nothing}
 use Rattle.clip.specs.declared.Pt.{Pt}
-use Rattle.clip.specs.Domain.{isCoord}
 use Rattle.clip.specs.Facts.{Coord}
 use Rattle.clip.proofs.Callers.{coord-facts}
-use Rattle.words.specs.Commands.{commandWord}
 use Rattle.encoder.specs.declared.GeomEncoder.{GeomEncoder}
 use Rattle.encoder.specs.declared.points.MaybePt.{MaybePt}
 use Rattle.encoder.specs.declared.points.MaybePt.the-variants.{Nowhere, At}
@@ -28,15 +26,15 @@ use Rattle.encoder.specs.declared.plan.Plan.{Plan}
 use Rattle.encoder.specs.declared.pen.Pen.{Pen}
 use Rattle.encoder.specs.Points.{inLimit, missing, isLast, samePt, between, lastBetween, lastOf}
 use Rattle.encoder.specs.Boundary.{maybe}
-use Rattle.encoder.specs.Pushed.{wordOf, command, moveTo, lineTo}
+use Rattle.encoder.specs.Pushed.{wordOf, command}
 use Rattle.encoder.specs.Emitting.{Emission, takenOut, popped, steps, pushed, skipped, emittedAt}
 use Rattle.encoder.specs.Adding.{ended}
 use Rattle.encoder.specs.Planning.{planLimit, Ready}
-use Rattle.encoder.specs.Pens.{penOf, taken, beforePush, onward}
+use Rattle.encoder.specs.Pens.{taken, beforePush, onward}
 use Rattle.encoder.specs.Drafts.{draftOf, stateIn, withPen, ringing, pushedTo, behind, pushedBy, emittedIf, Writable, EndsFit, AllFit, laidEnds, laidAll}
 use Rattle.encoder.proofs.States.{both}
 use Rattle.encoder.proofs.Coords.{last-coord}
-use Rattle.encoder.proofs.Pushing.{out-count, out-used}
+use Rattle.encoder.proofs.Pushing.{out-count}
 use Rattle.encoder.proofs.Steps.{command-cases}
 
 -- ---- states

@@ -64,6 +64,9 @@ module _ (s : GeomEncoder) (l : List ℤ) (from end : ℕ) (out₀ : List ℕ) (
   few-words : pen .used ≤ maxWords
   few-words = omega (arith, I .ongoing .sound .valid .fits, room-cap (length out))
 
+  pub few-points : pen .count ≤ maxWords
+  few-points = omega (arith, I .ongoing .sound .valid .counted, few-words)
+
   pub plain-asked : (p : Pt) (t : Bool) → t ≡ outside bbox p → (pen .used ≤ maxWords) × (t ≡ false → isCoord p ≡ true)
   plain-asked p t e = (few-words, λ f. inside-coord bbox p good-box (sym e ∙ f))
 

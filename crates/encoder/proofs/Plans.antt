@@ -8,7 +8,6 @@ use borrow.Author.Tests.{le-leb, lt-leb}
 use lib.Dec.{leb}
 use lib.ListN.{length}
 use Rattle.promise.specs.Answers.{Gives, kept}
-use Rattle.promise.specs.Laid.{lay}
 use Rattle.promise.proofs.Cases.{gives-kept}
 use Rattle.refusal.specs.declared.Refusal.the-variants.{Room}
 use Rattle.clip.specs.declared.Pt.{Pt}
@@ -20,14 +19,14 @@ use Rattle.encoder.specs.declared.GeomEncoder.{GeomEncoder}
 use Rattle.encoder.specs.declared.boundary.Ends.{Ends}
 use Rattle.encoder.specs.declared.draft.Draft.{Draft}
 use Rattle.encoder.specs.declared.plan.Plan.{Plan}
-use Rattle.encoder.specs.States.{valid, Valid}
+use Rattle.encoder.specs.States.{valid}
 use Rattle.encoder.specs.Answers.{done, turned, fitting}
 use Rattle.encoder.specs.Points.{inLimit, clamped}
-use Rattle.encoder.specs.Boundary.{maybe, endsOf, Brought}
+use Rattle.encoder.specs.Boundary.{maybe, Brought}
 use Rattle.encoder.specs.Emitting.{Emission, emittedAt, emission}
 use Rattle.encoder.specs.Adding.{boundary, emitted, emissions, drawn, ended}
 use Rattle.encoder.specs.Planning.{emissionIf, planLimit, Ready}
-use Rattle.encoder.specs.Drafts.{draftOf, stateIn, emittedIf, Near, Planned, Writable, EndsFit, AllFit, laidAll}
+use Rattle.encoder.specs.Drafts.{draftOf, stateIn, emittedIf, Near, Planned, AllFit, laidAll}
 use Rattle.encoder.proofs.States.{valid-facts, valid-ready, room-length}
 use Rattle.encoder.proofs.Coords.{clamped-coord}
 use Rattle.encoder.proofs.Drafting.{whole}
@@ -162,6 +161,13 @@ module _ (s : GeomEncoder) (n : ℕ) (v : valid s n ≡ true) (p : Pt) (x : isCo
       module _ (g : plan .last .pen .used ≤ m) where
         pub write-asked : AllFit d plan e q n
         write-asked = all-fit d e q ready near plan P n (omega (arith, room-length n))
+
+        pub end-asked : (t : Draft) → stateIn t ≡ ended (stateIn (plan .last)) p → t .pen .count ≤ planLimit + 4
+        end-asked t k =
+            let u : t .pen .count ≡ plan .last .pen .count = ap (λ (x : GeomEncoder). x .count) k in
+            let v : plan .last .pen .count ≡ emittedAt (stateIn (plan .second)) q .next .count = ap (λ (x : GeomEncoder). x .count) (P .last) in
+            let R = step3 d e q ready near (plan .first) (P .first) (plan .second) (P .second) .ready in
+            omega (arith, R .counted, R .few)
 
         pub draw-done : (o : List ℕ) → o ≡ laidAll d plan e q out → (t : Draft) → stateIn t ≡ ended (stateIn (plan .last)) p → (r : GeomEncoder) → r ≡ stateIn t → Gives (fitting s out (drawn s p out)) (done r) o
         draw-done o a t k r z =

@@ -17,7 +17,7 @@ use Rattle.clip.specs.Answer.{areCoords}
 use Rattle.clip.specs.Demand3.{Moved, Placed}
 use Rattle.clip.proofs.Demands.{demand-3}
 use Rattle.clip.proofs.Tests.{by-lt}
-use Rattle.clip.proofs.Callers.{Kept, coord-is, good-facts, good-proper}
+use Rattle.clip.proofs.Callers.{coord-is, good-facts, good-proper}
 use Rattle.whole.proofs.Parts.{zarith}
 use mathlib.Core.Logic.{⊎-elim}
 use Rattle.encoder.specs.declared.points.MaybePt.{MaybePt}

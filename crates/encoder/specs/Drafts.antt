@@ -21,7 +21,15 @@ use Rattle.encoder.specs.Planning.{planLimit, Ready}
 use Rattle.encoder.specs.Pens.{penOf, onward}
 
 abbrev pub draftOf : GeomEncoder → Draft
-draftOf s = record { kind = s .kind; bbox = s .bbox; pen = penOf s; joins = not (missing (s .«xy_end»)); has0 = not (missing (s .pt0)); has1 = not (missing (s .pt1)); place = s .«cmd_offset» }
+draftOf s = record {
+  kind = s .kind;
+  bbox = s .bbox;
+  pen = penOf s;
+  joins = not (missing (s .«xy_end»));
+  has0 = not (missing (s .pt0));
+  has1 = not (missing (s .pt1));
+  place = s .«cmd_offset»;
+}
 
 abbrev pub stateIn : Draft → GeomEncoder
 stateIn d = record {

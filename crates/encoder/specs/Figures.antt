@@ -1,4 +1,5 @@
--- Document 01, "Encoder STATE", the rules of its figures: refused are "used words exceed the room; count exceeds used / 2 + 1 (rounded down); count is not zero and the last command's place is not below used".
+-- Document 01, "Encoder STATE", the rules of its figures: refused are "used words exceed the room; count exceeds used / 2 + 1 (rounded down); count is
+-- not zero and the last command's place is not below used".
 use Prim.Native.Nat.{ℕ, _+_, _/_}
 use mathlib.Core.Bool.{Bool, _&&_, _||_}
 use lib.Dec.{leb, ltb, eqb}

@@ -6,7 +6,6 @@ use mathlib.Core.List.{List, [], _∷_, _++_}
 use Rattle.promise.specs.Answers.{Written, kept}
 use Rattle.promise.specs.Laid.{lay}
 use Rattle.clip.specs.declared.Pt.{Pt}
-use Rattle.clip.specs.declared.Seg.{Seg}
 use Rattle.clip.specs.declared.BBox.{BBox}
 use Rattle.clip.specs.Domain.{isCoord}
 use Rattle.clip.specs.Facts.{Coord}
@@ -41,7 +40,11 @@ still pen = record { pen = pen; at = pen .used; run = [] }
 
 -- it follows the last one
 abbrev pub onward : Pen → Pt → Mark
-onward pen q = record { pen = record { raw = pen .raw; pt0 = pen .pt1; pt1 = q; count = pen .count + 1; used = pen .used + 2 }; at = pen .used; run = steps (pen .pt1) q }
+onward pen q = record {
+  pen = record { raw = pen .raw; pt0 = pen .pt1; pt1 = q; count = pen .count + 1; used = pen .used + 2 };
+  at = pen .used;
+  run = steps (pen .pt1) q;
+}
 
 -- the last one taken out, if it is one of a ring and strictly between its neighbours
 abbrev pub taken : Pen → Pen

@@ -1,4 +1,5 @@
--- Document 01, "Adding a point": a point that may be missing, and what the encoder asks of points: within the limit, clamped to the box, equal to the last one, the last one between two others.
+-- Document 01, "Adding a point": a point that may be missing, and what the encoder asks of points: within the limit, clamped to the box, equal to the
+-- last one, the last one between two others.
 use Prim.Native.Nat.{ℕ}
 use mathlib.Core.Bool.{Bool, true, false, cond, _&&_, _||_}
 use lib.Dec.{leb, eqb}
@@ -44,7 +45,9 @@ abbrev pub strictly : ℤ → ℤ → ℤ → Bool
 strictly a m b = (ltZ a m && ltZ m b) || (ltZ b m && ltZ m a)
 
 abbrev pub between : Pt → Pt → Pt → Bool
-between a m b = (eqZ (a .x) (m .x) && eqZ (m .x) (b .x) && strictly (a .y) (m .y) (b .y)) || (eqZ (a .y) (m .y) && eqZ (m .y) (b .y) && strictly (a .x) (m .x) (b .x))
+between a m b =
+    (eqZ (a .x) (m .x) && eqZ (m .x) (b .x) && strictly (a .y) (m .y) (b .y)) ||
+    (eqZ (a .y) (m .y) && eqZ (m .y) (b .y) && strictly (a .x) (m .x) (b .x))
 
 abbrev pub lastBetween : MaybePt → MaybePt → Pt → Bool
 lastBetween (At a) (At m) b = between a m b

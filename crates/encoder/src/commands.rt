@@ -1,4 +1,5 @@
-// The commands of a part (document 01, "Adding a point"): the one that a point is pushed with, and the counts and ClosePath that complete it, with the figures that say where they stand.
+// The commands of a part (document 01, "Adding a point"): the one that a point is pushed with, and the counts and ClosePath that complete it, with the
+// figures that say where they stand.
 // Functions of words and numbers alone: they know no state. Where a word does not fit the list it is not laid; a caller asks for room first.
 ghost use mathlib.Core.Path.{_≡_};
 ghost use mathlib.Core.List.{[], _∷_};
@@ -58,7 +59,7 @@ fn command_if(id: Command, count: u32) -> MaybeWord
 }
 
 // The command that a point at this count is pushed with, if one is.
-pub(crate) fn push_command(kind: u32, count: u32) -> MaybeWord
+pub(crate) fn push_command(kind: u32, count: usize) -> MaybeWord
     ensures { λ r. ⌜ wordOf r ≡ command kind count ⌝ }
 {
     if count == 0 {

@@ -1,4 +1,5 @@
-// A state in plain numbers, and the draft after one emission, of any state (document 01, "Adding a point"): made of the steps of `pen`, but here a command may be due, and a point may be missing.
+// A state in plain numbers, and the draft after one emission, of any state (document 01, "Adding a point"): made of the steps of `pen`, but here a
+// command may be due, and a point may be missing.
 ghost use mathlib.Core.Path.{_≡_};
 ghost use Prim.Native.Nat.{_+_, _≤_};
 ghost use Rattle.encoder.specs.Adding.{ended};
@@ -47,6 +48,7 @@ pub(crate) fn draft_of(s: GeomEncoder) -> Draft
     let no_raw = is_missing(xy_end);
     let no_before = is_missing(pt0);
     let no_last = is_missing(pt1);
+    let count = s.count as usize;
     Draft {
         kind: s.kind,
         bbox: bbox,
@@ -54,7 +56,7 @@ pub(crate) fn draft_of(s: GeomEncoder) -> Draft
             raw: raw,
             pt0: before,
             pt1: last,
-            count: s.count,
+            count: count,
             used: s.used,
         },
         joins: !no_raw,
@@ -74,6 +76,7 @@ pub(crate) fn point_if(there: bool, p: Pt) -> MaybePt
 }
 
 pub(crate) fn state_of(d: Draft) -> GeomEncoder
+    requires { ⌜ d .pen .count ≤ planLimit + 4 ⌝ }
     ensures { λ r. ⌜ r ≡ stateIn d ⌝ }
 {
     let bbox = d.bbox;
@@ -81,6 +84,7 @@ pub(crate) fn state_of(d: Draft) -> GeomEncoder
     let raw = point_if(d.joins, pen.raw);
     let before = point_if(d.has0, pen.pt0);
     let last = point_if(d.has1, pen.pt1);
+    let count = pen.count as u32;
     GeomEncoder {
         kind: d.kind,
         bbox: bbox,
@@ -88,7 +92,7 @@ pub(crate) fn state_of(d: Draft) -> GeomEncoder
         pt0: before,
         pt1: last,
         cmd_offset: d.place,
-        count: pen.count,
+        count: count,
         used: pen.used,
     }
 }

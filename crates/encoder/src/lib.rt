@@ -1,5 +1,6 @@
 // Points to words (document 01, "Adding a point"; in the Rust: GeomEncoder of encoder.rs).
-// A single point is planned first, as drafts of the state in plain numbers (`plan`, `draft`); then the room is asked for, and only then is anything written, so a refused call has not written.
+// A single point is planned first, as drafts of the state in plain numbers (`plan`, `draft`); then the room is asked for, and only then is anything
+// written, so a refused call has not written.
 // The whole job (`whole_job`) draws the points of a part that has begun in one loop (`stretch`), by the same steps (`pen`).
 ghost use mathlib.Core.Path.{_≡_};
 ghost use mathlib.Core.Bool.{true};

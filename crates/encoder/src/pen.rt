@@ -1,4 +1,5 @@
-// The pen: what points change of a state, in plain numbers, and the steps that every point is drawn by. One emission by these steps is `emit`, for a part that has begun: no command is due, and no point is missing.
+// The pen: what points change of a state, in plain numbers, and the steps that every point is drawn by. One emission by these steps is `emit`, for a
+// part that has begun: no command is due, and no point is missing.
 ghost use mathlib.Core.Path.{_≡_};
 ghost use mathlib.Core.Bool.{true, _&&_};
 ghost use Prim.Native.Nat.{_+_, _≤_};
@@ -22,7 +23,7 @@ pub(crate) struct Pen {
     pub raw: Pt,
     pub pt0: Pt,
     pub pt1: Pt,
-    pub count: u32,
+    pub count: usize,
     pub used: usize,
 }
 

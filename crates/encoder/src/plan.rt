@@ -57,7 +57,7 @@ pub(crate) fn plan_point(d: Draft, ends: Ends, q: Pt) -> Plan
 }
 
 // ---- writing
-fn write_command(kind: u32, count: u32, at: usize, words: &mut [u32])
+fn write_command(kind: u32, count: usize, at: usize, words: &mut [u32])
     requires { ⌜ at + length (command kind count) ≤ length (now words) ⌝ }
     ensures { λ r. ⌜ now (words .exit) ≡ lay at (command kind count) (now (words .entry)) ⌝ }
 {

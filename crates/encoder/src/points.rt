@@ -1,4 +1,5 @@
-// Points as the encoder looks at them (document 01, "Adding a point"): a point that may be missing, within the limit, clamped to the box, equal to another one, between two others.
+// Points as the encoder looks at them (document 01, "Adding a point"): a point that may be missing, within the limit, clamped to the box, equal to
+// another one, between two others.
 // Functions of points alone: they know no state and no words.
 ghost use mathlib.Core.Path.{_≡_};
 ghost use Rattle.encoder.specs.Points.{inLimit, inLimits, clampTo, clamped, samePt, strictly, between, lastOf, missing};

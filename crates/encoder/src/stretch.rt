@@ -100,6 +100,7 @@ fn is_start(d: Draft) -> bool
 
 // The state that the pen has come to.
 fn state_with(s: GeomEncoder, pen: Pen) -> GeomEncoder
+    requires { ⌜ pen .count ≤ maxWords ⌝ }
     ensures { λ r. ⌜ r ≡ stateOf s pen ⌝ }
 {
     let bbox = s.bbox;

@@ -1,4 +1,5 @@
-// The whole job (document 01 module 7, without the file): a list of coordinates and a list of part ends to words, as the calls in order. STATE is asked by none of them: a fresh state is sound, and accepted calls keep it so.
+// The whole job (document 01 module 7, without the file): a list of coordinates and a list of part ends to words, as the calls in order. STATE is asked
+// by none of them: a fresh state is sound, and accepted calls keep it so.
 ghost use mathlib.Core.Path.{_≡_};
 ghost use mathlib.Core.Bool.{true};
 ghost use Prim.Native.Nat.{_*_, _/_, _≤_};
@@ -50,7 +51,8 @@ fn is_job(points: &[i32], ends: &[u32]) -> bool
     from == points.len() / 2
 }
 
-// Adds the points of one part and completes it: one point by itself, which may be any, then a stretch of those that are plain. None starts before a part has two points.
+// Adds the points of one part and completes it: one point by itself, which may be any, then a stretch of those that are plain. None starts before a part
+// has two points.
 fn add_part(s: GeomEncoder, points: &[i32], from: usize, to: usize, words: &mut [u32]) -> Course
     requires { ⌜ from ≤ to ⌝ }
     requires { ⌜ to ≤ length (now points) / 2 ⌝ }

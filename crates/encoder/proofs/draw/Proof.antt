@@ -1,6 +1,6 @@
 -- The plan is that of the point; ROOM, or everything that it says.
 use mathlib.Core.Path.{refl}
-use Rattle.encoder.proofs.Plans.{brought-asked, plan-asked, draw-room, write-asked, draw-done}
+use Rattle.encoder.proofs.Plans.{brought-asked, plan-asked, draw-room, write-asked, end-asked, draw-done}
 use borrow.Author.Needs.{needs}
 use Rattle.encoder.proofs.draw.Statement.{statement}
 use Rattle.encoder.proofs.draw.Tie as tie
@@ -44,7 +44,7 @@ set-end-requires : tie.Need-set-end-requires
 set-end-requires c κs = search needs
 
 state-of-requires : tie.Need-state-of-requires
-state-of-requires c κs = search needs
+state-of-requires c κs = let w = c .before .before .before in let e = w .before .before in let k = at-plan (e .before) in let q = k .before in let d = at-draft q in let s = d .before .before in end-asked (s .args .s) _ (s .pre .0) (s .args .p) (s .pre .1) (d .draft-of .result) (d .draft-of .ensures) (q .before .add-boundary-points .result) (q .before .add-boundary-points .ensures) _ (q .make-point .ensures) (k .plan-point .result) (k .plan-point .ensures) (s .args .words .now) refl _ (e .before .before .room .ensures) (e .if1 .left) (c .set-end .result) (c .set-end .ensures)
 
 same-length : tie.Need-same-length
 same-length c = search needs

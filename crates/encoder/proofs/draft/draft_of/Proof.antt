@@ -24,6 +24,9 @@ is-missing-requires-2 c κs = search needs
 is-missing-requires-3 : tie.Need-is-missing-requires-3
 is-missing-requires-3 c κs = search needs
 
+cast-count : tie.Need-cast-count
+cast-count c = search needs
+
 returns : tie.Need-returns
 returns c = search (needs, draft-is)
 
@@ -37,4 +40,4 @@ draft-of-spec =
     is-missing-requires
     is-missing-requires-2
     is-missing-requires-3
-    returns)
+    cast-count returns)

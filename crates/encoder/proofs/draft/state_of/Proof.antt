@@ -14,9 +14,12 @@ point-if-requires-2 c κs = search needs
 point-if-requires-3 : tie.Need-point-if-requires-3
 point-if-requires-3 c κs = search needs
 
+cast-count : tie.Need-cast-count
+cast-count c = search needs
+
 returns : tie.Need-returns
 returns c = search (needs, state-is)
 
 pub state-of-spec : {M : Type 1} → statement M
 state-of-spec =
-    tie.close (tie.spec point-if-requires point-if-requires-2 point-if-requires-3 returns)
+    tie.close (tie.spec point-if-requires point-if-requires-2 point-if-requires-3 cast-count returns)

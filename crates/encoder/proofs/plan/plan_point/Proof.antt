@@ -1,6 +1,5 @@
 -- Each draft is the one before it after an emission.
 use Rattle.encoder.proofs.Plans.{ready0, ready1, ready2}
-use borrow.Author.Needs.{needs}
 use Rattle.encoder.proofs.plan.plan_point.Statement.{statement}
 use Rattle.encoder.proofs.plan.plan_point.Tie as tie
 use Rattle.encoder.proofs.plan.emit_if.Reads as emit-if-reads

@@ -2,7 +2,7 @@
 use native.Mathlib.Omega.{arith}
 use Prim.Native.Nat.{_-_}
 use borrow.Author.Needs.{needs}
-use Rattle.encoder.proofs.Drawing.{Drawing, point-is, draw-start, draw-end, plain-asked, draw-stop, draw-asked, draw-turn}
+use Rattle.encoder.proofs.Drawing.{Drawing, point-is, draw-start, draw-end, plain-asked, draw-stop, draw-asked, draw-turn, few-points}
 use Rattle.encoder.proofs.stretch.draw_all.Statement.{statement}
 use Rattle.encoder.proofs.stretch.draw_all.Tie as tie
 
@@ -11,6 +11,15 @@ Inv-loop s points from end words₀ bbox ring room pen₀ out₀ i₀ words pen 
 
 abbrev μ-loop : tie.MeasureT-loop
 μ-loop s points from end words₀ bbox ring room pen₀ out₀ i₀ words pen out i = end - i
+
+abbrev at-turn : (c : tie.After-is-plain Inv-loop μ-loop) → tie.In-loop Inv-loop μ-loop
+at-turn c = c .before .before .before .before
+
+abbrev at-raw : (c : tie.At-loop Inv-loop μ-loop) → tie.After-raw Inv-loop μ-loop
+at-raw c = c .before .before
+
+abbrev at-start : (c : tie.After-raw Inv-loop μ-loop) → tie.Start Inv-loop μ-loop
+at-start c = c .before .before .before .before .before
 
 room-requires : tie.Need-room-requires Inv-loop μ-loop
 room-requires c κs = search needs
@@ -49,28 +58,42 @@ is-plain-requires : tie.Need-is-plain-requires Inv-loop μ-loop
 is-plain-requires c κs = plain-asked _ _ _ _ _ _ _ _ _ _ _ _ _ (c .before .before .before .before .loop .inv) _ _ (c .is-outside2 .ensures)
 
 state-with-requires : tie.Need-state-with-requires Inv-loop μ-loop
-state-with-requires c κs = search needs
+state-with-requires c κs = few-points _ _ _ _ _ _ _ _ _ _ _ _ _ (at-turn (c .before) .before .loop .inv)
 
 same-length : tie.Need-same-length Inv-loop μ-loop
 same-length c = search needs
 
 returns : tie.Need-returns Inv-loop μ-loop
-returns c = draw-stop _ _ _ _ _ _ _ _ _ _ _ _ _ (c .before .before .before .before .before .before .before .loop .inv) _ _ (c .before .before .before .is-outside2 .ensures) _ (c .before .before .is-plain .ensures) (c .before .before .before .before .before .before .loop-test .taken) (point-is (c .before .before .before .before .before .before .before .before .before .before .before .before .before .before .args .points .now) (c .before .before .before .before .before .before .before .loop .i) (c .before .before .before .before .before .x .given) (c .before .before .before .before .y .given)) (c .before .if1 .taken) _ (c .state-with .ensures)
+returns c =
+    let plain = c .before .before in
+    let turn = at-turn plain in
+    let o = plain .before in
+    draw-stop _ _ _ _ _ _ _ _ _ _ _ _ _ (turn .before .loop .inv) _ _ (o .is-outside2 .ensures) _ (plain .is-plain .ensures) (turn .loop-test .taken)
+    (point-is (at-start (at-raw (turn .before)) .args .points .now) (turn .before .loop .i) (o .before .before .x .given) (o .before .y .given)) (c .before .if1 .taken) _ (c .state-with .ensures)
 
 draw-requires : tie.Need-draw-requires Inv-loop μ-loop
-draw-requires c κs = draw-asked _ _ _ _ _ _ _ _ _ _ _ _ _ (c .before .before .before .before .before .before .before .loop .inv) _ _ (c .before .before .before .is-outside2 .ensures) _ (c .before .before .is-plain .ensures) (c .before .if1 .left)
+draw-requires c κs =
+    let plain = c .before .before in
+    let turn = at-turn plain in
+    let o = plain .before in
+    draw-asked _ _ _ _ _ _ _ _ _ _ _ _ _ (turn .before .loop .inv) _ _ (o .is-outside2 .ensures) _ (plain .is-plain .ensures) (c .before .if1 .left)
 
 add-i : tie.Need-add-i Inv-loop μ-loop
-add-i c = omega (arith, c .before .before .before .before .before .before .before .before .before .loop-test .taken, c .before .before .before .before .before .before .before .before .before .before .before .before .before .before .before .before .before .fits .end .fits)
+add-i c = let turn = at-turn (c .before .before .before .before .before) in omega (arith, turn .loop-test .taken, at-start (at-raw (turn .before)) .fits .end .fits)
 
 loop-less : tie.Need-loop-less Inv-loop μ-loop
 loop-less c = search needs
 
 loop-again : tie.Need-loop-again Inv-loop μ-loop
-loop-again c = draw-turn _ _ _ _ _ _ _ _ _ _ _ _ _ (c .before .before .before .before .before .before .before .before .before .before .loop .inv) _ _ (c .before .before .before .before .before .before .is-outside2 .ensures) _ (c .before .before .before .before .before .is-plain .ensures) (c .before .before .before .before .before .before .before .before .before .loop-test .taken) (point-is (c .before .before .before .before .before .before .before .before .before .before .before .before .before .before .before .before .before .args .points .now) (c .before .before .before .before .before .before .before .before .before .before .loop .i) (c .before .before .before .before .before .before .before .before .x .given) (c .before .before .before .before .before .before .before .y .given)) (c .before .before .before .before .if1 .left) _ _ (c .before .before .draw .ensures)
+loop-again c =
+    let plain = c .before .before .before .before .before in
+    let turn = at-turn plain in
+    let o = plain .before in
+    draw-turn _ _ _ _ _ _ _ _ _ _ _ _ _ (turn .before .loop .inv) _ _ (o .is-outside2 .ensures) _ (plain .is-plain .ensures) (turn .loop-test .taken)
+    (point-is (at-start (at-raw (turn .before)) .args .points .now) (turn .before .loop .i) (o .before .before .x .given) (o .before .y .given)) (c .before .before .before .before .if1 .left) _ _ (c .before .before .draw .ensures)
 
 state-with-requires-2 : tie.Need-state-with-requires-2 Inv-loop μ-loop
-state-with-requires-2 c κs = search needs
+state-with-requires-2 c κs = few-points _ _ _ _ _ _ _ _ _ _ _ _ _ (c .before .loop .inv)
 
 same-length-2 : tie.Need-same-length-2 Inv-loop μ-loop
 same-length-2 c = search needs
