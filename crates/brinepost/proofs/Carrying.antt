@@ -1,8 +1,8 @@
 -- A state as C carries it, put together from its parts.
 use mathlib.Core.Path.{_≡_}
 use Rattle.clip.specs.declared.Pt.{Pt}
-use Rattle.points.specs.declared.MaybePt.{MaybePt}
-use Rattle.points.specs.declared.MaybePt.the-variants.{At}
+use Rattle.encoder.specs.declared.points.MaybePt.{MaybePt}
+use Rattle.encoder.specs.declared.points.MaybePt.the-variants.{At}
 use Rattle.encoder.specs.declared.GeomEncoder.{GeomEncoder}
 use Rattle.brinepost.specs.declared.state.BpPoint.{BpPoint}
 use Rattle.brinepost.specs.declared.state.BpEncoder.{BpEncoder}

@@ -12,9 +12,9 @@ use Rattle.refusal.proofs.Laws.{numbered}
 use Rattle.decoder.specs.declared.Reading.{Reading}
 use Rattle.decoder.specs.declared.Reading.the-variants.{Read, Refused as NotRead}
 use Rattle.decoder.specs.ReadingWords.{saidReading}
-use Rattle.whole_job.specs.declared.Encoded.{Encoded}
-use Rattle.whole_job.specs.declared.Encoded.the-variants.{Words, Refused as NotEncoded}
-use Rattle.whole_job.specs.Jobs.{saidEncoded}
+use Rattle.encoder.specs.declared.whole_job.Encoded.{Encoded}
+use Rattle.encoder.specs.declared.whole_job.Encoded.the-variants.{Words, Refused as NotEncoded}
+use Rattle.encoder.specs.Jobs.{saidEncoded}
 use Rattle.encoder.specs.declared.GeomEncoder.{GeomEncoder}
 use Rattle.encoder.specs.declared.Started.{Started}
 use Rattle.encoder.specs.declared.Started.the-variants.{Fresh, Refused as NotStarted}

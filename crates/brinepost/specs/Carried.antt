@@ -2,8 +2,8 @@
 use mathlib.Core.Bool.{Bool, cond, _&&_}
 use lib.Dec.{leb, eqb}
 use lib.IntN.{pos}
-use Rattle.points.specs.declared.MaybePt.{MaybePt}
-use Rattle.points.specs.declared.MaybePt.the-variants.{Nowhere, At}
+use Rattle.encoder.specs.declared.points.MaybePt.{MaybePt}
+use Rattle.encoder.specs.declared.points.MaybePt.the-variants.{Nowhere, At}
 use Rattle.encoder.specs.declared.GeomEncoder.{GeomEncoder}
 use Rattle.brinepost.specs.declared.state.BpPoint.{BpPoint}
 use Rattle.brinepost.specs.declared.state.BpEncoder.{BpEncoder}

@@ -5,7 +5,7 @@ ghost use Rattle.brinepost.specs.Carried.{pointOf, pointTo, areFlags, st
 use clip::BBox;
 use clip::Pt;
 use encoder::GeomEncoder;
-use points::MaybePt;
+use encoder::points::MaybePt;
 
 #[repr(C)]
 pub struct BpPoint {

@@ -3,12 +3,12 @@ ghost use mathlib.Core.Path.{_≡_};
 ghost use Prim.Native.Nat.{_/_};
 ghost use lib.ListN.{length};
 ghost use Rattle.promise.specs.Answers.{Gives};
-ghost use Rattle.whole_job.specs.Jobs.{encodedJob, saidEncoded};
+ghost use Rattle.encoder.specs.Jobs.{encodedJob, saidEncoded};
 ghost use Rattle.telling.specs.Telling.{told};
 ghost use Rattle.clip.specs.Numbers.{boxAt};
 ghost use Rattle.brinepost.specs.Works.{flatJob};
 use clip::BBox;
-use whole_job::Encoded;
+use encoder::whole_job::Encoded;
 
 #[repr(C)]
 pub struct BpJob {
@@ -55,6 +55,6 @@ pub extern "C" fn bp_encode_job(
         y_min: bottom,
         y_max: top,
     };
-    let r = whole_job::encode(kind, bbox, points, ends, words);
+    let r = encoder::whole_job::encode(kind, bbox, points, ends, words);
     answered(r, points.len() / 2)
 }

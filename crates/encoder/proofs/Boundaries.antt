@@ -1,22 +1,61 @@
--- For a good state and a coordinate the boundary points are those of the clip, which is never refused.
-use mathlib.Core.Path.{_≡_, refl, ap}
-use mathlib.Core.Bool.{true, cond}
-use mathlib.Core.List.{List, []}
-use lib.Dec.{eqb}
+-- Laws of the boundary points: what the clip gives, and a segment inside the box.
+-- For callers:
+--     inside-same stays   a segment inside the box is not cut, and then no end has moved
+use Prim.Native.Nat.{ℕ}
+use mathlib.Core.Path.{_≡_, refl, sym, ap}
+use mathlib.Core.Bool.{Bool, true, false, not, _||_}
+use mathlib.Core.List.{[]}
+use native.Mathlib.Omega.{arith}
+use lib.Signed.{ltZ}
+use Rattle.refusal.specs.declared.Refusal.{Refusal}
 use Rattle.clip.specs.declared.Pt.{Pt}
+use Rattle.clip.specs.declared.Seg.{Seg}
 use Rattle.clip.specs.declared.BBox.{BBox}
-use Rattle.clip.specs.Domain.{isCoord, isGood}
-use Rattle.points.specs.declared.MaybePt.{MaybePt}
-use Rattle.points.specs.declared.MaybePt.the-variants.{Nowhere, At}
-use Rattle.points.specs.Points.{inLimit}
-use Rattle.points.specs.Boundary.{boundsFrom, bounds}
-use Rattle.encoder.specs.declared.GeomEncoder.{GeomEncoder}
-use Rattle.encoder.specs.Adding.{cutFrom, boundary}
+use Rattle.clip.specs.declared.ClippedSeg.{ClippedSeg}
+use Rattle.clip.specs.declared.Clipped.{Clipped}
+use Rattle.clip.specs.declared.Clipped.the-variants.{Done, Refused}
+use Rattle.clip.specs.Domain.{isGood}
+use Rattle.clip.specs.Cutting.{clip}
+use Rattle.clip.specs.Answer.{areCoords, saidClipped, clipped}
+use Rattle.clip.proofs.Callers.{answered, never-refused, Kept, clip-inside}
+use Rattle.encoder.specs.Points.{samePt}
+use Rattle.encoder.specs.Boundary.{movedEnds, movedBy, outside}
+use Rattle.encoder.proofs.Comparing.{eqZ-refl}
 
-from-clip : (b : BBox) (m : MaybePt) (p : Pt) → isGood b ≡ true → inLimit m ≡ true → isCoord p ≡ true → boundsFrom b m p ≡ cutFrom b m p
-from-clip b Nowhere p g e f = refl
-from-clip b (At q) p g e f = rw (g, e, f)
+-- ---- the two answers of the clip, which is never refused
+module _ (s : Seg) (b : BBox) (r : Clipped) (h : saidClipped r ≡ clipped s b) where
+  pub clip-done : (c : ClippedSeg) → r ≡ Done c → c .seg ≡ clip b s .seg
+  clip-done c f = ap (λ (x : ClippedSeg). x .seg) (answered s b r h c f)
 
-pub bounds-are : (s : GeomEncoder) (p : Pt) → isGood (s .bbox) ≡ true → inLimit (s .«xy_end») ≡ true → isCoord p ≡ true → bounds (s .kind) (s .bbox) (s .«xy_end») p ≡ boundary s p
-unfolding bounds boundary
-bounds-are s p g e f = ap (λ (l : List Pt). cond (eqb (s .kind) 1) [] l) (from-clip (s .bbox) (s .«xy_end») p g e f)
+  pub clip-refused : isGood b ≡ true → areCoords s ≡ true → (k : Refusal) → r ≡ Refused k → s ≡ clip b s .seg
+  clip-refused g e k f = absurd (never-refused s b r h k f g e)
+
+pub moved-is : (raw p : Pt) (cut : Seg) (t u : Bool) → t ≡ samePt raw (cut .p0) → u ≡ samePt p (cut .p1) →
+    record { moved0 = not t; moved1 = not u; end0 = cut .p0; end1 = cut .p1 } ≡ movedBy raw p cut
+moved-is raw p cut t u e f = rw (e, f)
+
+-- ---- a segment inside the box brings none
+pub kept-in : (b : BBox) (p : Pt) → outside b p ≡ false → Kept b p
+kept-in b p e = by (ltZ (p .x) (b .«x_min»)) (ltZ (b .«x_max») (p .x)) (ltZ (p .y) (b .«y_min»)) (ltZ (b .«y_max») (p .y)) e refl refl refl refl
+  where
+    by : (m n o q : Bool) → (m || n || o || q) ≡ false → ltZ (p .x) (b .«x_min») ≡ m → ltZ (b .«x_max») (p .x) ≡ n → ltZ (p .y) (b .«y_min») ≡ o → ltZ (b .«y_max») (p .y) ≡ q → Kept b p
+    by false false false false f g h i j = record { left = g; right = h; down = i; up = j }
+    by true n o q f g h i j = absurd (let z : _≡_ {A = ℕ} 0 1 = cc in omega arith)
+    by false true o q f g h i j = absurd (let z : _≡_ {A = ℕ} 0 1 = cc in omega arith)
+    by false false true q f g h i j = absurd (let z : _≡_ {A = ℕ} 0 1 = cc in omega arith)
+    by false false false true f g h i j = absurd (let z : _≡_ {A = ℕ} 0 1 = cc in omega arith)
+
+same-self : (p : Pt) → samePt p p ≡ true
+same-self p = rw (eqZ-refl (p .x), eqZ-refl (p .y))
+
+pub stays : (raw cut : Seg) → cut ≡ raw → [] ≡ movedEnds raw cut
+stays raw cut e = rw (e, same-self (raw .p0), same-self (raw .p1))
+
+module _ (raw : Seg) (b : BBox) (t u : Bool) (e : t ≡ outside b (raw .p0)) (f : u ≡ outside b (raw .p1)) where
+  pub inside-same : not (t || u) ≡ true → clip b raw .seg ≡ raw
+  inside-same h = by t u e f h
+    where
+      by : (m n : Bool) → m ≡ outside b (raw .p0) → n ≡ outside b (raw .p1) → not (m || n) ≡ true → clip b raw .seg ≡ raw
+      by false false g i j = clip-inside b raw (kept-in b (raw .p0) (sym g)) (kept-in b (raw .p1) (sym i))
+      by true n g i j = absurd (let z : _≡_ {A = ℕ} 0 1 = cc in omega arith)
+      by false true g i j = absurd (let z : _≡_ {A = ℕ} 0 1 = cc in omega arith)

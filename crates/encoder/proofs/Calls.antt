@@ -1,7 +1,7 @@
--- Laws of the calls: the plan of a point, writing it, and what each `return` of a call gives.
-use mathlib.Core.Path.{_≡_, refl, sym, _∙_, ap, subst}
+-- Laws of the calls: what each `return` of a call gives.
+use mathlib.Core.Path.{_≡_, refl, _∙_, ap}
 use mathlib.Core.Bool.{Bool, true, false, cond, not, _&&_}
-use mathlib.Core.List.{List, [], _∷_, _++_}
+use mathlib.Core.List.{List, [], _∷_}
 use Prim.Native.Nat.{ℕ, _+_, _-_, _≤_, _<_}
 use native.Mathlib.Omega.{arith}
 use borrow.Author.Tests.{eq-eqb, ne-eqb, le-leb, lt-leb, eqb-true, ltb-true}
@@ -9,78 +9,24 @@ use lib.Dec.{leb, ltb, eqb}
 use lib.ListN.{length}
 use Rattle.promise.specs.Answers.{Gives}
 use Rattle.promise.specs.Laid.{lay}
-use Rattle.promise.proofs.Laying.{lay-nothing}
 use Rattle.promise.proofs.Cases.{gives-kept}
 use Rattle.refusal.specs.declared.Refusal.the-variants.{State, Coord, Empty, Room}
 use Rattle.refusal.specs.Said.{Said}
 use Rattle.clip.specs.declared.Pt.{Pt}
-use Rattle.clip.specs.Domain.{isCoord, isGood}
+use Rattle.clip.specs.Domain.{isCoord}
 use Rattle.words.specs.Geometries.{maxWords, room}
 use Rattle.words.specs.Commands.{commandWord}
-use Rattle.points.specs.declared.MaybePt.{MaybePt}
-use Rattle.points.specs.declared.MaybePt.the-variants.{Nowhere, At}
-use Rattle.points.specs.declared.boundary.Ends.{Ends}
-use Rattle.points.specs.Boundary.{bounds, endsOf}
-use Rattle.commands.specs.Pushed.{moveTo, lineTo, closePath, countWord}
-use Rattle.commands.specs.Ends.{layIf, layEnd}
-use Rattle.commands.proofs.Commands.{count-is}
-use Rattle.commands.proofs.Stores.{Fitting, fitting-laid, fitting-long}
+use Rattle.encoder.specs.Pushed.{moveTo, lineTo, closePath}
+use Rattle.encoder.specs.Ends.{layIf, layEnd}
+use Rattle.encoder.proofs.CommandWords.{count-is}
+use Rattle.encoder.proofs.Laying.{Fitting, fitting-laid, fitting-long}
 use Rattle.encoder.specs.declared.GeomEncoder.{GeomEncoder}
-use Rattle.encoder.specs.declared.Run.the-variants.{Nothing}
-use Rattle.encoder.specs.declared.Plan.{Plan}
-use Rattle.encoder.specs.declared.Plans.{Plans}
-use Rattle.encoder.specs.States.{valid}
+use Rattle.encoder.specs.States.{valid, Valid}
 use Rattle.encoder.specs.Answers.{Counted, done, turned, fitting}
-use Rattle.encoder.specs.Emitting.{emission, placeOf}
-use Rattle.encoder.specs.Adding.{boundary, emitted, drawn, ended, added}
+use Rattle.encoder.specs.Emitting.{placeOf}
+use Rattle.encoder.specs.Adding.{drawn, added}
 use Rattle.encoder.specs.Completing.{counting, closing, cleared, finished, isEmpty, completed}
-use Rattle.encoder.specs.Planning.{planned, emissionIf, Ready, endOf, layAt, laid, Under, Planned}
-use Rattle.encoder.proofs.States.{yes-of, no-of, Valid, valid-facts, valid-ready, room-length, room-cap}
-use Rattle.encoder.proofs.Boundaries.{bounds-are}
-use Rattle.encoder.proofs.Steps.{Step, emission-step, if-step, emitted-three}
-
--- ---- the plan of a point
-more : {n m : ℕ} {s : GeomEncoder} → n ≤ m → Ready n s → Ready m s
-more h R = record { few = omega (arith, R .few); counted = R .counted; good = R .good; at0 = R .at0; at1 = R .at1 }
-
-module _ (s : GeomEncoder) (p : Pt) (R : Ready maxWords s) (ends : Ends) (first : Plan) (i : planned first ≡ emissionIf s (ends .first)) where
-  step1 : Step maxWords s (planned first)
-  step1 = subst (Step maxWords s) (sym i) (if-step maxWords s R (ends .first))
-
-  pub ready1 : Ready (maxWords + 6) (first .next)
-  ready1 = more (omega arith) (step1 .ready)
-
-  module _ (second : Plan) (j : planned second ≡ emissionIf (first .next) (ends .second)) where
-    step2 : Step (maxWords + 3) (first .next) (planned second)
-    step2 = subst (Step (maxWords + 3) (first .next)) (sym j) (if-step (maxWords + 3) (first .next) (step1 .ready) (ends .second))
-
-    pub ready2 : Ready (maxWords + 6) (second .next)
-    ready2 = more (omega arith) (step2 .ready)
-
-    module _ (b : endsOf ends ≡ boundary s p) (last : Plan) (k : planned last ≡ emission (second .next) p) where
-      step3 : Step (maxWords + 6) (second .next) (planned last)
-      step3 = subst (Step (maxWords + 6) (second .next)) (sym k) (emission-step (maxWords + 6) (second .next) ready2 p)
-
-      pub point-planned : Planned (record { next = last .next; first = first .stroke; second = second .stroke; last = last .stroke }) s p
-      point-planned = record {
-        emits = λ out. ap (λ (l : List Pt). emitted s (l ++ (p ∷ [])) out) (sym b) ∙ emitted-three s (ends .first) (ends .second) p (planned first) (planned second) (planned last) i j k out;
-        under = record {
-          first = omega (arith, step1 .ends, step2 .grows, step3 .grows);
-          second = omega (arith, step2 .ends, step3 .grows);
-          last = omega (arith, step3 .ends);
-        };
-      }
-
-pub all-laid : (plans : Plans) (out a b c : List ℕ) → a ≡ layAt (plans .first) out → b ≡ layAt (plans .second) a → c ≡ layAt (plans .last) b → c ≡ laid plans out
-all-laid plans out a b c e f g = g ∙ ap (layAt (plans .last)) (f ∙ ap (layAt (plans .second)) e)
-
--- ---- the raw end
-module _ (s : GeomEncoder) (p : Pt) where
-  pub end-kept : s .kind ≡ 1 → s ≡ ended s p
-  end-kept e = rw (eq-eqb (s .kind) 1 e)
-
-  pub end-set : (s .kind ≡ 1 → ⊥) → record { kind = s .kind; bbox = s .bbox; «xy_end» = At p; pt0 = s .pt0; pt1 = s .pt1; «cmd_offset» = s .«cmd_offset»; count = s .count; used = s .used } ≡ ended s p
-  end-set e = rw (ne-eqb (s .kind) 1 e)
+use Rattle.encoder.proofs.States.{yes-of, no-of, valid-facts, room-length, room-cap}
 
 -- ---- the state after completing
 module _ (s : GeomEncoder) where
@@ -125,131 +71,76 @@ finished-used s = by (eqb (s .kind) 1) refl
     by true e = let k : s .kind ≡ 1 = eqb-true (s .kind) 1 e in let n : eqb (s .kind) 3 ≡ false = ne-eqb (s .kind) 3 (λ z. omega arith) in rw n (omega arith)
     by false e = refl
 
--- ---- the returns of `add`
-module _ (s : GeomEncoder) (p : Pt) (out : List ℕ) (v : Bool) (e : v ≡ valid s (length out)) where
-  pub add-state : not v ≡ true → Gives (added s p out) (turned State s) out
+-- ---- the returns of `add_point` and `add_valid`
+module _ (s : GeomEncoder) (p : Pt) (out : List ℕ) where
+  pub add-state : (v : Bool) → v ≡ valid s (length out) → not v ≡ true → Gives (added s p out) (turned State s) out
   unfolding added
-  add-state h = rw (no-of v (valid s (length out)) e h) (gives-kept (turned State s) out)
+  add-state v e h = rw (no-of v (valid s (length out)) e h) (gives-kept (turned State s) out)
 
-  module _ (h : not v ≡ false) (t : Bool) (f : t ≡ isCoord p) where
+  module _ (w : valid s (length out) ≡ true) (t : Bool) (f : t ≡ isCoord p) where
     pub add-coord : not t ≡ true → Gives (added s p out) (turned Coord s) out
     unfolding added
-    add-coord k = rw (yes-of v (valid s (length out)) e h, no-of t (isCoord p) f k) (gives-kept (turned Coord s) out)
+    add-coord k = rw (w, no-of t (isCoord p) f k) (gives-kept (turned Coord s) out)
 
     module _ (k : not t ≡ false) where
-      facts-in : Valid s (length out)
-      facts-in = valid-facts s (length out) (yes-of v (valid s (length out)) e h)
-
-      pub add-ready : Ready maxWords s
-      add-ready = valid-ready facts-in
-
-      pub add-bounds : (ends : Ends) → endsOf ends ≡ bounds (s .kind) (s .bbox) (s .«xy_end») p → endsOf ends ≡ boundary s p
-      add-bounds ends b = b ∙ bounds-are s p (add-ready .good) (facts-in .end) (yes-of t (isCoord p) f k)
+      pub add-asked : (valid s (length out) ≡ true) × (isCoord p ≡ true)
+      add-asked = (w, yes-of t (isCoord p) f k)
 
       pub add-within : {a : Said Counted} {o : List ℕ} → Gives (fitting s out (drawn s p out)) a o → Gives (added s p out) a o
       unfolding added
-      add-within g = rw (yes-of v (valid s (length out)) e h, yes-of t (isCoord p) f k) g
+      add-within g = rw (add-asked .0, add-asked .1) g
 
--- ---- a point with its boundary points: ROOM, or all of it
-module _ (s : GeomEncoder) (p : Pt) (out : List ℕ) (plans : Plans) (P : Planned plans s p) (m : ℕ) (q : m ≡ room (length out)) where
-  pub cut-room : m < plans .next .used → Gives (fitting s out (drawn s p out)) (turned Room s) out
-  cut-room l =
-      let b : leb (plans .next .used) (room (length out)) ≡ false = lt-leb (plans .next .used) (room (length out)) (omega arith) in
-      rw (P .emits out, b) (gives-kept (turned Room s) out)
-
-  module _ (l : plans .next .used ≤ m) where
-    pub cut-under : Under plans (length out)
-    cut-under =
-        let u = P .under in
-        let g = room-length (length out) in
-        record { first = omega (arith, u .first); second = omega (arith, u .second); last = omega (arith, u .last) }
-
-    pub cut-done : (o : List ℕ) → o ≡ laid plans out → (r : GeomEncoder) → r ≡ ended (plans .next) p → Gives (fitting s out (drawn s p out)) (done r) o
-    cut-done o g r d =
-        let b : leb (plans .next .used) (room (length out)) ≡ true = le-leb (plans .next .used) (room (length out)) (omega arith) in
-        rw (P .emits out, b) (record { answer = ap done d; memory = g })
-
--- ---- a point by itself: as one with two plans before it that lay nothing
-nothing-first : GeomEncoder → Plan
-nothing-first s = record { next = s; stroke = record { at = s .used; run = Nothing } }
-
-module _ (s : GeomEncoder) (p : Pt) (R : Ready maxWords s) (b : [] ≡ boundary s p) (plan : Plan) (i : planned plan ≡ emission s p) where
-  only : Plans
-  only = record { next = plan .next; first = nothing-first s .stroke; second = nothing-first s .stroke; last = plan .stroke }
-
-  only-planned : Planned only s p
-  unfolding only nothing-first
-  only-planned = point-planned s p R (record { first = Nowhere; second = Nowhere }) (nothing-first s) refl (nothing-first s) refl b plan i
-
-  only-laid : (out : List ℕ) → laid only out ≡ layAt (plan .stroke) out
-  unfolding only nothing-first
-  only-laid out = rw (lay-nothing (s .used) out, lay-nothing (s .used) out)
-
-  module _ (out : List ℕ) (m : ℕ) (q : m ≡ room (length out)) where
-    pub alone-room : m < plan .next .used → Gives (fitting s out (drawn s p out)) (turned Room s) out
-    unfolding only
-    alone-room l = cut-room s p out only only-planned m q l
-
-    module _ (l : plan .next .used ≤ m) where
-      pub alone-under : endOf (plan .stroke) ≤ length out
-      unfolding only
-      alone-under = cut-under s p out only only-planned m q l .last
-
-      pub alone-done : (o : List ℕ) → o ≡ layAt (plan .stroke) out → (r : GeomEncoder) → r ≡ ended (plan .next) p → Gives (fitting s out (drawn s p out)) (done r) o
-      unfolding only
-      alone-done o g r d = cut-done s p out only only-planned m q l o (g ∙ sym (only-laid out)) r d
-
--- ---- the returns of `complete_geom`
-module _ (s : GeomEncoder) (out : List ℕ) (v : Bool) (e : v ≡ valid s (length out)) where
-  pub end-state : not v ≡ true → Gives (completed s out) (turned State s) out
+-- ---- the returns of `complete_geom` and `complete_valid`
+module _ (s : GeomEncoder) (out : List ℕ) where
+  pub end-state : (v : Bool) → v ≡ valid s (length out) → not v ≡ true → Gives (completed s out) (turned State s) out
   unfolding completed
-  end-state h = rw (no-of v (valid s (length out)) e h) (gives-kept (turned State s) out)
+  end-state v e h = rw (no-of v (valid s (length out)) e h) (gives-kept (turned State s) out)
 
-  module _ (h : not v ≡ false) where
-    pub end-empty : isEmpty s ≡ true → Gives (completed s out) (turned Empty s) out
-    unfolding completed
-    end-empty k = rw (yes-of v (valid s (length out)) e h, k) (gives-kept (turned Empty s) out)
+module _ (s : GeomEncoder) (out : List ℕ) (w : valid s (length out) ≡ true) where
+  pub end-empty : isEmpty s ≡ true → Gives (completed s out) (turned Empty s) out
+  unfolding completed
+  end-empty k = rw (w, k) (gives-kept (turned Empty s) out)
 
-    module _ (k : isEmpty s ≡ false) where
-      facts : Valid s (length out)
-      facts = valid-facts s (length out) (yes-of v (valid s (length out)) e h)
+  module _ (k : isEmpty s ≡ false) where
+    facts : Valid s (length out)
+    facts = valid-facts s (length out) (w)
 
-      pub end-used : s .used ≤ maxWords
-      end-used = omega (arith, facts .fits, room-cap (length out))
+    pub end-used : s .used ≤ maxWords
+    end-used = omega (arith, facts .fits, room-cap (length out))
 
-      pub end-count : s .count ≤ maxWords
-      end-count = omega (arith, facts .counted, end-used)
+    pub end-count : s .count ≤ maxWords
+    end-count = omega (arith, facts .counted, end-used)
 
-      module _ (next : GeomEncoder) (d : next ≡ finished s) (m : ℕ) (q : m ≡ room (length out)) where
-        pub end-room : m < next .used → Gives (completed s out) (turned Room s) out
-        unfolding completed
-        end-room l =
+    module _ (next : GeomEncoder) (d : next ≡ finished s) (m : ℕ) (q : m ≡ room (length out)) where
+      pub end-room : m < next .used → Gives (completed s out) (turned Room s) out
+      unfolding completed
+      end-room l =
+          let u : next .used ≡ finished s .used = ap (λ (x : GeomEncoder). x .used) d in
+          let b : leb (finished s .used) (room (length out)) ≡ false = lt-leb (finished s .used) (room (length out)) (omega arith) in
+          rw (w, k, b) (gives-kept (turned Room s) out)
+
+      module _ (l : next .used ≤ m) where
+        count-fits : Fitting (s .«cmd_offset») (counting s) (length out)
+        count-fits =
+            let g = room-length (length out) in
+            record { fits = λ z. omega (arith, facts .placed (counted-some s k z), facts .fits, one-word s) }
+
+        close-fits : (o : List ℕ) → length o ≡ length out → Fitting (s .used) (closing s) (length o)
+        close-fits o n =
+            let g = room-length (length out) in
             let u : next .used ≡ finished s .used = ap (λ (x : GeomEncoder). x .used) d in
-            let b : leb (finished s .used) (room (length out)) ≡ false = lt-leb (finished s .used) (room (length out)) (omega arith) in
-            rw (yes-of v (valid s (length out)) e h, k, b) (gives-kept (turned Room s) out)
+            record { fits = λ z. omega (arith, finished-used s) }
 
-        module _ (l : next .used ≤ m) where
-          count-fits : Fitting (s .«cmd_offset») (counting s) (length out)
-          count-fits =
-              let g = room-length (length out) in
-              record { fits = λ z. omega (arith, facts .placed (counted-some s k z), facts .fits, one-word s) }
+        end-laid : layEnd (s .kind) (s .count) (s .«cmd_offset») (s .used) out ≡ lay (s .used) (closing s) (lay (s .«cmd_offset») (counting s) out)
+        end-laid =
+            let o : List ℕ = lay (s .«cmd_offset») (counting s) out in
+            ap (λ (c : List ℕ). layIf (s .used) (closing s) (layIf (s .«cmd_offset») c out)) (count-is (s .kind) (s .count) end-count)
+            ∙ ap (layIf (s .used) (closing s)) (fitting-laid (s .«cmd_offset») (counting s) out count-fits)
+            ∙ fitting-laid (s .used) (closing s) o (close-fits o (fitting-long (s .«cmd_offset») (counting s) out count-fits))
 
-          close-fits : (o : List ℕ) → length o ≡ length out → Fitting (s .used) (closing s) (length o)
-          close-fits o n =
-              let g = room-length (length out) in
-              let u : next .used ≡ finished s .used = ap (λ (x : GeomEncoder). x .used) d in
-              record { fits = λ z. omega (arith, finished-used s) }
-
-          end-laid : layEnd (s .kind) (s .count) (s .«cmd_offset») (s .used) out ≡ lay (s .used) (closing s) (lay (s .«cmd_offset») (counting s) out)
-          end-laid =
-              let o : List ℕ = lay (s .«cmd_offset») (counting s) out in
-              ap (λ (c : List ℕ). layIf (s .used) (closing s) (layIf (s .«cmd_offset») c out)) (count-is (s .kind) (s .count) end-count)
-              ∙ ap (layIf (s .used) (closing s)) (fitting-laid (s .«cmd_offset») (counting s) out count-fits)
-              ∙ fitting-laid (s .used) (closing s) o (close-fits o (fitting-long (s .«cmd_offset») (counting s) out count-fits))
-
-          pub end-done : (o : List ℕ) → o ≡ layEnd (s .kind) (s .count) (s .«cmd_offset») (s .used) out → Gives (completed s out) (done next) o
-          unfolding completed
-          end-done o x =
-              let u : next .used ≡ finished s .used = ap (λ (x : GeomEncoder). x .used) d in
-              let z : leb (finished s .used) (room (length out)) ≡ true = le-leb (finished s .used) (room (length out)) (omega arith) in
-              rw (yes-of v (valid s (length out)) e h, k, z) (record { answer = ap done d; memory = x ∙ end-laid })
+        pub end-done : (o : List ℕ) → o ≡ layEnd (s .kind) (s .count) (s .«cmd_offset») (s .used) out → Gives (completed s out) (done next) o
+        unfolding completed
+        end-done o x =
+            let u : next .used ≡ finished s .used = ap (λ (x : GeomEncoder). x .used) d in
+            let z : leb (finished s .used) (room (length out)) ≡ true = le-leb (finished s .used) (room (length out)) (omega arith) in
+            rw (w, k, z) (record { answer = ap done d; memory = x ∙ end-laid })

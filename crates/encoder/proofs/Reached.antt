@@ -25,13 +25,13 @@ use Rattle.clip.specs.declared.BBox.{BBox}
 use Rattle.clip.specs.Domain.{isCoord, isGood}
 use Rattle.words.specs.Geometries.{isKind, maxWords, room}
 use Rattle.words.specs.Commands.{commandWord}
-use Rattle.points.specs.declared.MaybePt.{MaybePt}
-use Rattle.points.specs.declared.MaybePt.the-variants.{Nowhere, At}
+use Rattle.encoder.specs.declared.points.MaybePt.{MaybePt}
+use Rattle.encoder.specs.declared.points.MaybePt.the-variants.{Nowhere, At}
 use Rattle.encoder.specs.declared.GeomEncoder.{GeomEncoder}
-use Rattle.encoder.specs.States.{fresh, valid}
+use Rattle.encoder.specs.States.{fresh, valid, Valid, isThere, Sound}
 use Rattle.encoder.specs.Answers.{done, started}
-use Rattle.points.specs.Points.{inLimit, clamped, isLast, lastOf}
-use Rattle.commands.specs.Pushed.{closePath}
+use Rattle.encoder.specs.Points.{inLimit, clamped, isLast, lastOf}
+use Rattle.encoder.specs.Pushed.{closePath}
 use Rattle.encoder.specs.Emitting.{Emission, emission, steps, placeOf}
 use Rattle.encoder.specs.Adding.{pointAt, boundary, emissions, emitted, ended, added}
 use Rattle.encoder.specs.Completing.{counting, closing, cleared, finished, completed}
@@ -40,7 +40,7 @@ use Rattle.encoder.specs.Planning.{Ready}
 use Rattle.encoder.proofs.Pushing.{out-count, out-used}
 use Rattle.encoder.proofs.Steps.{emission-cases, command-cases, emission-step}
 use Rattle.encoder.proofs.Calls.{one-word, counted-some, finished-used}
-use Rattle.encoder.proofs.States.{Valid, valid-ready, room-length}
+use Rattle.encoder.proofs.States.{valid-ready, room-length}
 use Rattle.encoder.proofs.Accepted.{added-accepted, completed-accepted, emitted-run}
 
 -- ---- STATE from its rules
@@ -61,18 +61,9 @@ valid-is s n v = rw (
   v .at1,
 )
 
--- ---- the rule that is missing
-abbrev pub isThere : MaybePt → Bool
-isThere Nowhere = false
-isThere (At p) = true
-
 -- where the last command stands below the used words: wherever there is a count or a last point
 pub record Placed (s : GeomEncoder) : Type 0 where
   pub counts : (s .count ≡ 0 → ⊥) → s .«cmd_offset» < s .used
-  pub points : isThere (s .pt1) ≡ true → s .«cmd_offset» < s .used
-
-pub record Sound (s : GeomEncoder) (n : ℕ) : Type 0 where
-  pub valid : Valid s n
   pub points : isThere (s .pt1) ≡ true → s .«cmd_offset» < s .used
 
 sound-placed : {s : GeomEncoder} {n : ℕ} → Sound s n → Placed s

@@ -1,7 +1,7 @@
 -- STATE as facts, and what they give the calls; tests joined by `&&` and tests that a call answered.
 use mathlib.Core.Path.{_≡_, refl}
 use mathlib.Core.Bool.{Bool, true, false, cond, not, _&&_, _||_}
-use Prim.Native.Nat.{ℕ, _+_, _/_, _≤_, _<_}
+use Prim.Native.Nat.{ℕ, _+_, _/_, _≤_}
 use native.Mathlib.Omega.{arith}
 use borrow.Author.Tests.{leb-true, ltb-true, eqb-true, leb-false, not-true, not-false}
 use lib.Dec.{leb, ltb, eqb}
@@ -9,9 +9,9 @@ use Rattle.promise.proofs.Cases.{told-yes, told-no}
 use Rattle.clip.specs.Domain.{isGood}
 use Rattle.words.specs.Geometries.{isKind, maxWords, room}
 use Rattle.encoder.specs.declared.GeomEncoder.{GeomEncoder}
-use Rattle.points.specs.Points.{inLimit, inLimits}
-use Rattle.commands.specs.Figures.{figuresFit}
-use Rattle.encoder.specs.States.{valid}
+use Rattle.encoder.specs.Points.{inLimit, inLimits}
+use Rattle.encoder.specs.Figures.{figuresFit}
+use Rattle.encoder.specs.States.{valid, Valid}
 use Rattle.encoder.specs.Planning.{Ready}
 
 pub both : (s t : Bool) → (s && t) ≡ true → (s ≡ true) × (t ≡ true)
@@ -38,16 +38,6 @@ module _ (n : ℕ) where
   room-cap = room-by (leb n maxWords) refl .1
 
 -- ---- the rules of STATE
-pub record Valid (s : GeomEncoder) (n : ℕ) : Type 0 where
-  pub fits : s .used ≤ room n
-  pub counted : s .count ≤ s .used / 2 + 1
-  pub placed : (s .count ≡ 0 → ⊥) → s .«cmd_offset» < s .used
-  pub kind : isKind (s .kind) ≡ true
-  pub good : isGood (s .bbox) ≡ true
-  pub end : inLimit (s .«xy_end») ≡ true
-  pub at0 : inLimit (s .pt0) ≡ true
-  pub at1 : inLimit (s .pt1) ≡ true
-
 either : (a b : Bool) → (a || b) ≡ true → (a ≡ true → ⊥) → b ≡ true
 either true b e n = absurd (n refl)
 either false b e n = e

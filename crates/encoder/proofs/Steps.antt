@@ -1,7 +1,7 @@
 -- Laws of one emission, by its cases: where its run ends, how the figures grow, and that the state stays ready.
---     emission-cases command-cases    what holds in each case holds of an emission, and of the command that is pushed
---     Step emission-step if-step      the run ends at the words used, which never fall; the state stays ready; the count is not zero
---     emitted-three                   three emissions, one after the other, as three runs laid
+--     emitted-cases emission-cases command-cases    what holds in each case holds of an emission, and of the command that is pushed
+--     Step at-step emission-step if-step    the run ends at the words used, which never fall; the state stays ready; the count is not zero
+--     emitted-three    three emissions, one after the other, as three runs laid
 use mathlib.Core.Path.{_≡_, refl, sym, _∙_, ap}
 use mathlib.Core.Bool.{Bool, true, false, cond}
 use mathlib.Core.List.{List, [], _∷_, _++_}
@@ -17,16 +17,17 @@ use Rattle.clip.specs.declared.Pt.{Pt}
 use Rattle.clip.specs.Domain.{isCoord}
 use Rattle.clip.proofs.Callers.{coord-is}
 use Rattle.words.specs.Commands.{commandWord}
-use Rattle.points.specs.declared.MaybePt.{MaybePt}
-use Rattle.points.specs.declared.MaybePt.the-variants.{Nowhere, At}
+use Rattle.encoder.specs.declared.points.MaybePt.{MaybePt}
+use Rattle.encoder.specs.declared.points.MaybePt.the-variants.{Nowhere, At}
 use Rattle.encoder.specs.declared.GeomEncoder.{GeomEncoder}
-use Rattle.points.specs.Points.{clamped, isLast, lastOf}
-use Rattle.points.specs.Boundary.{listOf}
-use Rattle.points.proofs.Coords.{clamped-coord}
-use Rattle.commands.specs.Pushed.{command, moveTo, lineTo}
-use Rattle.encoder.specs.Emitting.{takenOut, popped, steps, pushed, begun, skipped, emission, Emission}
+use Rattle.encoder.specs.Points.{clamped, isLast, lastOf}
+use Rattle.encoder.specs.Boundary.{listOf}
+use Rattle.encoder.proofs.Coords.{clamped-coord}
+use Rattle.encoder.specs.Pushed.{command, moveTo, lineTo}
+use Rattle.encoder.specs.Emitting.{takenOut, popped, steps, pushed, begun, skipped, emittedAt, emission, Emission}
 use Rattle.encoder.specs.Adding.{emitted}
 use Rattle.encoder.specs.Planning.{emissionIf, Ready}
+use Rattle.encoder.specs.Drafts.{emittedIf}
 use Rattle.encoder.proofs.Pushing.{out-count, out-used, popped-ready}
 
 -- ---- the cases
@@ -54,21 +55,24 @@ command-cases P kind count zero one more = at-0 (eqb count 0) refl
 no-command : (kind count : ℕ) → 2 ≤ count → command kind count ≡ []
 no-command kind count h = rw (ne-eqb count 0 (λ e. omega arith), ne-eqb count 1 (λ e. omega arith))
 
+pub emitted-cases : (P : Emission → Type 0) (s : GeomEncoder) (q : Pt) →
+    (isLast (s .pt1) q ≡ true → P (skipped s)) → (takenOut s q ≡ true → P (pushed [] (popped s) q)) → P (pushed (command (s .kind) (s .count)) s q) → P (emittedAt s q)
+emitted-cases P s q skip out push = at-last (isLast (s .pt1) q) refl
+  where
+    at-out : (t : Bool) → takenOut s q ≡ t → P (pushed (command (s .kind) (s .count)) (cond t (popped s) s) q)
+    at-out true e = rw (no-command (s .kind) (s .count) (out-count s q e)) (out e)
+    at-out false e = push
+
+    at-last : (t : Bool) → isLast (s .pt1) q ≡ t → P (cond t (skipped s) (pushed (command (s .kind) (s .count)) (cond (takenOut s q) (popped s) s) q))
+    at-last true e = skip e
+    at-last false e = at-out (takenOut s q) refl
+
 pub emission-cases : (P : Emission → Type 0) (s : GeomEncoder) (p : Pt) →
     (isLast (s .pt1) (clamped (s .bbox) p) ≡ true → P (skipped s)) →
     (takenOut s (clamped (s .bbox) p) ≡ true → P (pushed [] (popped s) (clamped (s .bbox) p))) →
     P (pushed (command (s .kind) (s .count)) s (clamped (s .bbox) p)) → P (emission s p)
 unfolding emission
-emission-cases P s p skip out push = at-last (isLast (s .pt1) (clamped (s .bbox) p)) refl
-  where
-    at-out : (t : Bool) → takenOut s (clamped (s .bbox) p) ≡ t → P (pushed (command (s .kind) (s .count)) (cond t (popped s) s) (clamped (s .bbox) p))
-    at-out true e = rw (no-command (s .kind) (s .count) (out-count s (clamped (s .bbox) p) e)) (out e)
-    at-out false e = push
-
-    at-last : (t : Bool) → isLast (s .pt1) (clamped (s .bbox) p) ≡ t →
-        P (cond t (skipped s) (pushed (command (s .kind) (s .count)) (cond (takenOut s (clamped (s .bbox) p)) (popped s) s) (clamped (s .bbox) p)))
-    at-last true e = skip e
-    at-last false e = at-out (takenOut s (clamped (s .bbox) p)) refl
+emission-cases P s p skip out push = emitted-cases P s (clamped (s .bbox) p) skip out push
 
 -- ---- one step
 pub record Step (n : ℕ) (s : GeomEncoder) (e : Emission) : Type 0 where
@@ -95,23 +99,30 @@ module _ (n : ℕ) (s : GeomEncoder) (R : Ready n s) where
   short : length (command (s .kind) (s .count)) ≤ 1
   short = command-cases (λ (c : List ℕ). length c ≤ 1) (s .kind) (s .count) (λ e. omega arith) (λ e f. omega arith) (λ e f. omega arith)
 
-  pub emission-step : (p : Pt) → Step n s (emission s p)
-  emission-step p =
-      let c : isCoord (clamped (s .bbox) p) ≡ true = coord-is (clamped-coord (s .bbox) p (R .good)) in
-      emission-cases (Step n s) s p
+  pub at-step : (q : Pt) → isCoord q ≡ true → Step n s (emittedAt s q)
+  at-step q c =
+      emitted-cases (Step n s) s q
       (λ e. skip-step)
-      (λ e. let h = out-count s (clamped (s .bbox) p) e in out-step h c)
-      (push-step (command (s .kind) (s .count)) (clamped (s .bbox) p) short c)
+      (λ e. let h = out-count s q e in out-step h)
+      (push-step (command (s .kind) (s .count)) q short c)
     where
-      out-step : 2 ≤ s .count → isCoord (clamped (s .bbox) p) ≡ true → Step n s (pushed [] (popped s) (clamped (s .bbox) p))
-      out-step h c =
+      out-step : 2 ≤ s .count → Step n s (pushed [] (popped s) q)
+      out-step h =
           let u : 2 ≤ s .used = out-used R h in
           let Q : Ready n (popped s) = popped-ready R h in
           record { ends = refl; grows = omega arith; ready = record { few = omega (arith, R .few); counted = omega (arith, R .counted); good = R .good; at0 = R .at0; at1 = c } }
 
-  pub if-step : (m : MaybePt) → Step n s (emissionIf s m)
-  if-step Nowhere = record { ends = omega arith; grows = omega arith; ready = record { few = omega (arith, R .few); counted = R .counted; good = R .good; at0 = R .at0; at1 = R .at1 } }
-  if-step (At p) = emission-step p
+  pub emission-step : (p : Pt) → Step n s (emission s p)
+  unfolding emission
+  emission-step p = at-step (clamped (s .bbox) p) (coord-is (clamped-coord (s .bbox) p (R .good)))
+
+  pub if-step : (moved : Bool) (q : Pt) → (moved ≡ true → isCoord q ≡ true) → Step n s (emittedIf moved s q)
+  if-step true q c = at-step q (c refl)
+  if-step false q c = record { ends = omega arith; grows = omega arith; ready = record { few = omega (arith, R .few); counted = R .counted; good = R .good; at0 = R .at0; at1 = R .at1 } }
+
+pub same-box : (moved : Bool) (s : GeomEncoder) (q : Pt) → emittedIf moved s q .next .bbox ≡ s .bbox
+same-box true s q = emitted-cases (λ (e : Emission). e .next .bbox ≡ s .bbox) s q (λ e. refl) (λ e. refl) refl
+same-box false s q = refl
 
 -- ---- three emissions
 abbrev three : Emission → Emission → Emission → List ℕ → Written GeomEncoder (List ℕ)

@@ -13,9 +13,9 @@ use Rattle.clip.specs.declared.Pt.{Pt}
 use Rattle.clip.specs.declared.BBox.{BBox}
 use Rattle.clip.specs.Domain.{isCoord}
 use Rattle.clip.specs.Cutting.{clip}
-use Rattle.points.specs.declared.MaybePt.{MaybePt}
-use Rattle.points.specs.declared.MaybePt.the-variants.{Nowhere, At}
-use Rattle.points.specs.Boundary.{movedEnds}
+use Rattle.encoder.specs.declared.points.MaybePt.{MaybePt}
+use Rattle.encoder.specs.declared.points.MaybePt.the-variants.{Nowhere, At}
+use Rattle.encoder.specs.Boundary.{movedEnds}
 use Rattle.encoder.specs.declared.GeomEncoder.{GeomEncoder}
 use Rattle.encoder.specs.States.{valid}
 use Rattle.encoder.specs.Answers.{Counted, turned, fitting}
@@ -41,7 +41,16 @@ emitted s (p ∷ ps) out = emitted (emission s p .next) ps (lay (emission s p .a
 
 -- the raw end of this part, for lines and polygons
 abbrev pub ended : GeomEncoder → Pt → GeomEncoder
-ended s p = record { kind = s .kind; bbox = s .bbox; «xy_end» = cond (eqb (s .kind) 1) (s .«xy_end») (At p); pt0 = s .pt0; pt1 = s .pt1; «cmd_offset» = s .«cmd_offset»; count = s .count; used = s .used }
+ended s p = record {
+  kind = s .kind;
+  bbox = s .bbox;
+  «xy_end» = cond (eqb (s .kind) 1) (s .«xy_end») (At p);
+  pt0 = s .pt0;
+  pt1 = s .pt1;
+  «cmd_offset» = s .«cmd_offset»;
+  count = s .count;
+  used = s .used;
+}
 
 abbrev pub drawn : GeomEncoder → Pt → List ℕ → Written GeomEncoder (List ℕ)
 drawn s p out = record { answer = ended (emitted s (emissions s p) out .answer) p; memory = emitted s (emissions s p) out .memory }

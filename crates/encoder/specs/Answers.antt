@@ -1,4 +1,5 @@
--- Document 01's number and values for each answer of the encoder. An accepted call's count is that of the words used after it; a refused one has "its number, count zero and the given state".
+-- Document 01's number and values for each answer of the encoder. An accepted call's count is that of the words used after it; a refused one has "its
+-- number, count zero and the given state".
 -- A fresh encoder has no given state, so a refusal there comes with none.
 use Prim.Native.Nat.{ℕ}
 use mathlib.Core.Bool.{cond}

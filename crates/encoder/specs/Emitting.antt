@@ -1,4 +1,5 @@
--- Document 01, "Adding a point", "Emitting": what one point gives, as the next state and a run of words laid at a place. Nothing here looks at the words that stand in the list, and no room is asked for.
+-- Document 01, "Adding a point", "Emitting": what one point gives, as the next state and a run of words laid at a place. Nothing here looks at the words
+-- that stand in the list, and no room is asked for.
 use Prim.Native.Nat.{ℕ, _+_, _-_}
 use mathlib.Core.Bool.{Bool, cond}
 use mathlib.Core.List.{List, [], _∷_, _++_}
@@ -7,9 +8,9 @@ use lib.IntN.{_-ℤ_}
 use lib.ListN.{length}
 use Rattle.clip.specs.declared.Pt.{Pt}
 use Rattle.words.specs.Params.{param}
-use Rattle.points.specs.declared.MaybePt.the-variants.{At}
-use Rattle.points.specs.Points.{clamped, isLast, outBefore, lastOf}
-use Rattle.commands.specs.Pushed.{command}
+use Rattle.encoder.specs.declared.points.MaybePt.the-variants.{At}
+use Rattle.encoder.specs.Points.{clamped, isLast, outBefore, lastOf}
+use Rattle.encoder.specs.Pushed.{command}
 use Rattle.encoder.specs.declared.GeomEncoder.{GeomEncoder}
 
 -- ---- taking out: "Polygons with count ≥ 2", the last point "strictly between the one before and the new one on one horizontal or vertical"
@@ -17,7 +18,16 @@ abbrev pub takenOut : GeomEncoder → Pt → Bool
 takenOut s p = outBefore (s .kind) (s .count) (s .pt0) (s .pt1) p
 
 abbrev pub popped : GeomEncoder → GeomEncoder
-popped s = record { kind = s .kind; bbox = s .bbox; «xy_end» = s .«xy_end»; pt0 = s .pt0; pt1 = s .pt0; «cmd_offset» = s .«cmd_offset»; count = s .count - 1; used = s .used - 2 }
+popped s = record {
+  kind = s .kind;
+  bbox = s .bbox;
+  «xy_end» = s .«xy_end»;
+  pt0 = s .pt0;
+  pt1 = s .pt0;
+  «cmd_offset» = s .«cmd_offset»;
+  count = s .count - 1;
+  used = s .used - 2;
+}
 
 -- ---- "Write the two steps from the last emitted point (0, 0 at the start); count rises"
 pub record Emission : Type 0 where
@@ -34,7 +44,16 @@ placeOf [] s = s .«cmd_offset»
 placeOf (w ∷ ws) s = s .used
 
 abbrev pub advanced : GeomEncoder → Pt → ℕ → ℕ → GeomEncoder
-advanced s p place used = record { kind = s .kind; bbox = s .bbox; «xy_end» = s .«xy_end»; pt0 = s .pt1; pt1 = At p; «cmd_offset» = place; count = s .count + 1; used = used }
+advanced s p place used = record {
+  kind = s .kind;
+  bbox = s .bbox;
+  «xy_end» = s .«xy_end»;
+  pt0 = s .pt1;
+  pt1 = At p;
+  «cmd_offset» = place;
+  count = s .count + 1;
+  used = used;
+}
 
 abbrev pub pushed : List ℕ → GeomEncoder → Pt → Emission
 pushed cmd s p =
@@ -47,7 +66,16 @@ begun count = cond (eqb count 0) 1 count
 
 abbrev pub skipped : GeomEncoder → Emission
 skipped s = record {
-  next = record { kind = s .kind; bbox = s .bbox; «xy_end» = s .«xy_end»; pt0 = s .pt0; pt1 = s .pt1; «cmd_offset» = s .«cmd_offset»; count = begun (s .count); used = s .used };
+  next = record {
+    kind = s .kind;
+    bbox = s .bbox;
+    «xy_end» = s .«xy_end»;
+    pt0 = s .pt0;
+    pt1 = s .pt1;
+    «cmd_offset» = s .«cmd_offset»;
+    count = begun (s .count);
+    used = s .used;
+  };
   at = s .used;
   run = [];
 }

@@ -5,3 +5,12 @@ pub mod Adding
 pub mod Completing
 pub mod Calls
 pub mod Planning
+pub mod Points
+pub mod Boundary
+pub mod Figures
+pub mod Pushed
+pub mod Ends
+pub mod Stretches
+pub mod Pens
+pub mod Drafts
+pub mod Jobs

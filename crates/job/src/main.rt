@@ -2,8 +2,8 @@
 ghost use Prim.Native.Nat.{_*_, _+_, _≤_};
 ghost use lib.ListN.{length};
 ghost use Rattle.job.specs.Program.{Told, printed};
+use encoder::whole_job::Encoded;
 use numbers::Numbers;
-use whole_job::Encoded;
 
 // What the program prints for a file, at the front of `text`: how many bytes it is. The lists are the program's own, and large enough.
 fn answer(

@@ -17,8 +17,8 @@ use Rattle.refusal.specs.Said.{Said, accepted, refused}
 use Rattle.refusal.proofs.Laws.{never-both}
 use Rattle.clip.specs.declared.BBox.{BBox}
 use Rattle.whole.specs.Twos.{signed32}
-use Rattle.whole_job.specs.Jobs.{encodedJob}
-use Rattle.whole_job.proofs.Within.{encoded-within}
+use Rattle.encoder.specs.Jobs.{encodedJob}
+use Rattle.encoder.proofs.Within.{encoded-within}
 use Rattle.job_file.specs.JobFile.{Memory, kindOf, partsOf, boxOf, endsOf, pointsIn, encodes, jobFile}
 
 module _ (file : List ℕ) (points : List ℤ) (words : List ℕ) (a : length file ≤ 16384) (b : 6 ≤ length file) (parts : ℕ) (e : parts ≡ getD file 5 0) where

@@ -12,7 +12,7 @@ use Rattle.refusal.specs.Said.{Said, refused}
 use Rattle.clip.specs.declared.BBox.{BBox}
 use Rattle.numbers.specs.Numbers.{maxBytes}
 use Rattle.whole.specs.Twos.{signed32}
-use Rattle.whole_job.specs.Jobs.{encodedJob}
+use Rattle.encoder.specs.Jobs.{encodedJob}
 
 -- the lent lists: the points as signed numbers, and the words
 pub record Memory : Type 0 where

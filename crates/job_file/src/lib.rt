@@ -6,13 +6,13 @@ ghost use lib.ListN.{length};
 ghost use Rattle.promise.specs.Answers.{Gives};
 ghost use Rattle.promise.specs.Laid.{lay};
 ghost use Rattle.whole.specs.Twos.{signed32};
-ghost use Rattle.whole_job.specs.Jobs.{saidEncoded};
+ghost use Rattle.encoder.specs.Jobs.{saidEncoded};
 ghost use Rattle.job_file.specs.JobFile.{box, jobFile};
 use clip::BBox;
+use encoder::whole_job::Encoded;
 use numbers::File;
 use numbers::signed;
 use refusal::Refusal;
-use whole_job::Encoded;
 
 // Lays numbers, read as signed ones, at the front of `out`.
 fn lay_signed(numbers: &[u32], out: &mut [i32])
@@ -65,7 +65,7 @@ pub fn encode_file(file: &[u32], points: &mut [i32], words: &mut [u32]) -> Encod
         return Encoded::Refused(Refusal::Room, 0);
     }
     lay_signed(&file[body..], points);
-    whole_job::encode(
+    encoder::whole_job::encode(
         file[0],
         box_of(file[1], file[2], file[3], file[4]),
         &points[..n],

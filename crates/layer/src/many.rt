@@ -14,7 +14,7 @@ use crate::state::is_valid;
 use crate::whole_feature::Head;
 use crate::whole_feature::add_known;
 use refusal::Refusal;
-use varint::number;
+use wire::number;
 
 pub enum Added {
     Done(Layer, usize),

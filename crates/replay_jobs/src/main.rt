@@ -1,5 +1,5 @@
 // Replays jobs: prints for each job file what the program `job` prints for it, its words or its refusal.
-use whole_job::Encoded;
+use encoder::whole_job::Encoded;
 
 fn print_job(job: &[u32], points: &mut [i32], words: &mut [u32]) {
     match job_file::encode_file(job, points, words) {

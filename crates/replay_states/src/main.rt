@@ -4,7 +4,7 @@ use clip::Pt;
 use encoder::Drawn;
 use encoder::GeomEncoder;
 use encoder::Started;
-use points::MaybePt;
+use encoder::points::MaybePt;
 use replay::long;
 use replay::number;
 use replay::signed_at;

@@ -29,7 +29,7 @@ use Rattle.encoder.specs.Answers.{Counted, done, turned, fitting}
 use Rattle.encoder.specs.Emitting.{emission}
 use Rattle.encoder.specs.Adding.{boundary, drawn, pointAt, added}
 use Rattle.encoder.specs.Completing.{finished, closed, completed}
-use Rattle.whole_job.specs.Jobs.{isJob, encodedJob}
+use Rattle.encoder.specs.Jobs.{isJob, encodedJob}
 use Rattle.decoder.specs.Vertices.{Cursor, Trace, traced, faulty, origin, vertex, onto, andThen}
 use Rattle.decoder.specs.ReadingWords.{isClose, params, moved, drawn as stepsDrawn, commands, traceFrom, trace}
 use Rattle.ruled_out.specs.Inputs.{bit, size, item, sizeOf, cornersOf, firstCorners, alike, vertices, ten, hundred}

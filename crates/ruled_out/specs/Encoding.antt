@@ -20,14 +20,13 @@ use Rattle.clip.specs.declared.BBox.{BBox}
 use Rattle.clip.specs.Domain.{isCoord, isGood}
 use Rattle.clip.specs.Cutting.{crossAtX, cuts, overlap, clip}
 use Rattle.clip.specs.Numbers.{segAt, boxAt}
-use Rattle.points.specs.declared.MaybePt.{MaybePt}
-use Rattle.points.specs.declared.MaybePt.the-variants.{Nowhere, At}
-use Rattle.points.specs.Points.{inLimit, inLimits, clampTo, clamped, eqZ, samePt, isLast, strictly, between, outBefore, lastBetween, lastOf}
-use Rattle.points.specs.declared.boundary.Ends.{Ends}
-use Rattle.points.specs.Boundary.{moved, movedEnds, cutOf, outside, missing, alone}
-use Rattle.commands.specs.Pushed.{moveTo, lineTo, closePath, command, countWord, closeWord}
-use Rattle.commands.specs.Figures.{figuresFit}
-use Rattle.commands.specs.Ends.{layIf, layEnd}
+use Rattle.encoder.specs.declared.points.MaybePt.{MaybePt}
+use Rattle.encoder.specs.declared.points.MaybePt.the-variants.{Nowhere, At}
+use Rattle.encoder.specs.Points.{inLimit, inLimits, clampTo, clamped, eqZ, samePt, isLast, strictly, between, missing, outBefore, lastBetween, lastOf}
+use Rattle.encoder.specs.Boundary.{moved, movedEnds, outside}
+use Rattle.encoder.specs.Pushed.{moveTo, lineTo, closePath, command, countWord, closeWord}
+use Rattle.encoder.specs.Figures.{figuresFit}
+use Rattle.encoder.specs.Ends.{layIf, layEnd}
 use Rattle.encoder.specs.declared.GeomEncoder.{GeomEncoder}
 use Rattle.encoder.specs.States.{fresh, valid}
 use Rattle.encoder.specs.Answers.{done, turned, fitting, started}
@@ -108,23 +107,9 @@ pub edge-outside : ((b : BBox) (p : Pt)
     → outside b p ≡ (leZ (p .x) (b .«x_min») || leZ (b .«x_max») (p .x) || leZ (p .y) (b .«y_min») || leZ (b .«y_max») (p .y))) → ⊥
 edge-outside h = let e : _≡_ {A = ℕ} 0 1 = ap bit (h ten (pointAt (pos 0) (pos 5))) in omega arith
 
--- the raw segment is not cut
-pub raw-not-cut : ((b : BBox) (raw : Seg) → cutOf b raw ≡ raw) → ⊥
-unfolding isGood isCoord clip overlap cuts crossAtX
-raw-not-cut h = let e : _≡_ {A = ℕ} 10 15 = ap (λ (s : Seg). size (s .p1 .x)) (h ten (segAt (pos 5) (pos 5) (pos 15) (pos 5))) in omega arith
-
--- the raw segment is turned
-pub segment-turned : ((b : BBox) (raw : Seg) → cutOf b raw ≡ cutOf b (record { p0 = raw .p1; p1 = raw .p0 })) → ⊥
-unfolding isGood isCoord clip overlap cuts crossAtX
-segment-turned h = let e : _≡_ {A = ℕ} 10 5 = ap (λ (s : Seg). size (s .p1 .x)) (h ten (segAt (pos 5) (pos 5) (pos 15) (pos 5))) in omega arith
-
 -- no point is some point
 pub none-is-some : missing Nowhere ≡ false → ⊥
 none-is-some h = let e : _≡_ {A = ℕ} 1 0 = ap bit h in omega arith
-
--- the second end is forgotten
-pub second-forgotten : ((ends : Ends) → alone ends ≡ missing (ends .first)) → ⊥
-second-forgotten h = let e : _≡_ {A = ℕ} 0 1 = ap bit (h (record { first = Nowhere; second = point (pos 1) (pos 1) })) in omega arith
 
 -- ---- commands
 -- a LineTo before each point of a line

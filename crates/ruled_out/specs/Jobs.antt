@@ -22,7 +22,7 @@ use Rattle.encoder.specs.Emitting.{emission}
 use Rattle.encoder.specs.Adding.{boundary, pointAt, added}
 use Rattle.encoder.specs.Completing.{finished, completed}
 use Rattle.encoder.specs.Calls.{add}
-use Rattle.whole_job.specs.Jobs.{pointsOf, endsAt, isJob, part, jobCalls, encodedJob}
+use Rattle.encoder.specs.Jobs.{pointsOf, endsAt, isJob, part, jobCalls, encodedJob}
 use Rattle.numbers.specs.Numbers.{maxBytes, number, numbersOf, reading}
 use Rattle.job_file.specs.JobFile.{Memory, kindOf, box, boxOf, partsOf, endsOf, pointsIn, jobFile}
 use Rattle.ruled_out.specs.Inputs.{bit, size, item, sizeOf, firstY, hundred, flat}

@@ -15,8 +15,8 @@ use Rattle.clip.specs.declared.Pt.{Pt}
 use Rattle.clip.specs.Domain.{isCoord}
 use Rattle.encoder.specs.declared.GeomEncoder.{GeomEncoder}
 use Rattle.encoder.specs.Adding.{pointAt, added}
-use Rattle.stretch.specs.declared.Stretch.{Stretch}
-use Rattle.stretch.specs.Stretches.{pointIn, isPlain, halted, run}
+use Rattle.encoder.specs.declared.stretch.Stretch.{Stretch}
+use Rattle.encoder.specs.Stretches.{pointIn, isPlain, halted, run}
 use Rattle.lines.specs.Decimal.{decimalIn, decimal}
 use Rattle.lines.specs.Printed.{wordsHead, column, refusedText, shown}
 use Rattle.lines.specs.Tiles.{hexDigit, endsLine}

@@ -18,7 +18,7 @@ use Rattle.encoder.specs.States.{valid}
 use Rattle.encoder.specs.Emitting.{emission}
 use Rattle.encoder.specs.Adding.{boundary, added}
 use Rattle.encoder.specs.Completing.{finished, completed}
-use Rattle.whole_job.specs.Jobs.{isJob, encodedJob}
+use Rattle.encoder.specs.Jobs.{isJob, encodedJob}
 use Rattle.decoder.specs.Vertices.{Trace, traced, faulty, numbers}
 use Rattle.decoder.specs.ReadingWords.{drawn, commands, traceFrom, trace}
 use Rattle.wire.specs.Varints.{varint}

@@ -12,7 +12,7 @@ use Rattle.job_file.proofs.encode_file.Lts as lts
 use Rattle.job_file.proofs.box_of.Reads as box-of-reads
 use Rattle.job_file.proofs.lay_signed.Reads as lay-signed-reads
 use Rattle.job_file.proofs.wide.Reads as wide-reads
-use Rattle.whole_job.proofs.encode.Reads as encode-reads
+use Rattle.encoder.proofs.whole_job.encode.Reads as encode-reads
 
 returns : tie.Need-returns
 unfolding jobFile

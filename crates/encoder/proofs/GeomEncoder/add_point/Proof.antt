@@ -1,19 +1,28 @@
--- The point is handed on as it is given: what the machine reads back from the bits of x and y is x and y.
+-- STATE, then the point as it is given: what the machine reads back from the bits of x and y is x and y.
 use mir.Facts.{toZ-ofZ}
+use Rattle.encoder.proofs.States.{yes-of}
+use Rattle.encoder.proofs.Calls.{add-state}
 use borrow.Author.Needs.{needs}
 use Rattle.encoder.proofs.GeomEncoder.add_point.Statement.{statement}
 use Rattle.encoder.proofs.GeomEncoder.add_point.Tie as tie
+use Rattle.encoder.proofs.add_valid.Reads as add-valid-reads
+use Rattle.encoder.proofs.is_valid.Reads as is-valid-reads
 
-add-requires : tie.Need-add-requires
-add-requires c κs = search needs
+is-valid-requires : tie.Need-is-valid-requires
+is-valid-requires c κs = search needs
+
+returns : tie.Need-returns
+returns c = search (needs, add-state)
+
+add-valid-requires : tie.Need-add-valid-requires
+add-valid-requires c κs = let e = c .before in yes-of _ _ (e .before .is-valid .ensures) (e .if1 .left)
 
 same-length : tie.Need-same-length
 same-length c = search needs
 
-returns : tie.Need-returns
-returns c =
-    let s = c .before .before .before .before .before in
-    rw (toZ-ofZ (s .fits .x), toZ-ofZ (s .fits .y)) at (c .before .before .add .ensures)
+returns-2 : tie.Need-returns-2
+returns-2 c = let g = c .before .before in let s = g .before .before .before .before .before in rw (toZ-ofZ (s .fits .x), toZ-ofZ (s .fits .y)) at (g .add-valid .ensures)
 
 pub add-point-spec : {M : Type 1} → statement M
-add-point-spec = tie.close (tie.spec add-requires same-length returns)
+add-point-spec =
+    tie.close (tie.spec is-valid-requires returns add-valid-requires same-length returns-2)

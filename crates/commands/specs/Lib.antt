@@ -1,3 +1,0 @@
-pub mod Figures
-pub mod Pushed
-pub mod Ends

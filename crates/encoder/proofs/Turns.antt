@@ -1,0 +1,212 @@
+-- The loops of the job, over plain lists and numbers: what is left to do gives the rest of the answer.
+use mathlib.Core.Path.{_≡_, refl, sym, _∙_, ap}
+use mathlib.Core.Bool.{Bool, true, false, cond}
+use mathlib.Core.List.{List, [], _∷_}
+use Prim.Native.Nat.{ℕ, zero, suc, _+_, _-_, _*_, _/_, _%_, _^_, _≤_, _<_}
+use native.Mathlib.Omega.{arith}
+use borrow.Author.Needs.{sfits-of}
+use borrow.Author.Tests.{eq-eqb, ne-eqb, le-leb, lt-leb, leb-true, eqb-true}
+use lib.Dec.{leb, eqb}
+use lib.IntN.{ℤ, pos}
+use lib.Signed.{mag}
+use lib.ListN.{length, drop, getD, drop-of-length-le}
+use lib.Seq.{drop-cons}
+use mir.Syntax.{w32}
+use mir.Val.{ofZ, toZ}
+use mir.Facts.{toZ-ofZ}
+use Rattle.promise.specs.Answers.{Gives, kept}
+use Rattle.refusal.specs.declared.Refusal.{Refusal}
+use Rattle.clip.specs.declared.Pt.{Pt}
+use Rattle.encoder.specs.declared.GeomEncoder.{GeomEncoder}
+use Rattle.encoder.specs.declared.Drawn.{Drawn}
+use Rattle.encoder.specs.declared.Drawn.the-variants.{Done, Refused as NotDrawn}
+use Rattle.encoder.specs.Answers.{saidDrawn, done, turned}
+use Rattle.encoder.specs.Adding.{pointAt, added}
+use Rattle.encoder.specs.Completing.{completed}
+use Rattle.encoder.specs.Calls.{add, complete, call, partCalls}
+use Rattle.encoder.specs.declared.stretch.Stretch.{Stretch}
+use Rattle.encoder.specs.Stretches.{pointIn, stretched}
+use Rattle.encoder.proofs.Callers.{stretch-keeps}
+use Rattle.encoder.specs.declared.whole_job.Course.{Course}
+use Rattle.encoder.specs.declared.whole_job.Course.the-variants.{On, Off}
+use Rattle.encoder.specs.Jobs.{pointsOf, endsAt, isJob, part, jobCalls, on, go, outcomeOf}
+use Rattle.encoder.specs.States.{valid, Sound}
+use Rattle.encoder.proofs.Reached.{valid-is, add-sound}
+use Rattle.encoder.proofs.Within.{go-sound}
+use Rattle.encoder.proofs.Courses.{go-on, go-off, off-list, then, go-then}
+
+-- the element at j, and those behind it
+next : {A : Type 0} (l : List A) (j k : ℕ) (d : A) → k ≡ suc j → j < length l → drop j l ≡ getD l j d ∷ drop k l
+next l j k d e h = rw e (drop-cons l j d h)
+
+-- ---- the ends: `is_job`
+pub record Ending (points : List ℤ) (ends : List ℕ) (from j : ℕ) : Type 0 where
+  pub at : j ≤ length ends
+  pub rest : isJob points ends ≡ endsAt from (drop j ends) (length points / 2)
+
+module _ (points : List ℤ) (ends : List ℕ) where
+  pub no-parts : length ends ≡ 0 → false ≡ isJob points ends
+  unfolding isJob
+  no-parts e = rw (eq-eqb (length ends) 0 e)
+
+  module _ (e : length ends ≡ 0 → ⊥) where
+    pub odd-list : (length points % 2 ≡ 0 → ⊥) → false ≡ isJob points ends
+    unfolding isJob
+    odd-list f = rw (ne-eqb (length ends) 0 e, ne-eqb (length points % 2) 0 f)
+
+    pub ends-start : length points % 2 ≡ 0 → Ending points ends 0 0
+    unfolding isJob
+    ends-start f = record { at = omega arith; rest = rw (ne-eqb (length ends) 0 e, eq-eqb (length points % 2) 0 f) }
+
+  module _ (from j : ℕ) (I : Ending points ends from j) where
+    pub ends-all : length ends ≤ j → eqb from (length points / 2) ≡ isJob points ends
+    ends-all h = rw (I .rest, drop-of-length-le ends h)
+
+    module _ (h : j < length ends) where
+      split : drop j ends ≡ getD ends j 0 ∷ drop (j + 1) ends
+      split = next ends j (j + 1) 0 (omega arith) h
+
+      pub ends-down : getD ends j 0 < from → false ≡ isJob points ends
+      ends-down d = rw (I .rest, split, lt-leb from (getD ends j 0) d)
+
+      pub ends-turn : from ≤ getD ends j 0 → Ending points ends (getD ends j 0) (j + 1)
+      ends-turn d = record { at = omega arith; rest = I .rest ∙ rw (split, le-leb from (getD ends j 0) d) }
+
+-- ---- the points of a part: `add_part`
+points-at : (l : List ℤ) (i : ℕ) → i < length l / 2 → drop i (pointsOf l) ≡ pointIn l i ∷ drop (i + 1) (pointsOf l)
+points-at [] i h = absurd (omega arith)
+points-at (x ∷ []) i h = absurd (omega arith)
+points-at (x ∷ y ∷ l) zero h = refl
+points-at (x ∷ y ∷ l) (suc i) h =
+    let a : 2 * suc i ≡ suc (suc (2 * i)) = omega arith in
+    let b : 2 * suc i + 1 ≡ suc (suc (2 * i + 1)) = omega arith in
+    let c : suc i + 1 ≡ suc (i + 1) = omega arith in
+    rw (b, a, c) (points-at l i (omega arith))
+
+part-more : (l : List ℤ) (i to : ℕ) → i < to → to ≤ length l / 2 → part (pointsOf l) i to ≡ pointIn l i ∷ part (pointsOf l) (i + 1) to
+part-more l i to h k = let e : to - i ≡ suc (to - (i + 1)) = omega arith in rw (points-at l i (omega arith), e)
+
+part-over : (ps : List Pt) (i to : ℕ) → i ≡ to → part ps i to ≡ []
+part-over ps i to e = let z : to - i ≡ 0 = omega arith in rw z
+
+pub record Adding (l : List ℤ) (from to : ℕ) (out₀ : List ℕ) (s : GeomEncoder) (out : List ℕ) (q : GeomEncoder) (i : ℕ) : Type 0 where
+  pub upto : i ≤ to
+  pub long : length out ≡ length out₀
+  pub sound : Sound q (length out)
+  pub rest : go (partCalls (part (pointsOf l) from to)) from s out₀ ≡ go (partCalls (part (pointsOf l) i to)) i q out
+
+pub add-start : (l : List ℤ) (from to : ℕ) (out : List ℕ) (s : GeomEncoder) → from ≤ to → Sound s (length out) → Adding l from to out s out s from
+add-start l from to out s h S = record { upto = h; long = refl; sound = S; rest = refl }
+
+-- one more accepted point
+one-more : (l : List ℤ) (from to : ℕ) (out₀ : List ℕ) (s : GeomEncoder) → to ≤ length l / 2 → (i : ℕ) (q t : GeomEncoder) (out o : List ℕ) →
+    i < to → Gives (call (add (pointIn l i)) q out) (done t) o → length o ≡ length out → Adding l from to out₀ s out q i → Adding l from to out₀ s o t (i + 1)
+one-more l from to out₀ s k i q t out o h g f I = record {
+  upto = omega arith;
+  long = f ∙ I .long;
+  sound = add-sound q (pointIn l i) out t o (I .sound) (λ j. kept (sym (g .answer) j) (sym (g .memory) j)) .0;
+  rest = I .rest ∙ rw (part-more l i to h k) (go-on (add (pointIn l i)) (partCalls (part (pointsOf l) (i + 1) to)) i q t out o g);
+}
+
+-- a stretch of them
+stretch-turn : (l : List ℤ) (from to : ℕ) (out₀ : List ℕ) (s : GeomEncoder) (out : List ℕ) (q : GeomEncoder) (i : ℕ) → to ≤ length l / 2 → Adding l from to out₀ s out q i →
+    (x : Stretch) (y : List ℕ) → Gives (stretched q l i to out) x y → Adding l from to out₀ s y (x .state) (x .reached) × (i ≤ x .reached)
+stretch-turn l from to out₀ s out q i k I x y g = rw (g .answer, g .memory) (stretch-keeps l to Holds step q i out (I .sound) (I, omega arith))
+  where
+    Holds : ℕ → GeomEncoder → List ℕ → Type 0
+    Holds j p m = Adding l from to out₀ s m p j × (i ≤ j)
+
+    step : (j : ℕ) (p t : GeomEncoder) (m o : List ℕ) → j < to → added p (pointIn l j) m ≡ kept (done t) o → length o ≡ length m → Holds j p m → Holds (j + 1) t o
+    step j p t m o h a f J = (one-more l from to out₀ s k j p t m o h (rw a (record { answer = refl; memory = refl })) f (J .0), let b = J .1 in omega arith)
+
+module _ (l : List ℤ) (from to : ℕ) (out₀ : List ℕ) (s : GeomEncoder) (out : List ℕ) (q : GeomEncoder) (i : ℕ) (I : Adding l from to out₀ s out q i) where
+  pub valid-in : valid q (length out) ≡ true
+  valid-in = valid-is q (length out) (I .sound .valid)
+
+  module _ (h : i < to) (k : to ≤ length l / 2) (r : Drawn) (o : List ℕ)
+      (m : mag (getD l (2 * i) (pos 0)) < 2 ^ 31) (n : mag (getD l (2 * i + 1) (pos 0)) < 2 ^ 31)
+      (g : Gives (added q (pointAt (toZ w32 (ofZ w32 (getD l (2 * i) (pos 0)))) (toZ w32 (ofZ w32 (getD l (2 * i + 1) (pos 0))))) out) (saidDrawn r) o) where
+    given : Gives (call (add (pointIn l i)) q out) (saidDrawn r) o
+    given = rw (toZ-ofZ (sfits-of m), toZ-ofZ (sfits-of n)) at g
+
+    opened : go (partCalls (part (pointsOf l) from to)) from s out₀ ≡ go (add (pointIn l i) ∷ partCalls (part (pointsOf l) (i + 1) to)) i q out
+    opened = I .rest ∙ rw (part-more l i to h k)
+
+    pub add-turn : (t : GeomEncoder) → r ≡ Done t → length o ≡ length out → Adding l from to out₀ s o t (i + 1)
+    add-turn t e f = one-more l from to out₀ s k i q t out o h (rw e at given) f I
+
+    pub add-more : (t : GeomEncoder) → r ≡ Done t → length o ≡ length out → (x : Stretch) (y : List ℕ) → Gives (stretched t l (i + 1) to o) x y →
+        Adding l from to out₀ s y (x .state) (x .reached) × (i + 1 ≤ x .reached)
+    add-more t e f x y z = stretch-turn l from to out₀ s o t (i + 1) k (add-turn t e f) x y z
+
+    pub add-stop : (x : Refusal) (t : GeomEncoder) → r ≡ NotDrawn x t → Gives (go (partCalls (part (pointsOf l) from to)) from s out₀) (outcomeOf to (Off x i)) o
+    add-stop x t e =
+        let g′ : Gives (call (add (pointIn l i)) q out) (turned x t) o = rw e at given in
+        rw (opened ∙ go-off (add (pointIn l i)) (partCalls (part (pointsOf l) (i + 1) to)) i q t out o x g′) (record { answer = refl; memory = off-list (add (pointIn l i)) (partCalls (part (pointsOf l) (i + 1) to)) i q t out o x g′ })
+
+  module _ (h : to ≤ i) (r : Drawn) (o : List ℕ) (g : Gives (completed q out) (saidDrawn r) o) where
+    over : go (partCalls (part (pointsOf l) from to)) from s out₀ ≡ go (complete ∷ []) to q out
+    over = let e : i ≡ to = omega (arith, I .upto) in I .rest ∙ rw (part-over (pointsOf l) i to e, e)
+
+    pub part-done : (t : GeomEncoder) → r ≡ Done t → Gives (go (partCalls (part (pointsOf l) from to)) from s out₀) (outcomeOf to (On t)) o
+    part-done t e = rw (over ∙ go-on complete [] to q t out o (rw e at g)) (record { answer = refl; memory = refl })
+
+    pub part-stop : (x : Refusal) (t : GeomEncoder) → r ≡ NotDrawn x t → Gives (go (partCalls (part (pointsOf l) from to)) from s out₀) (outcomeOf to (Off x to)) o
+    part-stop x t e =
+        let g′ : Gives (call complete q out) (turned x t) o = rw e at g in
+        rw (over ∙ go-off complete [] to q t out o x g′) (record { answer = refl; memory = off-list complete [] to q t out o x g′ })
+
+-- ---- the parts: `add_parts`
+ends-more : (from x : ℕ) (es : List ℕ) (n : ℕ) → endsAt from (x ∷ es) n ≡ true → (from ≤ x) × (endsAt x es n ≡ true)
+ends-more from x es n = by (leb from x) refl
+  where
+    by : (b : Bool) → leb from x ≡ b → cond b (endsAt x es n) false ≡ true → (from ≤ x) × (endsAt x es n ≡ true)
+    by true h e = (leb-true from x h, e)
+    by false h e = absurd (let z : _≡_ {A = ℕ} 0 1 = cc in omega arith)
+
+ends-le : (from : ℕ) (es : List ℕ) (n : ℕ) → endsAt from es n ≡ true → from ≤ n
+ends-le from [] n e = let h = eqb-true from n e in omega arith
+ends-le from (x ∷ es) n e = let (h, k) = ends-more from x es n e in let m = ends-le x es n k in omega arith
+
+pub record Going (l : List ℤ) (ends out₀ : List ℕ) (s : GeomEncoder) (out : List ℕ) (q : GeomEncoder) (from j : ℕ) : Type 0 where
+  pub at : j ≤ length ends
+  pub long : length out ≡ length out₀
+  pub sound : Sound q (length out)
+  pub good : endsAt from (drop j ends) (length l / 2) ≡ true
+  pub rest : go (jobCalls (pointsOf l) 0 ends) 0 s out₀ ≡ go (jobCalls (pointsOf l) from (drop j ends)) from q out
+
+pub parts-start : (l : List ℤ) (ends out : List ℕ) (s : GeomEncoder) → endsAt 0 ends (length l / 2) ≡ true → Sound s (length out) → Going l ends out s out s 0 0
+parts-start l ends out s e S = record { at = omega arith; long = refl; sound = S; good = e; rest = refl }
+
+module _ (l : List ℤ) (ends out₀ : List ℕ) (s : GeomEncoder) (out : List ℕ) (q : GeomEncoder) (from j : ℕ) (I : Going l ends out₀ s out q from j) where
+  pub parts-all : length ends ≤ j → Gives (go (jobCalls (pointsOf l) 0 ends) 0 s out₀) (outcomeOf (length l / 2) (On q)) out
+  parts-all h =
+      let d = drop-of-length-le ends h in
+      let e : from ≡ length l / 2 = eqb-true from (length l / 2) (rw d at (I .good)) in
+      rw (I .rest, d) (record { answer = ap (λ (n : ℕ). on n q) (sym e); memory = refl })
+
+  module _ (h : j < length ends) where
+    here : drop j ends ≡ getD ends j 0 ∷ drop (j + 1) ends
+    here = next ends j (j + 1) 0 (omega arith) h
+
+    told : (from ≤ getD ends j 0) × (endsAt (getD ends j 0) (drop (j + 1) ends) (length l / 2) ≡ true)
+    told = ends-more from (getD ends j 0) (drop (j + 1) ends) (length l / 2) (rw here at (I .good))
+
+    pub part-asked : (from ≤ getD ends j 0) × ((getD ends j 0 ≤ length l / 2) × Sound q (length out))
+    part-asked = (told .0, (ends-le (getD ends j 0) (drop (j + 1) ends) (length l / 2) (told .1), I .sound))
+
+    module _ (r : Course) (o : List ℕ) (g : Gives (go (partCalls (part (pointsOf l) from (getD ends j 0))) from q out) (outcomeOf (getD ends j 0) r) o) where
+      behind : go (jobCalls (pointsOf l) 0 ends) 0 s out₀ ≡ then (outcomeOf (getD ends j 0) r) (jobCalls (pointsOf l) (getD ends j 0) (drop (j + 1) ends)) o
+      behind = I .rest ∙ rw here (go-then (jobCalls (pointsOf l) (getD ends j 0) (drop (j + 1) ends)) (partCalls (part (pointsOf l) from (getD ends j 0))) from q out ∙
+          (λ k. then (sym (g .answer) k) (jobCalls (pointsOf l) (getD ends j 0) (drop (j + 1) ends)) (sym (g .memory) k)))
+
+      sound-after : (t : GeomEncoder) → r ≡ On t → Sound t (length o)
+      sound-after t e =
+          let a : go (partCalls (part (pointsOf l) from (getD ends j 0))) from q out .answer ≡ on (getD ends j 0) t = sym (g .answer) ∙ ap (outcomeOf (getD ends j 0)) e in
+          rw (g .memory) (go-sound (partCalls (part (pointsOf l) from (getD ends j 0))) from q out (I .sound) (getD ends j 0) t a)
+
+      pub parts-turn : (t : GeomEncoder) → r ≡ On t → length o ≡ length out → Going l ends out₀ s o t (getD ends j 0) (j + 1)
+      parts-turn t e f = record { at = omega arith; long = f ∙ I .long; sound = sound-after t e; good = told .1; rest = rw e at behind }
+
+      pub parts-stop : (x : Refusal) (n : ℕ) → r ≡ Off x n → Gives (go (jobCalls (pointsOf l) 0 ends) 0 s out₀) (outcomeOf (length l / 2) (Off x n)) o
+      parts-stop x n e = rw (behind, e) (record { answer = refl; memory = refl })

@@ -1,0 +1,25 @@
+-- COORD, then the point.
+use Rattle.encoder.proofs.Calls.{add-coord, add-asked, add-within}
+use borrow.Author.Needs.{needs}
+use Rattle.encoder.proofs.add_valid.Statement.{statement}
+use Rattle.encoder.proofs.add_valid.Tie as tie
+use Rattle.clip.proofs.BBox.is_coord.Reads as is-coord-reads
+use Rattle.encoder.proofs.draw.Reads as draw-reads
+
+is-coord-requires : tie.Need-is-coord-requires
+is-coord-requires c κs = search needs
+
+returns : tie.Need-returns
+returns c = search (needs, add-coord)
+
+draw-requires : tie.Need-draw-requires
+draw-requires c κs = let e = c .before in let s = e .before .before .before in add-asked (s .args .s) (s .args .p) (s .args .words .now) (s .pre) _ (e .before .is-coord .ensures) (e .if1 .left)
+
+same-length : tie.Need-same-length
+same-length c = search needs
+
+returns-2 : tie.Need-returns-2
+returns-2 c = let g = c .before .before in let e = g .before .before in let s = e .before .before .before in add-within (s .args .s) (s .args .p) (s .args .words .now) (s .pre) _ (e .before .is-coord .ensures) (e .if1 .left) (g .draw .ensures)
+
+pub add-valid-spec : {M : Type 1} → statement M
+add-valid-spec = tie.close (tie.spec is-coord-requires returns draw-requires same-length returns-2)

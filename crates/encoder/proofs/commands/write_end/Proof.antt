@@ -1,0 +1,34 @@
+-- The count's word, then the closing one.
+use Rattle.encoder.proofs.Laying.{end-after}
+use borrow.Author.Needs.{needs}
+use Rattle.encoder.proofs.commands.write_end.Statement.{statement}
+use Rattle.encoder.proofs.commands.write_end.Tie as tie
+
+set-command-count-requires : tie.Need-set-command-count-requires
+set-command-count-requires c κs = search needs
+
+close-path-requires : tie.Need-close-path-requires
+close-path-requires c κs = search needs
+
+write-word-requires : tie.Need-write-word-requires
+write-word-requires c κs = search needs
+
+write-word-requires-2 : tie.Need-write-word-requires-2
+write-word-requires-2 c κs = search needs
+
+same-length : tie.Need-same-length
+same-length c = search needs
+
+returns : tie.Need-returns
+returns c = search (needs, end-after)
+
+pub write-end-spec : {M : Type 1} → statement M
+write-end-spec =
+    tie.close
+    (tie.spec
+    set-command-count-requires
+    close-path-requires
+    write-word-requires
+    write-word-requires-2
+    same-length
+    returns)

@@ -1,0 +1,27 @@
+-- Nothing, or one store: the word laid.
+use Rattle.encoder.proofs.Laying.{word-no, word-one}
+use borrow.Author.Needs.{needs}
+use Rattle.encoder.proofs.commands.write_word.Statement.{statement}
+use Rattle.encoder.proofs.commands.write_word.Tie as tie
+
+enum-told : tie.Need-enum-told
+enum-told c = search needs
+
+enum-known-word : tie.Need-enum-known-word
+enum-known-word c = search needs
+
+write-one-requires : tie.Need-write-one-requires
+write-one-requires c κs = search needs
+
+returns : tie.Need-returns
+returns c = search (needs, word-no)
+
+same-length : tie.Need-same-length
+same-length c = search needs
+
+returns-2 : tie.Need-returns-2
+returns-2 c = search (needs, word-one)
+
+pub write-word-spec : {M : Type 1} → statement M
+write-word-spec =
+    tie.close (tie.spec enum-told enum-known-word write-one-requires returns same-length returns-2)

@@ -1,0 +1,90 @@
+// The boundary points: the ends of the raw segment that the clip moved.
+ghost use mathlib.Core.Path.{_≡_};
+ghost use mathlib.Core.Bool.{true};
+ghost use Rattle.clip.specs.Answer.{areCoords};
+ghost use Rattle.clip.specs.Cutting.{clip};
+ghost use Rattle.clip.specs.Domain.{isCoord, isGood};
+ghost use Rattle.encoder.specs.Adding.{boundary};
+ghost use Rattle.encoder.specs.Boundary.{outside, movedBy, Brought};
+ghost use Rattle.encoder.specs.Drafts.{stateIn};
+ghost use Rattle.encoder.specs.Points.{inLimit};
+use crate::draft::Draft;
+use crate::points::is_same;
+use clip::BBox;
+use clip::Clipped;
+use clip::Pt;
+use clip::Seg;
+use words::geometry::Geometry;
+
+// The ends of a clipped segment, and whether each has moved.
+pub(crate) struct Ends {
+    pub moved0: bool,
+    pub moved1: bool,
+    pub end0: Pt,
+    pub end1: Pt,
+}
+
+// The raw segment cut at the box. The clip of a good box and two coordinates is never refused.
+pub(crate) fn clip_raw(raw: Seg, bbox: BBox) -> Seg
+    requires { ⌜ isGood bbox ≡ true ⌝ }
+    requires { ⌜ areCoords raw ≡ true ⌝ }
+    ensures { λ r. ⌜ r ≡ clip bbox raw .seg ⌝ }
+{
+    match clip::clip(raw, bbox) {
+        Clipped::Done(c) => c.seg,
+        Clipped::Refused(_) => raw,
+    }
+}
+
+// Whether a point lies strictly outside an edge.
+pub(crate) fn is_outside(p: Pt, b: BBox) -> bool
+    ensures { λ r. ⌜ r ≡ outside b p ⌝ }
+{
+    let x = p.x;
+    let y = p.y;
+    let left = b.x_min;
+    let right = b.x_max;
+    let bottom = b.y_min;
+    let top = b.y_max;
+    (x < left) | (right < x) | (y < bottom) | (top < y)
+}
+
+// The ends of the segment from raw to p, once it is cut.
+pub(crate) fn moved_ends(raw: Pt, p: Pt, cut: Seg) -> Ends
+    ensures { λ r. ⌜ r ≡ movedBy raw p cut ⌝ }
+{
+    let c0 = cut.p0;
+    let c1 = cut.p1;
+    let same0 = is_same(raw, c0);
+    let same1 = is_same(p, c1);
+    Ends {
+        moved0: !same0,
+        moved1: !same1,
+        end0: c0,
+        end1: c1,
+    }
+}
+
+// The boundary points that p brings, in order. A segment inside the box is not cut, and need not be clipped to see it.
+pub(crate) fn add_boundary_points(d: Draft, p: Pt) -> Ends
+    requires { ⌜ isGood (d .bbox) ≡ true ⌝ }
+    requires { ⌜ inLimit (stateIn d .«xy_end») ≡ true ⌝ }
+    requires { ⌜ isCoord p ≡ true ⌝ }
+    ensures { λ r. ⌜ Brought (d .bbox) (boundary (stateIn d) p) r ⌝ }
+{
+    let bbox = d.bbox;
+    let pen = d.pen;
+    let raw = pen.raw;
+    let out0 = is_outside(raw, bbox);
+    let out1 = is_outside(p, bbox);
+    if (d.kind != Geometry::POINT) & d.joins & (out0 | out1) {
+        let cut = clip_raw(Seg { p0: raw, p1: p }, bbox);
+        return moved_ends(raw, p, cut);
+    }
+    Ends {
+        moved0: false,
+        moved1: false,
+        end0: p,
+        end1: p,
+    }
+}

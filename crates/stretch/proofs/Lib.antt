@@ -1,5 +1,0 @@
-pub mod Tests
-pub mod Marks
-pub mod Calls
-pub mod Turns
-pub mod Callers

@@ -1,2 +1,0 @@
-pub mod Stretches
-pub mod Pens

@@ -1,5 +1,0 @@
-pub mod Tags
-pub mod Whole
-pub mod Indexed
-pub mod Steps
-pub mod Many

@@ -1,4 +1,0 @@
-pub mod Courses
-pub mod Turns
-pub mod Whole
-pub mod Within
