@@ -7,11 +7,9 @@ use Rattle.layer.specs.declared.Layer.{Layer}
 use Rattle.layer.specs.declared.Changed.{Changed}
 use Rattle.layer.specs.Held.{Memory, Seen, Change, seen, written}
 use Rattle.layer.specs.Answers.{saidChanged}
-use Rattle.whole_feature.specs.declared.Head.{Head}
-use Rattle.whole_feature.specs.Whole.{addFeature}
-use Rattle.whole_feature.specs.declared.many.Added.{Added as AddedMany}
-use Rattle.whole_feature.specs.Indexed.{Index}
-use Rattle.whole_feature.specs.Many.{saidAdded, Lists, addIndexed}
+use Rattle.layer.specs.declared.many.Added.{Added as AddedMany}
+use Rattle.layer.specs.Lookup.{Index}
+use Rattle.layer.specs.Many.{saidAdded, Lists, addIndexed}
 use Rattle.tile.specs.declared.Tile.{Tile}
 use Rattle.tile.specs.declared.Added.{Added}
 use Rattle.tile.specs.Tiles.{TileMemory}
@@ -25,17 +23,13 @@ use Rattle.brinepost_tiles.specs.declared.answers.BpMany.{BpMany}
 use Rattle.brinepost_tiles.specs.declared.answers.BpAdded.{BpAdded}
 use Rattle.brinepost_tiles.specs.Carried.{layerOf, tileOf}
 use Rattle.brinepost_tiles.specs.Answers.{flatChanged, flatMany, flatTile}
-use Rattle.brinepost_tiles.specs.Calls.{calledFrom, featureFrom, featuresFrom, addedFrom}
+use Rattle.brinepost_tiles.specs.Calls.{calledFrom, featuresFrom, addedFrom}
 
 module _ (given : BpLayer) (s : Layer) (k : s ≡ layerOf given) where
   module _ (a : Changed) (r : BpChanged) (q : r ≡ flatChanged given (saidChanged a)) (m n : Memory) where
     pub called : (f : Seen → Change) → Gives (written (f (seen s m)) s m) (saidChanged a) n → Gives (calledFrom given f m) r n
     unfolding calledFrom
     called f g = rw (← k) (told-gives (flatChanged given) (written (f (seen s m)) s m) (saidChanged a) r n g q)
-
-    pub whole-called : (f : Head) (words ws bytes : List ℕ) → Gives (addFeature f words ws bytes s m) (saidChanged a) n → Gives (featureFrom given f words ws bytes m) r n
-    unfolding featureFrom
-    whole-called f words ws bytes g = rw (← k) (told-gives (flatChanged given) (addFeature f words ws bytes s m) (saidChanged a) r n g q)
 
   pub many-called : (a : AddedMany) (r : BpMany) → r ≡ flatMany given (saidAdded a) → (m : Memory) (x : Index) (n : Lists) (heads words ws bytes : List ℕ) → Gives (addIndexed heads words ws bytes s m x) (saidAdded a) n → Gives (featuresFrom given heads words ws bytes m x) r n
   unfolding featuresFrom

@@ -19,9 +19,9 @@ use Rattle.layer.specs.declared.Counted.the-variants.{Is, Refused as NotCounted
 use Rattle.layer.specs.declared.Named.{Named}
 use Rattle.layer.specs.declared.Named.the-variants.{At, Refused as NotNamed}
 use Rattle.layer.specs.Answers.{saidChanged, saidCreated, saidCounted, saidNamed}
-use Rattle.whole_feature.specs.declared.many.Added.{Added as AddedMany}
-use Rattle.whole_feature.specs.declared.many.Added.the-variants.{Done as ManyDone, Refused as NotMany}
-use Rattle.whole_feature.specs.Many.{saidAdded}
+use Rattle.layer.specs.declared.many.Added.{Added as AddedMany}
+use Rattle.layer.specs.declared.many.Added.the-variants.{Done as ManyDone, Refused as NotMany}
+use Rattle.layer.specs.Many.{saidAdded}
 use Rattle.tile.specs.declared.Tile.{Tile}
 use Rattle.tile.specs.declared.Added.{Added}
 use Rattle.tile.specs.declared.Added.the-variants.{Done as AddedDone, Refused as NotAdded}

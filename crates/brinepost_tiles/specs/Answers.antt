@@ -7,7 +7,7 @@ use Rattle.refusal.specs.Said.{Said}
 use Rattle.table.specs.declared.Text.{Text}
 use Rattle.layer.specs.declared.Layer.{Layer}
 use Rattle.layer.specs.Answers.{Told}
-use Rattle.whole_feature.specs.Many.{Many}
+use Rattle.layer.specs.Many.{Many}
 use Rattle.tile.specs.declared.Tile.{Tile}
 use Rattle.tile.specs.Answers.{Told as TileTold}
 use Rattle.brinepost_tiles.specs.declared.carried.BpLayer.{BpLayer}

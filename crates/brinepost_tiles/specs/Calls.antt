@@ -5,10 +5,9 @@ use mathlib.Core.List.{List}
 use lib.Dec.{eqb}
 use Rattle.promise.specs.Answers.{Written}
 use Rattle.layer.specs.Held.{Memory, Seen, Change, seen, written}
-use Rattle.whole_feature.specs.declared.Head.{Head}
-use Rattle.whole_feature.specs.Whole.{addFeature}
-use Rattle.whole_feature.specs.Indexed.{Index}
-use Rattle.whole_feature.specs.Many.{Lists, addIndexed}
+use Rattle.layer.specs.declared.whole_feature.Head.{Head}
+use Rattle.layer.specs.Lookup.{Index}
+use Rattle.layer.specs.Many.{Lists, addIndexed}
 use Rattle.tile.specs.Tiles.{TileMemory}
 use Rattle.tile.specs.Adding.{addLayer}
 use Rattle.telling.specs.Telling.{told}
@@ -34,9 +33,6 @@ isTrue n = not (eqb n 0)
 
 abbrev pub headAt : ℕ → ℕ → ℕ → Head
 headAt kind has id = record { kind = kind; «has_id» = isTrue has; id = id }
-
-unfoldable pub featureFrom : BpLayer → Head → List ℕ → List ℕ → List ℕ → Memory → Written BpChanged Memory
-featureFrom given f words ws bytes m = told (flatChanged given) (addFeature f words ws bytes (layerOf given) m)
 
 unfoldable pub featuresFrom : BpLayer → List ℕ → List ℕ → List ℕ → List ℕ → Memory → Index → Written BpMany Lists
 featuresFrom given heads words ws bytes m x = told (flatMany given) (addIndexed heads words ws bytes (layerOf given) m x)

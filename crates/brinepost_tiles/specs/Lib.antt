@@ -1,3 +1,4 @@
 pub mod Carried
 pub mod Answers
 pub mod Calls
+pub mod Lending

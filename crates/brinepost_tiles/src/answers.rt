@@ -1,7 +1,7 @@
 // The structs of the answers, made from the enums of the proved functions.
 ghost use mathlib.Core.Path.{_≡_};
 ghost use Rattle.layer.specs.Answers.{saidChanged, saidCreated, saidCounted, saidNamed};
-ghost use Rattle.whole_feature.specs.Many.{saidAdded};
+ghost use Rattle.layer.specs.Many.{saidAdded};
 ghost use Rattle.tile.specs.Answers.{saidTile, saidCounted as saidTileCounted};
 ghost use Rattle.brinepost_tiles.specs.Answers.{flatCreated, flatChanged, layerAfter, flatMany, flatCounted, flatNamed, flatTile, flatTileCounted};
 use crate::carried::BpLayer;
@@ -89,16 +89,16 @@ fn layer_after(given: BpLayer, s: Layer, n: usize) -> BpLayer
     layer_to(s)
 }
 
-pub(crate) fn many_added(given: BpLayer, r: whole_feature::many::Added) -> BpMany
+pub(crate) fn many_added(given: BpLayer, r: layer::many::Added) -> BpMany
     ensures { λ a. ⌜ a ≡ flatMany given (saidAdded r) ⌝ }
 {
     match r {
-        whole_feature::many::Added::Done(s, n) => BpMany {
+        layer::many::Added::Done(s, n) => BpMany {
             refusal: 0,
             layer: layer_after(given, s, n),
             count: n,
         },
-        whole_feature::many::Added::Refused(k, s, n) => BpMany {
+        layer::many::Added::Refused(k, s, n) => BpMany {
             refusal: refusal::number(k),
             layer: layer_after(given, s, n),
             count: n,

@@ -1,6 +1,6 @@
 // What a layer can be asked, from C.
 ghost use mathlib.Core.Path.{_≡_};
-ghost use Rattle.layer.specs.Held.{mem};
+ghost use Rattle.layer.specs.Lending.{entered};
 ghost use Rattle.layer.specs.Calls.{numFeatures, numTags, nameOf};
 ghost use Rattle.brinepost_tiles.specs.Answers.{flatCounted, flatNamed};
 ghost use Rattle.brinepost_tiles.specs.Calls.{seenFrom};
@@ -20,7 +20,7 @@ pub extern "C" fn bp_num_features(
     texts: &[u8],
     features: &[u32],
 ) -> BpCounted
-    ensures { λ r. ⌜ r ≡ flatCounted (numFeatures (seenFrom given (mem (now (keys .entry)) (now (values .entry)) (now (texts .entry)) (now (features .entry))))) ⌝ }
+    ensures { λ r. ⌜ r ≡ flatCounted (numFeatures (seenFrom given (entered keys values texts features))) ⌝ }
 {
     let s = layer_of(given);
     let r = layer::asking::num_features(s, keys, values, texts, features);
@@ -36,7 +36,7 @@ pub extern "C" fn bp_num_tags(
     texts: &[u8],
     features: &[u32],
 ) -> BpCounted
-    ensures { λ r. ⌜ r ≡ flatCounted (numTags (seenFrom given (mem (now (keys .entry)) (now (values .entry)) (now (texts .entry)) (now (features .entry))))) ⌝ }
+    ensures { λ r. ⌜ r ≡ flatCounted (numTags (seenFrom given (entered keys values texts features))) ⌝ }
 {
     let s = layer_of(given);
     let r = layer::asking::num_tags(s, keys, values, texts, features);
@@ -52,7 +52,7 @@ pub extern "C" fn bp_name(
     texts: &[u8],
     features: &[u32],
 ) -> BpNamed
-    ensures { λ r. ⌜ r ≡ flatNamed (nameOf (seenFrom given (mem (now (keys .entry)) (now (values .entry)) (now (texts .entry)) (now (features .entry))))) ⌝ }
+    ensures { λ r. ⌜ r ≡ flatNamed (nameOf (seenFrom given (entered keys values texts features))) ⌝ }
 {
     let s = layer_of(given);
     let r = layer::asking::name(s, keys, values, texts, features);

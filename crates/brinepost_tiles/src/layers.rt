@@ -1,13 +1,10 @@
 // The calls that change a layer, from C: the layer goes in and comes back by value, its keys, values, texts and feature records stand in four lent lists.
 ghost use Prim.Native.Nat.{_%_, _/_};
 ghost use Rattle.promise.specs.Answers.{Gives};
-ghost use Rattle.layer.specs.Held.{mem};
 ghost use Rattle.layer.specs.Calls.{created, intoFeature, setId, intoLayer, abandoned};
-ghost use Rattle.whole_feature.specs.Indexed.{idx};
-ghost use Rattle.whole_feature.specs.Many.{withIndex};
 ghost use Rattle.telling.specs.Telling.{told};
 ghost use Rattle.brinepost_tiles.specs.Answers.{flatCreated};
-ghost use Rattle.brinepost_tiles.specs.Calls.{calledFrom, headAt, featureFrom, featuresFrom};
+ghost use Rattle.brinepost_tiles.specs.Lending.{Called, CalledMany, wholeFeature};
 use crate::answers::BpChanged;
 use crate::answers::BpMany;
 use crate::answers::changed;
@@ -15,7 +12,7 @@ use crate::answers::many_added;
 use crate::carried::BpLayer;
 use crate::carried::layer_of;
 use layer::Layer;
-use whole_feature::Head;
+use layer::whole_feature::Head;
 
 // TEXT, ROOM, else a layer without features, its name the first text.
 #[no_mangle]
@@ -37,7 +34,7 @@ pub extern "C" fn bp_into_feature(
     texts: &[u8],
     features: &mut [u32],
 ) -> BpChanged
-    ensures { λ r. ⌜ Gives (calledFrom given (intoFeature kind (now (words .entry))) (mem (now (keys .entry)) (now (values .entry)) (now (texts .entry)) (now (features .entry)))) r (mem (now (keys .entry)) (now (values .entry)) (now (texts .entry)) (now (features .exit))) ⌝ }
+    ensures { λ r. ⌜ Called (intoFeature kind (now (words .entry))) given r keys values texts features ⌝ }
 {
     let s = layer_of(given);
     let r = layer::feature::into_feature(s, kind, words, keys, values, texts, features);
@@ -54,7 +51,7 @@ pub extern "C" fn bp_set_id(
     texts: &[u8],
     features: &mut [u32],
 ) -> BpChanged
-    ensures { λ r. ⌜ Gives (calledFrom given (setId (id % 4294967296) (id / 4294967296)) (mem (now (keys .entry)) (now (values .entry)) (now (texts .entry)) (now (features .entry)))) r (mem (now (keys .entry)) (now (values .entry)) (now (texts .entry)) (now (features .exit))) ⌝ }
+    ensures { λ r. ⌜ Called (setId (id % 4294967296) (id / 4294967296)) given r keys values texts features ⌝ }
 {
     let s = layer_of(given);
     let r = layer::feature::set_id(s, id, keys, values, texts, features);
@@ -70,7 +67,7 @@ pub extern "C" fn bp_into_layer(
     texts: &[u8],
     features: &[u32],
 ) -> BpChanged
-    ensures { λ r. ⌜ Gives (calledFrom given intoLayer (mem (now (keys .entry)) (now (values .entry)) (now (texts .entry)) (now (features .entry)))) r (mem (now (keys .entry)) (now (values .entry)) (now (texts .entry)) (now (features .entry))) ⌝ }
+    ensures { λ r. ⌜ Called intoLayer given r keys values texts features ⌝ }
 {
     let s = layer_of(given);
     let r = layer::feature::into_layer(s, keys, values, texts, features);
@@ -86,7 +83,7 @@ pub extern "C" fn bp_abandon(
     texts: &[u8],
     features: &[u32],
 ) -> BpChanged
-    ensures { λ r. ⌜ Gives (calledFrom given abandoned (mem (now (keys .entry)) (now (values .entry)) (now (texts .entry)) (now (features .entry)))) r (mem (now (keys .entry)) (now (values .entry)) (now (texts .entry)) (now (features .entry))) ⌝ }
+    ensures { λ r. ⌜ Called abandoned given r keys values texts features ⌝ }
 {
     let s = layer_of(given);
     let r = layer::feature::abandon(s, keys, values, texts, features);
@@ -109,7 +106,7 @@ pub extern "C" fn bp_add_feature(
     texts: &mut [u8],
     features: &mut [u32],
 ) -> BpChanged
-    ensures { λ r. ⌜ Gives (featureFrom given (headAt kind «has_id» id) (now (words .entry)) (now (tags .entry)) (now (bytes .entry)) (mem (now (keys .entry)) (now (values .entry)) (now (texts .entry)) (now (features .entry)))) r (mem (now (keys .exit)) (now (values .exit)) (now (texts .exit)) (now (features .exit))) ⌝ }
+    ensures { λ r. ⌜ Called (wholeFeature kind «has_id» id words tags bytes) given r keys values texts features ⌝ }
 {
     let s = layer_of(given);
     let head = Head {
@@ -117,7 +114,7 @@ pub extern "C" fn bp_add_feature(
         has_id: has_id != 0,
         id: id,
     };
-    let r = whole_feature::add_feature(s, head, words, tags, bytes, keys, values, texts, features);
+    let r = layer::whole_feature::add_feature(s, head, words, tags, bytes, keys, values, texts, features);
     changed(given, r)
 }
 
@@ -135,13 +132,13 @@ pub extern "C" fn bp_add_features(
     values: &mut [u32],
     texts: &mut [u8],
     features: &mut [u32],
-    key_index: &mut [u32],
-    value_index: &mut [u32],
+    ki: &mut [u32],
+    vi: &mut [u32],
 ) -> BpMany
-    ensures { λ r. ⌜ Gives (featuresFrom given (now (heads .entry)) (now (words .entry)) (now (tags .entry)) (now (bytes .entry)) (mem (now (keys .entry)) (now (values .entry)) (now (texts .entry)) (now (features .entry))) (idx (now («key_index» .entry)) (now («value_index» .entry)))) r (withIndex (mem (now (keys .exit)) (now (values .exit)) (now (texts .exit)) (now (features .exit))) (idx (now («key_index» .exit)) (now («value_index» .exit)))) ⌝ }
+    ensures { λ r. ⌜ CalledMany given r heads words tags bytes keys values texts features ki vi ⌝ }
 {
     let s = layer_of(given);
-    let r = whole_feature::many::add_features(
+    let r = layer::many::add_features(
         s,
         heads,
         words,
@@ -151,8 +148,8 @@ pub extern "C" fn bp_add_features(
         values,
         texts,
         features,
-        key_index,
-        value_index,
+        ki,
+        vi,
     );
     many_added(given, r)
 }

@@ -1,8 +1,7 @@
 // A tag of the open feature, from C: a call for each kind of value. Floats and doubles are given by their bits. Each refuses STATE, TEXT, TURN and ROOM.
-ghost use Rattle.promise.specs.Answers.{Gives};
-ghost use Rattle.layer.specs.Held.{mem};
 ghost use Rattle.layer.specs.Calls.{addTag, tagString, tagBits, bitsOf, bitOf};
-ghost use Rattle.brinepost_tiles.specs.Calls.{calledFrom, isTrue};
+ghost use Rattle.brinepost_tiles.specs.Calls.{isTrue};
+ghost use Rattle.brinepost_tiles.specs.Lending.{Called};
 use crate::answers::BpChanged;
 use crate::answers::changed;
 use crate::carried::BpLayer;
@@ -19,10 +18,10 @@ pub extern "C" fn bp_add_tag_string(
     texts: &mut [u8],
     features: &mut [u32],
 ) -> BpChanged
-    ensures { λ r. ⌜ Gives (calledFrom given (addTag (tagString (now (key .entry)) (now (val .entry)))) (mem (now (keys .entry)) (now (values .entry)) (now (texts .entry)) (now (features .entry)))) r (mem (now (keys .exit)) (now (values .exit)) (now (texts .exit)) (now (features .exit))) ⌝ }
+    ensures { λ r. ⌜ Called (addTag (tagString (now (key .entry)) (now (val .entry)))) given r keys values texts features ⌝ }
 {
     let s = layer_of(given);
-    let r = tags::add_tag_string(s, key, val, keys, values, texts, features);
+    let r = layer::tags::add_tag_string(s, key, val, keys, values, texts, features);
     changed(given, r)
 }
 
@@ -37,10 +36,10 @@ pub extern "C" fn bp_add_tag_float(
     texts: &mut [u8],
     features: &mut [u32],
 ) -> BpChanged
-    ensures { λ r. ⌜ Gives (calledFrom given (addTag (tagBits 2 (now (key .entry)) bits)) (mem (now (keys .entry)) (now (values .entry)) (now (texts .entry)) (now (features .entry)))) r (mem (now (keys .exit)) (now (values .exit)) (now (texts .exit)) (now (features .exit))) ⌝ }
+    ensures { λ r. ⌜ Called (addTag (tagBits 2 (now (key .entry)) bits)) given r keys values texts features ⌝ }
 {
     let s = layer_of(given);
-    let r = tags::add_tag_float(s, key, bits, keys, values, texts, features);
+    let r = layer::tags::add_tag_float(s, key, bits, keys, values, texts, features);
     changed(given, r)
 }
 
@@ -55,10 +54,10 @@ pub extern "C" fn bp_add_tag_double(
     texts: &mut [u8],
     features: &mut [u32],
 ) -> BpChanged
-    ensures { λ r. ⌜ Gives (calledFrom given (addTag (tagBits 3 (now (key .entry)) bits)) (mem (now (keys .entry)) (now (values .entry)) (now (texts .entry)) (now (features .entry)))) r (mem (now (keys .exit)) (now (values .exit)) (now (texts .exit)) (now (features .exit))) ⌝ }
+    ensures { λ r. ⌜ Called (addTag (tagBits 3 (now (key .entry)) bits)) given r keys values texts features ⌝ }
 {
     let s = layer_of(given);
-    let r = tags::add_tag_double(s, key, bits, keys, values, texts, features);
+    let r = layer::tags::add_tag_double(s, key, bits, keys, values, texts, features);
     changed(given, r)
 }
 
@@ -73,10 +72,10 @@ pub extern "C" fn bp_add_tag_int(
     texts: &mut [u8],
     features: &mut [u32],
 ) -> BpChanged
-    ensures { λ r. ⌜ Gives (calledFrom given (addTag (tagBits 4 (now (key .entry)) (bitsOf val))) (mem (now (keys .entry)) (now (values .entry)) (now (texts .entry)) (now (features .entry)))) r (mem (now (keys .exit)) (now (values .exit)) (now (texts .exit)) (now (features .exit))) ⌝ }
+    ensures { λ r. ⌜ Called (addTag (tagBits 4 (now (key .entry)) (bitsOf val))) given r keys values texts features ⌝ }
 {
     let s = layer_of(given);
-    let r = tags::add_tag_int(s, key, val, keys, values, texts, features);
+    let r = layer::tags::add_tag_int(s, key, val, keys, values, texts, features);
     changed(given, r)
 }
 
@@ -91,10 +90,10 @@ pub extern "C" fn bp_add_tag_uint(
     texts: &mut [u8],
     features: &mut [u32],
 ) -> BpChanged
-    ensures { λ r. ⌜ Gives (calledFrom given (addTag (tagBits 5 (now (key .entry)) val)) (mem (now (keys .entry)) (now (values .entry)) (now (texts .entry)) (now (features .entry)))) r (mem (now (keys .exit)) (now (values .exit)) (now (texts .exit)) (now (features .exit))) ⌝ }
+    ensures { λ r. ⌜ Called (addTag (tagBits 5 (now (key .entry)) val)) given r keys values texts features ⌝ }
 {
     let s = layer_of(given);
-    let r = tags::add_tag_uint(s, key, val, keys, values, texts, features);
+    let r = layer::tags::add_tag_uint(s, key, val, keys, values, texts, features);
     changed(given, r)
 }
 
@@ -109,10 +108,10 @@ pub extern "C" fn bp_add_tag_sint(
     texts: &mut [u8],
     features: &mut [u32],
 ) -> BpChanged
-    ensures { λ r. ⌜ Gives (calledFrom given (addTag (tagBits 6 (now (key .entry)) (bitsOf val))) (mem (now (keys .entry)) (now (values .entry)) (now (texts .entry)) (now (features .entry)))) r (mem (now (keys .exit)) (now (values .exit)) (now (texts .exit)) (now (features .exit))) ⌝ }
+    ensures { λ r. ⌜ Called (addTag (tagBits 6 (now (key .entry)) (bitsOf val))) given r keys values texts features ⌝ }
 {
     let s = layer_of(given);
-    let r = tags::add_tag_sint(s, key, val, keys, values, texts, features);
+    let r = layer::tags::add_tag_sint(s, key, val, keys, values, texts, features);
     changed(given, r)
 }
 
@@ -127,9 +126,9 @@ pub extern "C" fn bp_add_tag_bool(
     texts: &mut [u8],
     features: &mut [u32],
 ) -> BpChanged
-    ensures { λ r. ⌜ Gives (calledFrom given (addTag (tagBits 7 (now (key .entry)) (bitOf (isTrue val)))) (mem (now (keys .entry)) (now (values .entry)) (now (texts .entry)) (now (features .entry)))) r (mem (now (keys .exit)) (now (values .exit)) (now (texts .exit)) (now (features .exit))) ⌝ }
+    ensures { λ r. ⌜ Called (addTag (tagBits 7 (now (key .entry)) (bitOf (isTrue val)))) given r keys values texts features ⌝ }
 {
     let s = layer_of(given);
-    let r = tags::add_tag_bool(s, key, val != 0, keys, values, texts, features);
+    let r = layer::tags::add_tag_bool(s, key, val != 0, keys, values, texts, features);
     changed(given, r)
 }

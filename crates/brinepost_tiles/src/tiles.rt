@@ -1,7 +1,7 @@
 // The calls on a tile, from C: the tile goes in and comes back by value, its layers' names and its bytes stand in two lent lists.
 ghost use mathlib.Core.Path.{_≡_};
 ghost use Rattle.promise.specs.Answers.{Gives};
-ghost use Rattle.layer.specs.Held.{mem};
+ghost use Rattle.layer.specs.Lending.{entered};
 ghost use Rattle.layer.specs.Calls.{created};
 ghost use Rattle.tile.specs.Tiles.{lists, freshTile};
 ghost use Rattle.tile.specs.Asking.{numLayers, computeSize, toBytes};
@@ -52,7 +52,7 @@ pub extern "C" fn bp_add_layer(
     names: &mut [u32],
     bytes: &mut [u8],
 ) -> BpAdded
-    ensures { λ r. ⌜ Gives (addedFrom tile given (mem (now (keys .entry)) (now (values .entry)) (now (texts .entry)) (now (features .entry))) (lists (now (names .entry)) (now (bytes .entry)))) r (lists (now (names .exit)) (now (bytes .exit))) ⌝ }
+    ensures { λ r. ⌜ Gives (addedFrom tile given (entered keys values texts features) (tileEntered names bytes)) r (tileLeft names bytes) ⌝ }
 {
     let t = tile_of(tile);
     let s = layer_of(given);
@@ -63,7 +63,7 @@ pub extern "C" fn bp_add_layer(
 // STATE, else how many layers the tile has.
 #[no_mangle]
 pub extern "C" fn bp_num_layers(tile: BpTile, names: &[u32], bytes: &[u8]) -> BpCounted
-    ensures { λ r. ⌜ r ≡ flatTileCounted (numLayers (tileOf tile) (lists (now (names .entry)) (now (bytes .entry)))) ⌝ }
+    ensures { λ r. ⌜ r ≡ flatTileCounted (numLayers (tileOf tile) (tileEntered names bytes)) ⌝ }
 {
     let t = tile_of(tile);
     let r = t.num_layers(names, bytes);
@@ -73,7 +73,7 @@ pub extern "C" fn bp_num_layers(tile: BpTile, names: &[u32], bytes: &[u8]) -> Bp
 // STATE, else the encoded size in bytes.
 #[no_mangle]
 pub extern "C" fn bp_compute_size(tile: BpTile, names: &[u32], bytes: &[u8]) -> BpCounted
-    ensures { λ r. ⌜ r ≡ flatTileCounted (computeSize (tileOf tile) (lists (now (names .entry)) (now (bytes .entry)))) ⌝ }
+    ensures { λ r. ⌜ r ≡ flatTileCounted (computeSize (tileOf tile) (tileEntered names bytes)) ⌝ }
 {
     let t = tile_of(tile);
     let r = t.compute_size(names, bytes);
@@ -83,7 +83,7 @@ pub extern "C" fn bp_compute_size(tile: BpTile, names: &[u32], bytes: &[u8]) -> 
 // STATE, else where the tile's bytes end in the lent list, at whose front they stand.
 #[no_mangle]
 pub extern "C" fn bp_to_bytes(tile: BpTile, names: &[u32], bytes: &[u8]) -> BpCounted
-    ensures { λ r. ⌜ r ≡ flatTileCounted (toBytes (tileOf tile) (lists (now (names .entry)) (now (bytes .entry)))) ⌝ }
+    ensures { λ r. ⌜ r ≡ flatTileCounted (toBytes (tileOf tile) (tileEntered names bytes)) ⌝ }
 {
     let t = tile_of(tile);
     let r = t.to_bytes(names, bytes);

@@ -129,14 +129,14 @@ fn tag_layer(
     match v {
         Value::Text(p) => {
             let text = script::text(bytes, p);
-            tags::add_tag_string(s, key, text, keys, values, texts, features)
+            layer::tags::add_tag_string(s, key, text, keys, values, texts, features)
         }
-        Value::Float(x) => tags::add_tag_float(s, key, x, keys, values, texts, features),
-        Value::Double(x) => tags::add_tag_double(s, key, x, keys, values, texts, features),
-        Value::Int(x) => tags::add_tag_int(s, key, x, keys, values, texts, features),
-        Value::Uint(x) => tags::add_tag_uint(s, key, x, keys, values, texts, features),
-        Value::Sint(x) => tags::add_tag_sint(s, key, x, keys, values, texts, features),
-        Value::Bool(x) => tags::add_tag_bool(s, key, x, keys, values, texts, features),
+        Value::Float(x) => layer::tags::add_tag_float(s, key, x, keys, values, texts, features),
+        Value::Double(x) => layer::tags::add_tag_double(s, key, x, keys, values, texts, features),
+        Value::Int(x) => layer::tags::add_tag_int(s, key, x, keys, values, texts, features),
+        Value::Uint(x) => layer::tags::add_tag_uint(s, key, x, keys, values, texts, features),
+        Value::Sint(x) => layer::tags::add_tag_sint(s, key, x, keys, values, texts, features),
+        Value::Bool(x) => layer::tags::add_tag_bool(s, key, x, keys, values, texts, features),
     }
 }
 

@@ -1,4 +1,4 @@
--- Crates `runs`, `table`, `records`, `index` and `tagging`: wrong runs, look-ups, entries, records and indexes.
+-- Crates `runs`, `table`, `records`, `index`, and the look-ups of `layer`: wrong runs, look-ups, entries, records and indexes.
 use Prim.Native.Nat.{ℕ, suc, _+_, _*_, _/_, _%_}
 use mathlib.Core.Path.{_≡_, ap}
 use mathlib.Core.Bool.{Bool, true, false, cond, _&&_}
@@ -7,8 +7,6 @@ use lib.Dec.{leb, ltb, eqb}
 use lib.ListN.{length, drop, getD, set, replicate}
 use native.Mathlib.Omega.{arith}
 use Rattle.promise.specs.Laid.{lay}
-use Rattle.refusal.specs.declared.Refusal.{Refusal}
-use Rattle.refusal.specs.declared.Refusal.the-variants.{Room}
 use Rattle.words.specs.Geometries.{isKind}
 use Rattle.runs.specs.Fitting.{laidIn}
 use Rattle.table.specs.declared.Found.{Found}
@@ -22,14 +20,11 @@ use Rattle.index.specs.Hashes.{hashFrom, mixed}
 use Rattle.index.specs.Chains.{slotsIn, slots, serves, cleared, maxEntry, pushed, built, walk, reach}
 use Rattle.index.specs.Entries.{walkedKey}
 use Rattle.layer.specs.declared.Figures.{Figures}
-use Rattle.layer.specs.declared.Layer.{Layer}
-use Rattle.layer.specs.declared.Changed.the-variants.{Refused}
-use Rattle.layer.specs.declared.Open.the-variants.{Shut}
 use Rattle.layer.specs.Held.{Memory, mem}
 use Rattle.layer.specs.Calls.{Tag, putOf, tagString}
-use Rattle.tagging.specs.Steps.{laidTag}
-use Rattle.tagging.specs.Indexed.{keyBy, pushedNew, notedIf}
-use Rattle.ruled_out.specs.Inputs.{bit, item, foundIndex, figures, layerOf, before, now}
+use Rattle.layer.specs.Steps.{laidTag}
+use Rattle.layer.specs.Lookup.{keyBy, pushedNew}
+use Rattle.ruled_out.specs.Inputs.{bit, item, foundIndex, figures, before}
 
 -- ---- runs: lay_words, lay_bytes
 -- a run goes to the front
@@ -198,7 +193,7 @@ pub zeros-apart : ((kind low high : ℕ) → mixed kind low high ≡ (kind + low
 unfolding mixed
 zeros-apart h = let e : _≡_ {A = ℕ} 3797 84263856803541 = h 3 0 2147483648 in omega arith
 
--- ---- tagging
+-- ---- layer: looking up, and what is laid
 -- where no index serves a key is never found
 pub scan-left-out : ((l : List ℕ) (room : ℕ) (ks ts key : List ℕ) (k : ℕ)
     → keyBy l room ks ts key k ≡ cond (serves (length l) room) (walkedKey l ks ts key k) Nothing) → ⊥
@@ -207,10 +202,6 @@ scan-left-out h = let e : _≡_ {A = ℕ} 1 0 = ap foundIndex (h [] 1 (0 ∷ 1 �
 -- a value that was found is pushed once more
 pub found-noted : ((j n k : ℕ) (l : List ℕ) → pushedNew (At j) l n k ≡ pushed l n k) → ⊥
 found-noted h = let e : _≡_ {A = ℕ} 0 1 = ap (item 0) (h 0 0 0 (0 ∷ 0 ∷ [])) in omega arith
-
--- a refused tag is noted
-pub refusal-noted : ((r : Refusal) (s : Layer) (new l : List ℕ) → notedIf (Refused r s) new l ≡ new) → ⊥
-refusal-noted h = let e : _≡_ {A = ℕ} 0 1 = ap (item 0) (h Room (layerOf now Shut) (1 ∷ []) (0 ∷ [])) in omega arith
 
 -- a value's text goes before its key's
 pub value-first : ((u o : Figures) (kf vf : Found) (t : Tag) (m : Memory)

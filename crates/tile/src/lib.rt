@@ -7,7 +7,8 @@ ghost use Rattle.promise.specs.Answers.{Gives};
 ghost use Rattle.layer.specs.Held.{seen};
 ghost use Rattle.layer.specs.Answers.{saidCreated};
 ghost use Rattle.layer.specs.Calls.{isShut, created};
-ghost use Rattle.tile.specs.Lending.{given, entered};
+ghost use Rattle.layer.specs.Lending.{entered};
+ghost use Rattle.tile.specs.Lending.{given};
 ghost use Rattle.tile.specs.Tiles.{lists, tileEntered, tileLeft, nameRoom, byteRoom, validTile, freshTile};
 ghost use Rattle.tile.specs.Answers.{saidTile, saidCounted};
 ghost use Rattle.tile.specs.Adding.{hasName, appended, addLayer};
@@ -26,7 +27,6 @@ use crate::layer_message::held_size;
 use crate::layer_message::put_layer;
 use layer::Created;
 use layer::Layer;
-use layer::Open;
 use refusal::Refusal;
 use table::Found;
 use wire::field::Field;
@@ -182,7 +182,7 @@ impl Tile {
             return Added::Refused(Refusal::State, self);
         }
         let f = s.feature;
-        if !is_shut(f) {
+        if !f.is_shut() {
             return Added::Refused(Refusal::Turn, self);
         }
         if s.extent != self.extent {
@@ -253,14 +253,5 @@ impl Tile {
             return bytes;
         }
         &bytes[..n]
-    }
-}
-
-fn is_shut(f: Open) -> bool
-    ensures { λ r. ⌜ r ≡ isShut f ⌝ }
-{
-    match f {
-        Open::Shut => true,
-        Open::Since(_) => false,
     }
 }

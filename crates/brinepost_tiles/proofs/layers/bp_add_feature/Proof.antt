@@ -1,5 +1,5 @@
 -- What the proved call said of the layer that C's numbers stand for.
-use Rattle.brinepost_tiles.proofs.Calling.{whole-called}
+use Rattle.brinepost_tiles.proofs.Calling.{called}
 use borrow.Author.Needs.{needs}
 use Rattle.brinepost_tiles.proofs.layers.bp_add_feature.Statement.{statement}
 use Rattle.brinepost_tiles.proofs.layers.bp_add_feature.Tie as tie
@@ -27,8 +27,9 @@ same-length-4 c = search needs
 
 returns : tie.Need-returns
 returns c =
-    let t = c .before .before .before .before .before .before .before .before .before in
-    whole-called _ _ (t .before .before .before .before .before .layer-of .ensures) (t .add-feature .result) _ (c .changed .ensures) _ _ _ _ _ _ (t .add-feature .ensures)
+    let u = c .before .before .before .before .before in
+    let t = u .before .before .before .before in
+    called _ _ (t .before .before .before .before .before .layer-of .ensures) (t .add-feature .result) _ (c .changed .ensures) _ _ _ (t .add-feature .ensures)
 
 pub bp-add-feature-spec : {M : Type 1} → statement M
 bp-add-feature-spec =
