@@ -114,7 +114,17 @@ pub extern "C" fn bp_add_feature(
         has_id: has_id != 0,
         id: id,
     };
-    let r = layer::whole_feature::add_feature(s, head, words, tags, bytes, keys, values, texts, features);
+    let r = layer::whole_feature::add_feature(
+        s,
+        head,
+        words,
+        tags,
+        bytes,
+        keys,
+        values,
+        texts,
+        features,
+    );
     changed(given, r)
 }
 

@@ -3,7 +3,7 @@ ghost use mathlib.Core.Path.{_≡_};
 ghost use Rattle.promise.specs.Answers.{Gives};
 ghost use Rattle.layer.specs.Lending.{entered};
 ghost use Rattle.layer.specs.Calls.{created};
-ghost use Rattle.tile.specs.Tiles.{lists, freshTile};
+ghost use Rattle.tile.specs.Tiles.{tileEntered, tileLeft, freshTile};
 ghost use Rattle.tile.specs.Asking.{numLayers, computeSize, toBytes};
 ghost use Rattle.telling.specs.Telling.{told};
 ghost use Rattle.brinepost_tiles.specs.Carried.{tileOf, tileTo};
