@@ -2,3 +2,4 @@ pub mod Good
 pub mod Seen
 pub mod Rolled
 pub mod Odd
+pub mod Whole
