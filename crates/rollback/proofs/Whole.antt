@@ -1,11 +1,11 @@
 -- An accepted whole feature is what the single calls make: opening, its id, each tag and closing are all accepted, and leave the same layer and the same parts.
-use Prim.Native.Nat.{ℕ, suc, _+_, _%_, _/_, _≤_}
+use Prim.Native.Nat.{ℕ, _+_, _%_, _/_, _≤_}
 use mathlib.Core.Path.{_≡_, refl, sym, ap, _∙_}
 use mathlib.Core.Bool.{Bool, true, false, cond}
 use mathlib.Core.List.{List, [], _∷_, _++_, append-assoc}
 use native.Mathlib.Omega.{arith}
-use lib.ListN.{length, take, drop, length-take}
-use lib.Seq.{take-append-le, drop-append-le, take-length, drop-length}
+use lib.ListN.{length, take, drop, length-take, length-append, take-append-drop}
+use lib.Seq.{take-at, drop-at}
 use lib.Dec.{leb, eqb}
 use borrow.Author.Tests.{le-leb, leb-true}
 use Rattle.promise.specs.Laid.{lay}
@@ -25,7 +25,7 @@ use Rattle.layer.specs.Calls.{isShut, moreWords, withUsed, withFeatures, newRec
 use Rattle.layer.specs.TagLists.{tagOk, tagsOk, textPlace, shortTag, tagsShort, tagOf, tagsOf}
 use Rattle.layer.specs.Whole.{featureOpened, tagsPut, featureShut, featurePut, addFeature}
 use Rattle.layer.proofs.Fitting.{both}
-use Rattle.layer.proofs.Keeping.{Lengths, Sound, sound, fine, is-shut, tag-sound, opened-sound}
+use Rattle.layer.proofs.Keeping.{Lengths, Sound, sound, fine, is-shut, take-lay-before, drop-lay-add, tag-sound, opened-sound}
 use Rattle.layer.proofs.Listing.{yes}
 use Rattle.layer.proofs.Growth.{tags-grow, fits-before, same-feature, same-room}
 use Rattle.layer.proofs.Filled.{value-given}
@@ -74,9 +74,56 @@ tags-run bytes (start ∷ len ∷ kind ∷ low ∷ high ∷ ws) e s o u f S h re
     ∙ tags-run bytes ws (p .1) (q .1) o w f (tag-sound u S o f t (r .0) (keyFound t u) (valueFound t u)) h rest
 
 -- ---- the id
-lay-behind : (p q run : List ℕ) (i n : ℕ) → length p ≡ n → lay (n + i) run (p ++ q) ≡ p ++ lay i run q
-lay-behind [] q run i n e = let z : n + i ≡ i = omega arith in rw z
-lay-behind (x ∷ p) q run i n e =
-    let m = length p in
-    let z : n + i ≡ suc (m + i) = omega arith in
-    rw z (ap (λ (l : List ℕ). x ∷ l) (lay-behind p q run i m refl))
+lay-behind : (p q run : List ℕ) (i n : ℕ) → length p ≡ n → n + i + length run ≤ length (p ++ q) → lay (n + i) run (p ++ q) ≡ p ++ lay i run q
+lay-behind p q run i n e h =
+    sym (take-append-drop n (lay (n + i) run (p ++ q)))
+    ∙ rw (take-lay-before n (n + i) run (p ++ q) (omega arith) h, drop-lay-add n i run (p ++ q) h, take-at p q n e, drop-at p q n e)
+
+module _ (f : Head) (words : List ℕ) (v : Seen) (S : Sound v) (k : isKind (f .kind) ≡ true) (s : v .layer .feature ≡ Shut) where
+  abbrev begun : Seen
+  begun = next (holds (withUsed (v .layer) (moreWords (v .layer .used) (6 + length words)) (Since (v .layer .used))) (withFeatures (v .held) (v .held .features ++ newRecord (f .kind) words))) v
+
+  sound-begun : Sound begun
+  sound-begun = opened-sound (f .kind) 0 0 words v S (rw k) s
+
+  id-laid : (id : ℕ) → lay (v .layer .used .features + 1) (1 ∷ id % 4294967296 ∷ id / 4294967296 ∷ []) (v .held .features ++ newRecord (f .kind) words) ≡ v .held .features ++ recordWith (f .kind) 1 id words
+  id-laid id =
+      lay-behind (v .held .features) (newRecord (f .kind) words) (1 ∷ id % 4294967296 ∷ id / 4294967296 ∷ []) 1 (v .layer .used .features) (S .lengths .features)
+      (omega (arith, length-append (v .held .features) (newRecord (f .kind) words), S .lengths .features))
+
+  id-run : fits (begun .layer .used) (v .room) ≡ true → (has : Bool) (id : ℕ) (rest : List Call) → runs (idCalls has id ++ rest) begun ≡ runs rest (featureOpened (record { kind = f .kind; «has_id» = has; id = id }) words v)
+  id-run h true id rest =
+      ap (λ (c : Change). andThen c begun (λ w. runs rest w))
+      (let d : does (marks (id % 4294967296) (id / 4294967296)) begun ≡ holds (begun .layer) (withFeatures (begun .held) (lay (v .layer .used .features + 1) (1 ∷ id % 4294967296 ∷ id / 4294967296 ∷ []) (begun .held .features))) = rw (fine begun sound-begun h .stands) in
+      d ∙ ap (λ (l : List ℕ). holds (begun .layer) (withFeatures (v .held) l)) (id-laid id))
+  id-run h false id rest = refl
+
+-- ---- the whole
+module _ (f : Head) (words ws bytes : List ℕ) (v : Seen) (L : valid v ≡ true → Lengths v) (t : Layer) (h : Memory) (e : addFeature f words ws bytes v ≡ holds t h) where
+  pub whole-is-calls : runs (featureCalls f words (tagsOf bytes ws)) v ≡ holds t h
+  whole-is-calls =
+      let ts = tagsOf bytes ws in
+      let o = v .layer .used in
+      let W = featurePut f words ts v in
+      let a = passed (tagsOk (length bytes) ws) Job _ t h e in
+      let b = passed (isKind (f .kind)) Kind _ t h (a .1) in
+      let c = passed (valid v) State _ t h (b .1) in
+      let d = passed (tagsShort ws) TextRefusal _ t h (c .1) in
+      let g = passed (isShut (v .layer .feature)) Turn _ t h (d .1) in
+      let m = passed (leb (length words) maxWords) Room _ t h (g .1) in
+      let r = passed (fits (W .layer .used) (W .room)) Room (holds (W .layer) (W .held)) t h (m .1) in
+      let S = sound v (c .0) (L (c .0)) in
+      let s = is-shut (v .layer .feature) (g .0) in
+      let u = featureOpened f words v in
+      let all = tagsPut o ts u in
+      let q : W .room ≡ v .room = same-room o ts u in
+      let H : fits (all .layer .used) (v .room) ≡ true = rw q at (r .0) in
+      let B : fits (begun f words v S (b .0) s .layer .used) (v .room) ≡ true = fits-before (u .layer .used) (all .layer .used) (v .room) (tags-grow o ts u) H in
+      let opening : does (opens (f .kind) words) v ≡ holds (begun f words v S (b .0) s .layer) (begun f words v S (b .0) s .held) = rw (b .0, c .0, g .0, m .0, B) in
+      let A = feature-tagged f words ws bytes v S (a .0) (b .0) s in
+      let closing : does closes all ≡ holds (W .layer) (W .held) = rw (fine all A (r .0) .stands, same-feature o ts u) in
+      ap (λ (k : Change). andThen k v (λ w. runs (idCalls (f .«has_id») (f .id) ++ (tagCalls ts ++ (closes ∷ []))) w)) opening
+      ∙ id-run f words v S (b .0) s B (f .«has_id») (f .id) (tagCalls ts ++ (closes ∷ []))
+      ∙ tags-run bytes ws (a .0) (d .0) o u refl (feature-opened f words ws bytes v S (a .0) (b .0) s) H (closes ∷ [])
+      ∙ ap (λ (k : Change). andThen k all (λ w. runs [] w)) closing
+      ∙ r .1
