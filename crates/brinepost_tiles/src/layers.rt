@@ -13,6 +13,7 @@ use crate::carried::BpLayer;
 use crate::carried::layer_of;
 use layer::Layer;
 use layer::whole_feature::Head;
+use layer::whole_feature::add_feature;
 
 // TEXT, ROOM, else a layer without features, its name the first text.
 #[no_mangle]
@@ -90,8 +91,8 @@ pub extern "C" fn bp_abandon(
     changed(given, r)
 }
 
-// JOB, then what opening, each tag and closing refuse, else a whole feature, with an id where has_id is not 0. A tag is five words: where its key starts in bytes and how long it is,
-// the kind of its value, and where the text starts and how long it is or the low and the high half of the content.
+// JOB, KIND, STATE, TEXT, TURN, ROOM, of all that it is given, else a whole feature, with an id where has_id is not 0. A tag is five words: where its key
+// starts in bytes and how long it is, the kind of its value, and where the text starts and how long it is or the low and the high half of the content.
 #[no_mangle]
 pub extern "C" fn bp_add_feature(
     given: BpLayer,
@@ -114,23 +115,14 @@ pub extern "C" fn bp_add_feature(
         has_id: has_id != 0,
         id: id,
     };
-    let r = layer::whole_feature::add_feature(
-        s,
-        head,
-        words,
-        tags,
-        bytes,
-        keys,
-        values,
-        texts,
-        features,
-    );
+    let r = add_feature(s, head, words, tags, bytes, keys, values, texts, features);
     changed(given, r)
 }
 
-// JOB, else the whole features of the heads one after the other, up to the first that is refused. A head is six words: kind, id mark (0 or 1), the low and the high half of the id,
-// how many geometry words and how many tag words; these stand in words and in tags, those of one feature behind those of the one before. A list of two words for each key that
-// there is room for makes looking up keys quick, and so for the values; a shorter one is not used.
+// JOB, else the whole features of the heads one after the other, up to the first that is refused; STATE, where there are no heads. A head is six words: kind,
+// id mark (0 or 1), the low and the high half of the id, how many geometry words and how many tag words; these stand in words and in tags, those of one
+// feature behind those of the one before. A list of two words for each key that there is room for makes looking up keys quick, and so for the values; a
+// shorter one is not used. Where no feature is accepted the two stay as they are.
 #[no_mangle]
 pub extern "C" fn bp_add_features(
     given: BpLayer,
