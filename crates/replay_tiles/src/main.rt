@@ -1,14 +1,14 @@
 // Replays tile scripts: prints for each script what the program `tiles` prints for it, its outcomes and the tile's bytes; then the key and value index of
 // every accepted tag on a line.
-use hand::Hand;
+use tile_run::hand::Hand;
 use replay::number;
 use script::Next;
 use script::Op;
 use script::Part;
 use tile::Tile;
 use tile_run::Ran;
-use tile_script::Performed;
-use tile_script::Work;
+use tile_run::performing::Performed;
+use tile_run::performing::Work;
 
 // The last two feature words of the layer at hand: those that a tag has added.
 fn print_tag(h: Hand, features: &[u32]) {
@@ -90,7 +90,7 @@ fn print_tags(bytes: &[u8], numbers: &[u32]) {
         match script::read_op(numbers, at) {
             Next::Bad => return,
             Next::Is(op, next) => {
-                let p = tile_script::perform(
+                let p = tile_run::performing::perform(
                     op,
                     w,
                     bytes,

@@ -26,12 +26,12 @@ use Rattle.layer.specs.Calls.{Tag, intoLayer, tagBits, bitsOf}
 use Rattle.script.specs.declared.Value.the-variants.{Sint}
 use Rattle.script.specs.declared.Op.the-variants.{Abandon}
 use Rattle.script.specs.Script.{pairAt}
-use Rattle.hand.specs.declared.Hand.{Hand}
-use Rattle.hand.specs.declared.Hand.the-variants.{Nothing, Holds}
-use Rattle.hand.specs.Hands.{tagOf, onHand}
+use Rattle.tile_run.specs.declared.hand.Hand.{Hand}
+use Rattle.tile_run.specs.declared.hand.Hand.the-variants.{Nothing, Holds}
+use Rattle.tile_run.specs.Hands.{tagOf, onHand}
 use Rattle.tile.specs.Tiles.{freshTile, lists as tileLists}
-use Rattle.tile_script.specs.declared.Work.{Work}
-use Rattle.tile_script.specs.Performing.{Lists, lists, onLayer, performed}
+use Rattle.tile_run.specs.declared.performing.Work.{Work}
+use Rattle.tile_run.specs.Operations.{Lists, lists, onLayer, performed}
 use Rattle.ruled_out.specs.Inputs.{bit, item, afterTwo, lent, layerOf, before, now}
 
 -- ---- stretch::add_stretch
@@ -77,7 +77,7 @@ pub no-line-end : ((w : ℕ) (ws : List ℕ) → column (w ∷ ws) ≡ decimal w
 unfolding decimal
 no-line-end h = let e : _≡_ {A = ℕ} 2 1 = ap length (h 9 []) in omega arith
 
--- ---- script::read_op, hand::tag, tile_script::perform
+-- ---- script::read_op, and of tile_run hand::tag and performing::perform
 -- the high half first
 pub halves-swapped : ((ns : List ℕ) (at : ℕ) → pairAt ns at ≡ wide (getD ns (at + 1) 0) (getD ns at 0)) → ⊥
 halves-swapped h = let e : _≡_ {A = ℕ} 1 4294967296 = h (1 ∷ 0 ∷ []) 0 in omega arith

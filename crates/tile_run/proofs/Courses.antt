@@ -18,13 +18,13 @@ use Rattle.script.specs.declared.Next.{Next}
 use Rattle.script.specs.declared.Next.the-variants.{Is, Bad}
 use Rattle.script.specs.Script.{operation}
 use Rattle.script.proofs.Ends.{Reaches, operation-ends}
-use Rattle.hand.specs.declared.Hand.the-variants.{Nothing}
+use Rattle.tile_run.specs.declared.hand.Hand.the-variants.{Nothing}
 use Rattle.tile.specs.declared.Tile.{Tile}
 use Rattle.tile.specs.Tiles.{freshTile}
-use Rattle.tile_script.specs.declared.Work.{Work}
-use Rattle.tile_script.specs.declared.Performed.{Performed}
-use Rattle.tile_script.specs.declared.Performed.the-variants.{Refused as NotDone}
-use Rattle.tile_script.specs.Performing.{Lists, saidPerformed, performed}
+use Rattle.tile_run.specs.declared.performing.Work.{Work}
+use Rattle.tile_run.specs.declared.performing.Performed.{Performed}
+use Rattle.tile_run.specs.declared.performing.Performed.the-variants.{Refused as NotDone}
+use Rattle.tile_run.specs.Operations.{Lists, saidPerformed, performed}
 use Rattle.tile_run.specs.declared.Step.the-variants.{Is as StepIs, Bad as StepBad}
 use Rattle.tile_run.specs.declared.Ran.{Ran}
 use Rattle.tile_run.specs.declared.Ran.the-variants.{Done, Refused}

@@ -1,1 +1,3 @@
 pub mod Courses
+pub mod Handling
+pub mod Working

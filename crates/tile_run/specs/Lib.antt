@@ -1,1 +1,4 @@
+pub mod Hands
+pub mod Operations
 pub mod Running
+pub mod Lending

@@ -15,9 +15,9 @@ use Rattle.script.specs.declared.Op.{Op}
 use Rattle.script.specs.declared.Next.{Next}
 use Rattle.script.specs.declared.Next.the-variants.{Is, Bad}
 use Rattle.script.specs.Script.{operation}
-use Rattle.hand.specs.declared.Hand.the-variants.{Nothing}
-use Rattle.tile_script.specs.declared.Work.{Work}
-use Rattle.tile_script.specs.Performing.{Lists, performed}
+use Rattle.tile_run.specs.declared.hand.Hand.the-variants.{Nothing}
+use Rattle.tile_run.specs.declared.performing.Work.{Work}
+use Rattle.tile_run.specs.Operations.{Lists, performed}
 use Rattle.tile_run.specs.declared.Step.{Step}
 use Rattle.tile_run.specs.declared.Step.the-variants.{Is as StepIs, Bad as StepBad}
 use Rattle.tile_run.specs.declared.Ran.{Ran}

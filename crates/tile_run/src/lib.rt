@@ -1,19 +1,19 @@
 // A whole tile script, run operation after operation. Its outcomes, 0 or a refusal's number, go into a lent list; the tile's bytes are the used part of
 // the last list.
+pub mod hand; // what a script has at hand, and a layer's calls on it
+pub mod performing; // one operation
+
 ghost use mathlib.Core.Path.{_≡_};
 ghost use Prim.Native.Nat.{_<_};
 ghost use lib.ListN.{length};
-ghost use Rattle.promise.specs.Answers.{Gives};
-ghost use Rattle.layer.specs.Held.{mem};
-ghost use Rattle.tile.specs.Tiles.{lists as tileLists};
-ghost use Rattle.tile_script.specs.Performing.{lists, saidPerformed};
-ghost use Rattle.tile_run.specs.Running.{stepped, runLists, saidRan, ranFrom, courseIn, ranScript};
-use hand::Hand;
+ghost use Rattle.tile_run.specs.Operations.{saidPerformed};
+ghost use Rattle.tile_run.specs.Lending.{Steps, RunsFrom, Runs};
+use crate::hand::Hand;
+use crate::performing::Performed;
+use crate::performing::Work;
 use refusal::Refusal;
 use script::Next;
 use tile::Tile;
-use tile_script::Performed;
-use tile_script::Work;
 
 // An outcome, what there is after it and where the next operation begins; or nothing that can be read.
 enum Step {
@@ -58,12 +58,12 @@ fn advance(
     names: &mut [u32],
     out: &mut [u8],
 ) -> Step
-    ensures { λ r. ⌜ Gives (stepped (now (bytes .entry)) (now (numbers .entry)) at w (lists (mem (now (keys .entry)) (now (values .entry)) (now (texts .entry)) (now (features .entry))) (tileLists (now (names .entry)) (now (out .entry))))) r (lists (mem (now (keys .exit)) (now (values .exit)) (now (texts .exit)) (now (features .exit))) (tileLists (now (names .exit)) (now (out .exit)))) ⌝ }
+    ensures { λ r. ⌜ Steps at w r bytes numbers keys values texts features names out ⌝ }
 {
     match script::read_op(numbers, at) {
         Next::Bad => Step::Bad,
         Next::Is(op, next) => {
-            let p = tile_script::perform(
+            let p = performing::perform(
                 op,
                 w,
                 bytes,
@@ -102,7 +102,7 @@ fn run_from(
 ) -> Ran
     requires { ⌜ 0 < length (now numbers) ⌝ }
     requires { ⌜ length (now numbers) < length (now outcomes) ⌝ }
-    ensures { λ r. ⌜ Gives (courseIn (ranFrom (length (now (numbers .entry))) (now (bytes .entry)) (now (numbers .entry)) 1 start (lists (mem (now (keys .entry)) (now (values .entry)) (now (texts .entry)) (now (features .entry))) (tileLists (now (names .entry)) (now (out .entry))))) (now (outcomes .entry))) (saidRan r) (runLists (now (outcomes .exit)) (lists (mem (now (keys .exit)) (now (values .exit)) (now (texts .exit)) (now (features .exit))) (tileLists (now (names .exit)) (now (out .exit))))) ⌝ }
+    ensures { λ r. ⌜ RunsFrom start r bytes numbers outcomes keys values texts features names out ⌝ }
 {
     let mut w = start;
     let mut at = 1;
@@ -147,7 +147,7 @@ pub fn run(
     names: &mut [u32],
     out: &mut [u8],
 ) -> Ran
-    ensures { λ r. ⌜ Gives (ranScript (now (bytes .entry)) (now (numbers .entry)) (now (outcomes .entry)) (lists (mem (now (keys .entry)) (now (values .entry)) (now (texts .entry)) (now (features .entry))) (tileLists (now (names .entry)) (now (out .entry))))) (saidRan r) (runLists (now (outcomes .exit)) (lists (mem (now (keys .exit)) (now (values .exit)) (now (texts .exit)) (now (features .exit))) (tileLists (now (names .exit)) (now (out .exit))))) ⌝ }
+    ensures { λ r. ⌜ Runs r bytes numbers outcomes keys values texts features names out ⌝ }
 {
     if outcomes.len() <= numbers.len() {
         return Ran::Refused(Refusal::Room);

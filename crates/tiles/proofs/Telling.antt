@@ -17,7 +17,7 @@ use Rattle.lines.specs.Printed.{Told, shown}
 use Rattle.lines.specs.Tiles.{tileText, tileRoom}
 use Rattle.lines.proofs.Columns.{told}
 use Rattle.lines.proofs.Rows.{tile-short}
-use Rattle.tile_script.specs.Performing.{Lists}
+use Rattle.tile_run.specs.Operations.{Lists}
 use Rattle.tile_run.specs.Running.{RunLists, counts, ranScript}
 use Rattle.tiles.specs.Program.{noText, tileShown, fileText}
 

@@ -11,7 +11,7 @@ use Rattle.refusal.specs.Refusals.{numberOf}
 use Rattle.refusal.specs.Said.{Said}
 use Rattle.numbers.specs.Numbers.{reading}
 use Rattle.lines.specs.Tiles.{tileText, tileRoom}
-use Rattle.tile_script.specs.Performing.{Lists}
+use Rattle.tile_run.specs.Operations.{Lists}
 use Rattle.tile_run.specs.Running.{Counts, RunLists, ranScript}
 
 -- a refusal of the whole

@@ -9,7 +9,7 @@ ghost use Rattle.lines.specs.Printed.{Told, shown};
 ghost use Rattle.lines.specs.Tiles.{tileText, tileRoom};
 ghost use Rattle.layer.specs.Held.{mem};
 ghost use Rattle.tile.specs.Tiles.{lists as tileLists};
-ghost use Rattle.tile_script.specs.Performing.{lists};
+ghost use Rattle.tile_run.specs.Operations.{lists};
 ghost use Rattle.tiles.specs.Program.{tileShown, printed};
 use numbers::Numbers;
 use refusal::Refusal;

@@ -6,7 +6,7 @@ use native.Mathlib.Omega.{arith}
 use lib.ListN.{length}
 use Rattle.layer.specs.Held.{mem}
 use Rattle.tile.specs.Tiles.{lists as tileLists}
-use Rattle.tile_script.specs.Performing.{lists}
+use Rattle.tile_run.specs.Operations.{lists}
 use Rattle.tile_run.proofs.Courses.{Running, run-start, run-turn, run-bad, run-done, step-ends}
 use Rattle.tile_run.proofs.run_from.Statement.{statement}
 use Rattle.tile_run.proofs.run_from.Tie as tie
