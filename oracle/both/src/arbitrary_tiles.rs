@@ -631,11 +631,13 @@ fn wrong(said: &Said, held: &Held, memory: &Memory) -> Option<String> {
     }
     if refusal != 0 && !said.back {
         return Some(format!(
-            "{call}: refusal {refusal} does not give the state back"
+            "{call}: refusal {refusal}, but the state, the count or an index is not as expected"
         ));
     }
     if refusal == 0 && !said.within {
-        return Some(format!("{call}: a figure exceeds its list"));
+        return Some(format!(
+            "{call}: accepted, but a figure, the count or an index is not as expected"
+        ));
     }
     // As expected is all of a list that the call does not write, and of every list where it is refused; and the guards.
     let stays = |list: char, room: usize| {
