@@ -5,9 +5,8 @@
  * A list is a pointer and a length in elements, in this order. The pointer is aligned for its type and not null (a list of length 0 too), and its elements are the caller's
  * to read; what the function is to write must not overlap another list of the same call.
  * `refusal` is 0 where a call is accepted, else one of the numbers below. A refused call writes nowhere and says 0 for its counts, and gives the state back as it was given;
- * only a whole job, a whole feature and many of these differ: at its first refused call a job leaves the words as the accepted calls left them and says how many points were
- * accepted, a feature leaves the lists as the accepted calls left them, beyond what the layer that it gives back says is used, and many features say how many were accepted
- * and give back the layer with these. */
+ * only a whole job and many features in one call differ: at its first refused call a job leaves the words as the accepted calls left them and says how many points were
+ * accepted; at the first refused feature many features leave the lists as the accepted ones made them, say how many these are and give back the layer with them. */
 #ifndef BRINEPOST_H
 #define BRINEPOST_H
 
@@ -31,7 +30,7 @@ enum bp_refusal {
     BP_CUT = 9,      /* fewer words than a command asks for */
     BP_STEP = 10,    /* a decoded position leaves int32_t */
     BP_TEXT = 11,    /* a text of more than 1,024 bytes */
-    BP_TURN = 12,    /* a feature call with none open; opening, or adding a layer, with one open */
+    BP_TURN = 12,    /* a feature call with none open; opening, adding a whole feature, or adding a layer, with one open */
     BP_EXTENT = 13,  /* layer and tile extents differ */
     BP_NAME = 14     /* the tile has a layer of that name */
 };
@@ -208,18 +207,21 @@ bp_changed bp_into_layer(bp_layer layer, const uint32_t *keys, size_t keys_len, 
 bp_changed bp_abandon(bp_layer layer, const uint32_t *keys, size_t keys_len, const uint32_t *values, size_t values_len,
                       const uint8_t *texts, size_t texts_len, const uint32_t *features, size_t features_len);
 
-/* Adds a whole feature at once, with this id where has_id is not 0: JOB, then what its calls refuse (KIND, STATE, TURN, ROOM, TEXT). A tag is five words of `tags`: where its key starts in `bytes` and
- * how long it is, the value's kind (1 text, 2 float, 3 double, 4 int, 5 uint, 6 sint, 7 bool), then where its text starts in `bytes` and how long it is, or the low and the
- * high half of its content. */
+/* Adds a whole feature at once, with this id where has_id is not 0: JOB, KIND, STATE, TEXT (of any key or text in `tags`), TURN, and ROOM last, of exactly what is needed: a key or
+ * a value that comes twice, or is there already, is stored once. A feature that is refused changes nothing: every element of every list is as it was. A tag is five words of `tags`:
+ * where its key starts in `bytes` and how long it is, the value's kind (1 text, 2 float, 3 double, 4 int, 5 uint, 6 sint, 7 bool), then where its text starts in `bytes` and how long
+ * it is, or the low and the high half of its content. */
 bp_changed bp_add_feature(bp_layer layer, uint32_t kind, uint32_t has_id, uint64_t id, const uint32_t *words, size_t words_len,
                           const uint32_t *tags, size_t tags_len, const uint8_t *bytes, size_t bytes_len, uint32_t *keys, size_t keys_len,
                           uint32_t *values, size_t values_len, uint8_t *texts, size_t texts_len, uint32_t *features, size_t features_len);
 
-/* Adds whole features one after the other, up to the first that is refused: JOB, then what bp_add_feature refuses of each. The layer is checked once for all of them, so many
- * features cost far less than as many calls. A feature is six words of `heads`: its kind, 1 where it has an id or else 0, the low and the high half of its id, how many words of
- * `words` and how many of `tags` it takes; those of one feature stand behind those of the one before, and all of both are taken.
- * `key_index` and `value_index` are for the call alone and may hold anything: two words for each key, and for each value, that there is room for (2 * (keys_len / 2) and
- * 2 * (values_len / 3), at most 2 * BP_MAX_ENTRIES) make looking up quick. A shorter list, of length 0 too, is not used, and keys or values are looked up by a scan. */
+/* Adds whole features one after the other, up to the first that is refused: JOB where the heads do not tell all the words, then what bp_add_feature refuses of each; without any heads
+ * STATE alone. The accepted ones stay, and the refused one leaves nothing. The layer is checked once for all of them, so many features cost far less than as many calls. A feature is six
+ * words of `heads`: its kind, 1 where it has an id or else 0, the low and the high half of its id, how many words of `words` and how many of `tags` it takes; those of one feature
+ * stand behind those of the one before, and all of both are taken.
+ * `key_index` and `value_index` may hold anything before the call: two words for each key, and for each value, that there is room for (2 * (keys_len / 2) and
+ * 2 * (values_len / 3), at most 2 * BP_MAX_ENTRIES, and at least 2) make looking up quick. A shorter list, of length 0 too, is not used and stays as it is, and keys or values are
+ * looked up by a scan. One that is used is the index of the layer that comes back; where no feature was accepted, it stays as it is too. */
 bp_many bp_add_features(bp_layer layer, const uint32_t *heads, size_t heads_len, const uint32_t *words, size_t words_len, const uint32_t *tags, size_t tags_len,
                         const uint8_t *bytes, size_t bytes_len, uint32_t *keys, size_t keys_len, uint32_t *values, size_t values_len, uint8_t *texts,
                         size_t texts_len, uint32_t *features, size_t features_len, uint32_t *key_index, size_t key_index_len, uint32_t *value_index,

@@ -183,7 +183,7 @@ static void none_added(int line, bp_layer s, bp_many a, uint32_t refusal)
 }
 #define NONE_ADDED(s, a, refusal) none_added(__LINE__, s, a, refusal)
 
-/* Three features in one call: without an id and tags, with both, and one that has no room. */
+/* Three features in one call: without an id and tags, with both, and one whose value has no room and which leaves nothing. */
 static void many(bp_layer s)
 {
     static const uint32_t heads[] = {2, 0, 7, 8, 1, 0, 1, 1, 6, 0x80000007u, 2, 10, 3, 1, 1, 1, 3, 5};
@@ -202,14 +202,126 @@ static void many(bp_layer s)
     NONE_ADDED(s, bp_add_features(s, heads, 0, drawn, 0, tags, 0, TEXT(""), LISTS, m.key_index, 0, m.value_index, 0), 0);
     bp_many a = bp_add_features(s, heads, 18, drawn, 6, tags, 15, TEXT("v!kd"), m.keys, 4, m.values, 8, m.texts, COUNT(m.texts), m.features, COUNT(m.features), INDEX);
     LAID(features, 0, 2, 0, 0, 0, 0, 1, 9), LAID(features, 7, 1, 1, 6, 0x80000007u, 4, 2, 2, 4, 0, 0, 1, 1);
-    LAID(features, 19, 3, 1, 1, 1, 0, 3, 5, 6, 7); /* the third was opened, and its value had no room */
     LAID(keys, 0, 2, 1, 5, 1), LAID(values, 0, 1, 3, 2, 5, 1, 0xFFFFFFFEu), memcpy(should.texts + 2, "kv!d", 4);
     LAID(key_index, 0, 2, 1, 0, 0), LAID(value_index, 0, 0, 2, 0, 1, 0); /* built anew: the newest entry of each bucket, then what each entry follows */
     SAME(BP_ROOM, a.refusal), SAME(2, a.count), SAME(0, a.layer.is_open), FIGURES(a.layer.used, 2, 2, 6, 19), FIGURES(a.layer.since, 0, 0, 0, 0), HELD();
     SAME(2, bp_num_features(a.layer, LISTS).count);
     a = bp_add_features(a.layer, heads + 12, 6, drawn + 3, 3, tags + 10, 5, TEXT("v!kd"), LISTS, INDEX);
-    LAID(features, 23, 2), LAID(features, 28, 0, 2), LAID(values, 6, 4, 3, 3);
+    LAID(features, 19, 3, 1, 1, 1, 2, 3, 5, 6, 7, 0, 2), LAID(values, 6, 4, 3, 3);
     SAME(0, a.refusal), SAME(1, a.count), FIGURES(a.layer.used, 2, 3, 6, 30), HELD();
+}
+
+/* ---- whole features that are refused leave every list as it was */
+static bp_layer fresh(void)
+{
+    fill();
+    bp_changed c = bp_layer_new(TEXT("ab"), 1, m.texts, COUNT(m.texts));
+    memcpy(should.texts, "ab", 2);
+    return c.layer;
+}
+
+/* A feature by its own call, and as the only one and the first of two of many. Its tags and texts are of the lists below. */
+static const uint8_t letters[1025] = "kd";
+static void refused_feature(int line, bp_layer s, uint32_t kind, size_t words_len, const uint32_t *tags, size_t tags_len, uint32_t refusal)
+{
+    static const uint32_t drawn[64];
+    const uint32_t heads[] = {kind, 0, 0, 0, words_len, tags_len, 1, 0, 0, 0, 0, 0};
+    given_back(line, s, bp_add_feature(s, kind, 0, 0, drawn, words_len, tags, tags_len, letters, 1025, LISTS), refusal);
+    none_added(line, s, bp_add_features(s, heads, 6, drawn, words_len, tags, tags_len, letters, 1025, LISTS, INDEX), refusal);
+    none_added(line, s, bp_add_features(s, heads, 12, drawn, words_len, tags, tags_len, letters, 1025, LISTS, INDEX), refusal);
+}
+#define REFUSED_FEATURE(s, kind, words_len, tags, tags_len, refusal) refused_feature(__LINE__, s, kind, words_len, tags, tags_len, refusal)
+
+/* The checks in their order: where two fail the first is told. The first tag of each list would be accepted by itself. */
+static void order(void)
+{
+    static const uint32_t good[] = {0, 1, 5, 7, 0, 1, 1, 5, 7, 0}, long_key[] = {0, 1, 5, 7, 0, 0, 1025, 5, 7, 0};
+    static const uint32_t long_text[] = {0, 1, 5, 7, 0, 1, 1, 1, 0, 1025}, wide_text[] = {0, 1, 5, 7, 0, 1, 1, 1, 0, 1024};
+    static const uint32_t past[] = {0, 1025, 5, 7, 0, 1, 1, 1, 1, 1025}, no_kind[] = {0, 1, 5, 7, 0, 1, 1, 8, 0, 0}, no_bool[] = {0, 1, 5, 7, 0, 1, 1, 7, 2, 0};
+    bp_layer s = fresh(), bad = s;
+    bad.used.keys = 3;
+    REFUSED_FEATURE(s, BP_LINE, 3, past, 10, BP_JOB);
+    REFUSED_FEATURE(s, BP_LINE, 3, no_kind, 10, BP_JOB);
+    REFUSED_FEATURE(s, BP_LINE, 3, no_bool, 10, BP_JOB);
+    REFUSED_FEATURE(s, 0, 3, good, 9, BP_JOB); /* JOB before KIND, */
+    REFUSED_FEATURE(bad, 4, 64, past, 10, BP_JOB);
+    REFUSED_FEATURE(s, 4, 3, good, 10, BP_KIND);
+    REFUSED_FEATURE(bad, 0, 3, good, 10, BP_KIND); /* KIND before STATE, */
+    REFUSED_FEATURE(s, 4, 64, long_key, 10, BP_KIND);
+    REFUSED_FEATURE(bad, BP_LINE, 3, good, 10, BP_STATE);
+    REFUSED_FEATURE(bad, BP_LINE, 64, long_key, 10, BP_STATE); /* STATE before TEXT, */
+    REFUSED_FEATURE(s, BP_LINE, 3, long_key, 10, BP_TEXT);
+    REFUSED_FEATURE(s, BP_LINE, 3, long_text, 10, BP_TEXT);
+    REFUSED_FEATURE(s, BP_LINE, 64, long_text, 10, BP_TEXT); /* TEXT before ROOM, */
+    REFUSED_FEATURE(s, BP_LINE, 3, wide_text, 10, BP_ROOM);
+    REFUSED_FEATURE(s, BP_LINE, 64, good, 10, BP_ROOM);
+    bp_layer open = bp_into_feature(s, BP_POINT, words, 3, LISTS).layer;
+    LAID(features, 0, 1, 0, 0, 0, 0, 3, 9, 2, 4);
+    REFUSED_FEATURE(open, BP_LINE, 3, good, 10, BP_TURN);
+    REFUSED_FEATURE(open, BP_LINE, 3, long_text, 10, BP_TEXT); /* TEXT before TURN, */
+    REFUSED_FEATURE(open, BP_LINE, 64, wide_text, 10, BP_TURN); /* TURN before ROOM */
+    REFUSED_FEATURE(open, 0, 3, long_key, 10, BP_KIND);
+}
+
+/* Five tags of two keys and two values, for 0.0 and -0.0 are one: room for these is enough, and an element less of any list is not. */
+static void again(void)
+{
+    static const uint32_t tags[] = {0, 1, 2, 0, 0, 0, 1, 2, 0x80000000u, 0, 1, 1, 5, 7, 0, 0, 1, 5, 7, 0, 1, 1, 2, 0x80000000u, 0};
+    static const uint32_t heads[] = {3, 1, 5, 0, 3, 25};
+    static const size_t rooms[][4] = {{3, 6, 4, 19}, {4, 5, 4, 19}, {4, 6, 3, 19}, {4, 6, 4, 18}, {4, 6, 4, 19}};
+    for (int by_many = 0; by_many < 2; by_many++) {
+        bp_layer s = fresh();
+        for (size_t i = 0; i < COUNT(rooms); i++) {
+            const size_t *n = rooms[i];
+            bp_changed c;
+            if (by_many) {
+                bp_many a = bp_add_features(s, heads, 6, words, 3, tags, 25, TEXT("kd"), m.keys, n[0], m.values, n[1], m.texts, n[2], m.features, n[3], m.key_index, 4, m.value_index, 0);
+                SAME(i == 4, a.count);
+                c = (bp_changed){.refusal = a.refusal, .layer = a.layer};
+            } else {
+                c = bp_add_feature(s, BP_POLYGON, 1, 5, words, 3, tags, 25, TEXT("kd"), m.keys, n[0], m.values, n[1], m.texts, n[2], m.features, n[3]);
+            }
+            if (i < 4) {
+                GIVEN_BACK(s, c, BP_ROOM);
+                continue;
+            }
+            LAID(keys, 0, 2, 1, 3, 1), LAID(values, 0, 2, 0, 0, 5, 7, 0), memcpy(should.texts + 2, "kd", 2);
+            LAID(features, 0, 3, 1, 5, 0, 10, 3, 9, 2, 4, 0, 0, 0, 0, 1, 1, 0, 1, 1, 0);
+            if (by_many)
+                LAID(key_index, 0, 2, 1, 0, 0); /* k is odd and d even, and there are two buckets */
+            SAME(0, c.refusal), SAME(0, c.layer.is_open), FIGURES(c.layer.used, 2, 2, 4, 19), FIGURES(c.layer.since, 0, 0, 0, 0), HELD();
+        }
+    }
+}
+
+/* The second of two is refused, for each reason that it can have by itself: the first stays, and the indexes are those of the layer with it. */
+static void second(void)
+{
+    static const struct {
+        uint32_t kind, tags_len, refusal, tags[5];
+    } seconds[] = {{2, 4, BP_JOB, {1, 1, 5, 8}}, {2, 5, BP_JOB, {1, 1025, 5, 8, 0}}, {4, 5, BP_KIND, {1, 1, 5, 8, 0}}, {2, 5, BP_TEXT, {0, 1025, 5, 8, 0}}, {2, 5, BP_ROOM, {1, 1, 1, 0, 1024}}};
+    for (size_t i = 0; i < COUNT(seconds); i++) {
+        const uint32_t *t = seconds[i].tags;
+        const uint32_t heads[] = {1, 0, 0, 0, 1, 5, seconds[i].kind, 0, 0, 0, 2, seconds[i].tags_len};
+        const uint32_t tags[] = {0, 1, 5, 7, 0, t[0], t[1], t[2], t[3], t[4]};
+        bp_layer s = fresh();
+        bp_many a = bp_add_features(s, heads, 12, words, 3, tags, 5 + seconds[i].tags_len, letters, 1025, m.keys, 4, m.values, 8, m.texts, COUNT(m.texts), m.features, COUNT(m.features), INDEX);
+        LAID(keys, 0, 2, 1), LAID(values, 0, 5, 7, 0), LAID(features, 0, 1, 0, 0, 0, 2, 1, 9, 0, 0), should.texts[2] = 'k';
+        LAID(key_index, 0, 0, 1, 0, 0), LAID(value_index, 0, 0, 1, 0, 0, 0);
+        SAME(seconds[i].refusal, a.refusal), SAME(1, a.count), SAME(0, a.layer.is_open), FIGURES(a.layer.used, 1, 1, 3, 9), HELD();
+    }
+}
+
+/* A geometry of the most words there may be, and of one more, for which there is room. */
+static void widest(void)
+{
+    static uint32_t drawn[BP_MAX_WORDS + 1], features[BP_MAX_WORDS + 16];
+    bp_layer s = fresh();
+    drawn[BP_MAX_WORDS - 1] = 77, features[5] = 1;
+    GIVEN_BACK(s, bp_add_feature(s, BP_LINE, 0, 0, drawn, BP_MAX_WORDS + 1, words, 0, TEXT(""), m.keys, 4, m.values, 8, m.texts, 20, features, COUNT(features)), BP_ROOM);
+    SAME(0, features[0]), SAME(1, features[5]), SAME(0, features[BP_MAX_WORDS + 5]);
+    bp_changed c = bp_add_feature(s, BP_LINE, 0, 0, drawn, BP_MAX_WORDS, words, 0, TEXT(""), m.keys, 4, m.values, 8, m.texts, 20, features, COUNT(features));
+    SAME(0, c.refusal), SAME(BP_MAX_WORDS + 6, c.layer.used.features), SAME(BP_MAX_WORDS, features[5]), SAME(77, features[BP_MAX_WORDS + 5]), HELD();
 }
 
 /* Every number of the layer is looked at, at its full width, by every call. */
@@ -229,6 +341,7 @@ static void refused(bp_layer s)
     GIVEN_BACK(s, bp_abandon(s, LISTS), BP_STATE);
     GIVEN_BACK(s, bp_add_feature(s, 1, 0, 0, words, 3, words, 0, TEXT(""), LISTS), BP_STATE);
     NONE_ADDED(s, bp_add_features(s, (const uint32_t[]){1, 0, 0, 0, 0, 0}, 6, words, 0, words, 0, TEXT(""), LISTS, INDEX), BP_STATE);
+    NONE_ADDED(s, bp_add_features(s, words, 0, words, 0, words, 0, TEXT(""), LISTS, INDEX), BP_STATE); /* of no features at all too */
     SAME(BP_STATE, bp_num_features(s, LISTS).refusal), SAME(BP_STATE, bp_num_tags(s, LISTS).refusal), SAME(BP_STATE, bp_name(s, LISTS).refusal);
     bp_tile t = {.extent = s.extent};
     SAME(BP_STATE, bp_add_layer(t, s, LISTS, TILE).refusal), HELD();
@@ -322,6 +435,10 @@ int main(void)
     tiles(open, shut);
     states(open);
     many(shut);
+    order();
+    again();
+    second();
+    widest();
     empty_layer();
     return ended("layers and tiles");
 }

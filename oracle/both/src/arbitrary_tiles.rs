@@ -1,30 +1,16 @@
 //! Arbitrary layers, tiles and lists through our library: no crash, every guard unharmed, a refused call writes nothing and gives its state back.
-//! Most are valid ones with something damaged. The refusals before ROOM are held against document 01's rules, written out here.
+//! Most are valid ones with something damaged. The refusals before ROOM are held against document 01's rules (`held`); whole features in everything that they
+//! answer and write (`whole`), by turns with lists about as long as they need.
 
-use crate::judge::{JOB, KIND, ROOM};
+use crate::held::{Held, STATE};
+use crate::judge::{KIND, ROOM};
 use crate::lent::Watched;
-use crate::many;
+use crate::many::{self, Together};
 use crate::random::Random;
 use crate::report::{Difference, Tally};
-use crate::tile_judge::{Memory, EXTENT, NAME, TEXT, TURN};
-use ours::tiles::{self, Changed, Counted, Features, Figures, Head, Indexes, Layer, Tile, Value};
-
-const STATE: u32 = 4;
-const TEXT_LIMIT: usize = 1_024;
-const MAX_ENTRIES: usize = 65_536;
-
-/// A layer and a tile with the contents of their lists.
-#[derive(Clone)]
-struct Held {
-    layer: Layer,
-    tile: Tile,
-    keys: Vec<u32>,
-    values: Vec<u32>,
-    texts: Vec<u8>,
-    features: Vec<u32>,
-    names: Vec<u32>,
-    bytes: Vec<u8>,
-}
+use crate::tile_judge::{Memory, EXTENT, NAME, TEXT, TEXT_LIMIT, TURN};
+use crate::whole::Whole;
+use ours::tiles::{self, Changed, Counted, Figures, Head, Indexes, Layer, Tile, Value};
 
 /// A number: any bits, a small one, or one at a boundary.
 fn number(random: &mut Random) -> u32 {
@@ -45,11 +31,18 @@ fn bytes(random: &mut Random, most: usize) -> Vec<u8> {
 
 /// Where a text of so many bytes stands, and its length.
 fn place(random: &mut Random, bytes: usize) -> [u32; 2] {
+    if random.chance(6) {
+        return [0, bytes as u32];
+    }
     let start = random.below(bytes + 1);
     [start as u32, random.below(bytes - start + 1) as u32]
 }
 
 fn value(random: &mut Random, texts: usize) -> [u32; 3] {
+    // Often a zero of either sign, of which two in one feature are one value.
+    if random.chance(4) {
+        return random.pick(&[[2, 0, 0], [2, 1 << 31, 0], [3, 0, 0], [3, 0, 1 << 31]]);
+    }
     let kind = random.between(1, 7) as u32;
     match kind {
         1 => {
@@ -247,110 +240,6 @@ fn wild(random: &mut Random) -> Held {
     }
 }
 
-// ---- document 01's rules of STATE
-
-fn inside(bytes: usize, start: u32, len: u32) -> bool {
-    u64::from(start) + u64::from(len) <= bytes as u64
-}
-
-fn is_value(bytes: usize, words: &[u32]) -> bool {
-    let (kind, low, high) = (words[0], words[1], words[2]);
-    match kind {
-        1 => inside(bytes, low, high),
-        2 => high == 0,
-        3..=6 => true,
-        7 => low < 2 && high == 0,
-        _ => false,
-    }
-}
-
-/// Records from there that follow each other exactly to the end.
-fn follow(words: &[u32]) -> bool {
-    match words {
-        [] => true,
-        [kind, mark, _, _, tags, geometry, rest @ ..] => {
-            let more = u64::from(*tags) + u64::from(*geometry);
-            (1..=3).contains(kind)
-                && *mark < 2
-                && more <= rest.len() as u64
-                && follow(&rest[more as usize..])
-        }
-        _ => false,
-    }
-}
-
-fn fits(a: Figures, b: Figures) -> bool {
-    a.keys <= b.keys && a.values <= b.values && a.texts <= b.texts && a.features <= b.features
-}
-
-impl Held {
-    fn good_layer(&self) -> bool {
-        let Layer {
-            is_open,
-            name,
-            used,
-            since,
-            ..
-        } = self.layer;
-        let room = Figures {
-            keys: (self.keys.len() / 2).min(MAX_ENTRIES),
-            values: (self.values.len() / 3).min(MAX_ENTRIES),
-            texts: self.texts.len(),
-            features: self.features.len(),
-        };
-        if is_open > 1 || !fits(used, room) || name > used.texts {
-            return false;
-        }
-        let keys = self.keys[..2 * used.keys].chunks(2);
-        let values = self.values[..3 * used.values].chunks(3);
-        if !keys.into_iter().all(|k| inside(used.texts, k[0], k[1]))
-            || !values.into_iter().all(|v| is_value(used.texts, v))
-        {
-            return false;
-        }
-        let records = &self.features[..used.features];
-        if is_open == 0 {
-            return follow(records);
-        }
-        if !fits(since, used) || !follow(&records[..since.features]) {
-            return false;
-        }
-        // One record from the opening figure to the end.
-        let last = &records[since.features..];
-        last.len() >= 6
-            && follow(last)
-            && u64::from(last[4]) + u64::from(last[5]) == last.len() as u64 - 6
-    }
-
-    fn good_tile(&self) -> bool {
-        let Tile { used, layers, .. } = self.tile;
-        used <= self.bytes.len()
-            && layers <= self.names.len() / 2
-            && self.names[..2 * layers]
-                .chunks(2)
-                .all(|n| inside(used, n[0], n[1]))
-    }
-
-    fn has_name(&self) -> bool {
-        let name = &self.texts[..self.layer.name];
-        self.names[..2 * self.tile.layers].chunks(2).any(|n| {
-            let (start, len) = (n[0] as usize, n[1] as usize);
-            &self.bytes[start..start + len] == name
-        })
-    }
-
-    fn lent(&self) -> Memory {
-        Memory {
-            keys: Watched::holding(&self.keys),
-            values: Watched::holding(&self.values),
-            texts: Watched::holding(&self.texts),
-            features: Watched::holding(&self.features),
-            names: Watched::holding(&self.names),
-            bytes: Watched::holding(&self.bytes),
-        }
-    }
-}
-
 /// What a call said, and what it may say.
 struct Said {
     call: &'static str,
@@ -363,7 +252,7 @@ struct Said {
     back: bool,
     /// The figures after an accepted call lie within the lists.
     within: bool,
-    /// Which lists an accepted call may write.
+    /// Which lists an accepted call may write beyond what they are expected to hold.
     writes: &'static str,
 }
 
@@ -396,6 +285,19 @@ fn changed(
         back: given.layer == held.layer,
         within,
         writes,
+    }
+}
+
+/// Of a call whose whole answer and memory are known; whether the rest of its answer is as expected is told beside its refusal.
+fn foreseen(call: &'static str, refusal: u32, expected: u32, alike: bool) -> Said {
+    Said {
+        call,
+        refusal,
+        first: expected,
+        rest: &[],
+        back: alike,
+        within: alike,
+        writes: "",
     }
 }
 
@@ -438,130 +340,134 @@ fn tag(random: &mut Random, held: &Held, memory: &mut Memory) -> Said {
     changed(held, "tags", given, first, &[ROOM], "kvtf")
 }
 
-fn whole(random: &mut Random, held: &Held, memory: &mut Memory) -> Said {
-    let pool = text(random);
-    let mut tags = Vec::new();
-    for _ in 0..random.below(4) {
-        tags.extend(place(random, pool.len()));
-        tags.extend(value(random, pool.len()));
-    }
-    match random.below(6) {
-        0 => word(random, &mut tags),
-        1 => cut(random, &mut tags),
-        _ => {}
-    }
-    let head = Head {
-        kind: random.between(0, 4) as u32,
-        has_id: number(random),
-        id: random.next(),
-    };
-    let words: Vec<u32> = (0..random.below(4)).map(|_| number(random)).collect();
-    let good = |tag: &[u32]| {
-        tag.len() == 5 && inside(pool.len(), tag[0], tag[1]) && is_value(pool.len(), &tag[2..])
-    };
-    let first = if !tags.chunks(5).all(good) {
-        JOB
-    } else if !(1..=3).contains(&head.kind) {
-        KIND
-    } else {
-        state_or_turn(held, 0)
-    };
-    let (mut lists, _) = memory.lent();
-    let given = held
-        .layer
-        .add_feature(head, &words, &tags, &pool, &mut lists);
-    changed(held, "whole features", given, first, &[TEXT, ROOM], "kvtf")
-}
+const WHOLE: &str = "whole features";
+const SEVERAL: &str = "several features at once";
 
-const SEVERAL: &str = "several features, against one by one";
-
-/// Several features by one call: what they answer and write must be what they do one by one, whatever the indexes hold.
-fn several(random: &mut Random, held: &Held, memory: &mut Memory) -> Said {
-    let pool = text(random);
-    let (mut heads, mut words, mut tags) = (Vec::new(), Vec::new(), Vec::new());
-    for _ in 0..random.below(4) {
-        let (w, t) = (random.below(4), random.below(4));
-        let kind = 1 + (number(random) % 3) * (number(random) % 2);
-        heads.extend([kind, number(random) % 2, number(random), number(random)]);
-        heads.extend([w as u32, 5 * t as u32]);
-        words.extend((0..w).map(|_| number(random)));
-        for _ in 0..t {
-            tags.extend(place(random, pool.len()));
-            tags.extend(value(random, pool.len()));
+/// So many features, some of them of no kind.
+fn features(random: &mut Random, count: usize) -> Together {
+    let mut given = Together {
+        bytes: text(random),
+        ..Together::default()
+    };
+    for _ in 0..count {
+        let (words, tags) = (random.below(4), random.below(6));
+        let kind = random.pick(&[1, 1, 2, 2, 3, 3, 3, 1, 2, 0, 4, 1 << 31]);
+        given.heads.extend([kind, number(random) % 2]);
+        given.heads.extend([number(random), number(random)]);
+        given.heads.extend([words as u32, 5 * tags as u32]);
+        given.words.extend((0..words).map(|_| number(random)));
+        for _ in 0..tags {
+            given.tags.extend(place(random, given.bytes.len()));
+            given.tags.extend(value(random, given.bytes.len()));
         }
     }
+    given
+}
+
+/// Their lists spoiled now and then.
+fn spoiled(random: &mut Random, mut given: Together) -> Together {
     match random.below(12) {
-        0 => word(random, &mut heads),
-        1 => cut(random, &mut heads),
-        2 => word(random, &mut tags),
-        3 => cut(random, &mut words),
+        0 => word(random, &mut given.heads),
+        1 => cut(random, &mut given.heads),
+        2 => word(random, &mut given.tags),
+        3 => cut(random, &mut given.words),
         _ => {}
     }
-    let mut alone = held.lent();
-    let (refusal, layer, count) = one_by_one(held.layer, &heads, &words, &tags, &pool, &mut alone);
-    let rooms = [held.keys.len() / 2, held.values.len() / 3];
-    let mut indexes = rooms.map(|room| Watched::new(many::words(room, random.below(4))));
+    given
+}
+
+/// A whole feature: what it answers and all that it writes is as the rules say.
+fn whole(random: &mut Random, held: &Held, memory: &mut Memory, given: &Together) -> Said {
+    let cut = random.below(24);
+    let feature = Whole {
+        head: Head {
+            kind: given.heads[0],
+            // Every number but 0 says that there is an id.
+            has_id: number(random),
+            id: random.next(),
+        },
+        words: &given.words,
+        tags: &given.tags[..given
+            .tags
+            .len()
+            .saturating_sub(if cut < 4 { cut } else { 0 })],
+        bytes: &given.bytes,
+    };
+    let mut after = held.clone();
+    let refusal = after.put(&feature);
+    after.expected_of(memory);
     let (mut lists, _) = memory.lent();
-    let [keys, values] = &mut indexes;
+    let Whole {
+        head,
+        words,
+        tags,
+        bytes,
+    } = feature;
+    let said = held.layer.add_feature(head, words, tags, bytes, &mut lists);
+    foreseen(WHOLE, said.refusal, refusal, said.layer == after.layer)
+}
+
+/// Several features by one call: the same, and the number accepted and every word of the indexes too.
+fn several(random: &mut Random, held: &Held, memory: &mut Memory, given: &Together) -> Said {
+    let mut after = held.clone();
+    let (refusal, count) = after.put_all(&given.given());
+    after.expected_of(memory);
+    let rooms = [held.keys.len() / 2, held.values.len() / 3];
+    let [mut keys, mut values] = rooms.map(|room| Watched::new(many::words(room, random.below(4))));
+    let (mut lists, _) = memory.lent();
     let mut lent = Indexes {
         keys: keys.lent(),
         values: values.lent(),
     };
-    let given = Features {
-        heads: &heads,
-        words: &words,
-        tags: &tags,
-        bytes: &pool,
-    };
-    let said = held.layer.add_features(given, &mut lists, &mut lent);
-    let (written, _) = alone.lent();
-    let alike = (said.refusal, said.layer, said.count) == (refusal, layer, count)
-        && lists.keys == written.keys
-        && lists.values == written.values
-        && lists.texts == written.texts
-        && lists.features == written.features
-        && indexes.iter().all(|index| index.kept(0));
-    Said {
-        call: SEVERAL,
-        refusal: said.refusal,
-        first: refusal,
-        rest: &[],
-        back: alike,
-        within: alike,
-        writes: "kvtf",
+    let said = held
+        .layer
+        .add_features(given.given(), &mut lists, &mut lent);
+    if count > 0 {
+        many::expect_keys(&mut keys, memory, after.layer.used);
+        many::expect_values(&mut values, memory, after.layer.used);
     }
+    let indexed = keys.differs("").or(values.differs("")).is_none();
+    let alike = (said.layer, said.count) == (after.layer, count) && indexed;
+    foreseen(SEVERAL, said.refusal, refusal, alike)
 }
 
-/// JOB where the heads do not tell all the words, else each feature by its own call up to the first that is refused.
-fn one_by_one(
-    given: Layer,
-    heads: &[u32],
-    words: &[u32],
-    tags: &[u32],
-    pool: &[u8],
-    memory: &mut Memory,
-) -> (u32, Layer, usize) {
-    let sum = |at: usize| heads.chunks(6).map(|head| head[at] as usize).sum::<usize>();
-    let whole = heads.len() % 6 == 0 && heads.chunks(6).all(|head| head[1] <= 1);
-    if !whole || sum(4) != words.len() || sum(5) != tags.len() {
-        return (JOB, given, 0);
+/// A valid layer without an open feature, with lists about as long as these features need: all just long enough, or one of them too short by an element or an entry.
+fn near(random: &mut Random, given: &Together) -> Held {
+    let mut held = valid(random);
+    while held.layer.is_open == 1 {
+        held = valid(random);
     }
-    let (mut layer, mut count, mut w, mut t) = (given, 0, 0, 0);
-    for head in heads.chunks(6) {
-        let (w_end, t_end) = (w + head[4] as usize, t + head[5] as usize);
-        let first = Head {
-            kind: head[0],
-            has_id: head[1],
-            id: u64::from(head[2]) | u64::from(head[3]) << 32,
-        };
-        let (mut lists, _) = memory.lent();
-        let one = layer.add_feature(first, &words[w..w_end], &tags[t..t_end], pool, &mut lists);
-        if one.refusal != 0 {
-            return (one.refusal, layer, count);
+    let used = held.layer.used;
+    let lengths = |used: Figures| [2 * used.keys, 3 * used.values, used.texts, used.features];
+    let least = lengths(used);
+    let all = given.heads.len() + given.words.len() + given.tags.len();
+    resized(
+        random,
+        &mut held,
+        least.map(|length| length + all + 1_026 * given.tags.len()),
+    );
+    let mut after = held.clone();
+    after.put_all(&given.given());
+    let mut rooms = lengths(after.layer.used);
+    let short = random.below(8);
+    for (list, room) in rooms.iter_mut().enumerate() {
+        if list == short {
+            *room = room.saturating_sub(1 + random.below(3)).max(least[list]);
+        } else {
+            *room += random.pick(&[0, 0, 0, 1, 2, 3]);
         }
-        (layer, count, w, t) = (one.layer, count + 1, w_end, t_end);
     }
-    (0, layer, count)
+    resized(random, &mut held, rooms);
+    held
+}
+
+/// The four lists get these lengths; what is new holds anything.
+fn resized(random: &mut Random, held: &mut Held, rooms: [usize; 4]) {
+    let fill = number(random);
+    held.keys.resize(rooms[0], fill);
+    held.values.resize(rooms[1], fill);
+    held.texts.resize(rooms[2], fill as u8);
+    held.features.resize(rooms[3], fill);
 }
 
 fn open(random: &mut Random, held: &Held, memory: &mut Memory) -> Said {
@@ -660,9 +566,20 @@ fn ask(random: &mut Random, held: &Held, memory: &mut Memory) -> Said {
 
 fn call(random: &mut Random, held: &Held, memory: &mut Memory) -> Said {
     match random.below(14) {
-        12 | 13 => several(random, held, memory),
+        12 | 13 => {
+            let count = random.below(4);
+            let given = features(random, count);
+            let given = spoiled(random, given);
+            several(random, held, memory, &given)
+        }
         0..=2 => tag(random, held, memory),
-        3 | 4 => whole(random, held, memory),
+        3 | 4 => {
+            let mut given = features(random, 1);
+            if random.chance(6) {
+                word(random, &mut given.tags);
+            }
+            whole(random, held, memory, &given)
+        }
         5 => open(random, held, memory),
         6 => {
             let (mut lists, _) = memory.lent();
@@ -714,58 +631,68 @@ fn wrong(said: &Said, held: &Held, memory: &Memory) -> Option<String> {
     }
     if refusal != 0 && !said.back {
         return Some(format!(
-            "{call}: refusal {refusal} does not give the state back"
+            "{call}: refusal {refusal}, but the state, the count or an index is not as expected"
         ));
     }
     if refusal == 0 && !said.within {
-        return Some(format!("{call}: a figure exceeds its list"));
+        return Some(format!(
+            "{call}: accepted, but a figure, the count or an index is not as expected"
+        ));
     }
-    // What stays: all of a list that is not written; of one that a refused feature has begun to write the used part; the guards.
-    let begun = refusal != 0 && (call == "whole features" && said.first == 0 || call == SEVERAL);
-    let stays = |list: char, room: usize, used: usize| {
-        if !said.writes.contains(list) || refusal != 0 && !begun {
+    // As expected is all of a list that the call does not write, and of every list where it is refused; and the guards.
+    let stays = |list: char, room: usize| {
+        if refusal != 0 || !said.writes.contains(list) {
             room
-        } else if begun {
-            used
         } else {
             0
         }
     };
-    let used = held.layer.used;
     let kept = [
-        memory
-            .keys
-            .kept(stays('k', held.keys.len(), used.keys.saturating_mul(2))),
-        memory
-            .values
-            .kept(stays('v', held.values.len(), used.values.saturating_mul(3))),
-        memory.texts.kept(stays('t', held.texts.len(), used.texts)),
-        memory
-            .features
-            .kept(stays('f', held.features.len(), used.features)),
-        memory.names.kept(stays('n', held.names.len(), 0)),
-        memory.bytes.kept(stays('b', held.bytes.len(), 0)),
+        memory.keys.kept(stays('k', held.keys.len())),
+        memory.values.kept(stays('v', held.values.len())),
+        memory.texts.kept(stays('t', held.texts.len())),
+        memory.features.kept(stays('f', held.features.len())),
+        memory.names.kept(stays('n', held.names.len())),
+        memory.bytes.kept(stays('b', held.bytes.len())),
     ];
     (kept != [true; 6]).then(|| format!("{call}: refusal {refusal}, lists kept: {kept:?}"))
 }
 
+/// A case: the layer, tile and lists, how they were made, what the call said, and the lists after it.
+fn case(random: &mut Random) -> (Held, &'static str, Said, Memory) {
+    let (held, how) = match random.below(9) {
+        0 => (wild(random), "nothing that fits together"),
+        1 | 2 => (valid(random), "valid"),
+        3 => {
+            let count = 1 + random.below(3);
+            let given = features(random, count);
+            let held = near(random, &given);
+            let mut memory = held.lent();
+            let said = if count == 1 {
+                whole(random, &held, &mut memory, &given)
+            } else {
+                several(random, &held, &mut memory, &given)
+            };
+            return (held, "valid, about as long as features need", said, memory);
+        }
+        _ => {
+            let mut held = valid(random);
+            for _ in 0..1 + random.below(2) {
+                damage(random, &mut held);
+            }
+            (held, "damaged")
+        }
+    };
+    let mut memory = held.lent();
+    let said = call(random, &held, &mut memory);
+    (held, how, said, memory)
+}
+
 pub fn run(seed: u64, count: usize, tally: &mut Tally) -> Option<Difference> {
     for at in 0..count {
-        let case = seed.wrapping_add(at as u64);
-        let mut random = Random::new(case.wrapping_mul(0xD134_2543_DE82_EF95));
-        let (held, how) = match random.below(8) {
-            0 => (wild(&mut random), "nothing that fits together"),
-            1 | 2 => (valid(&mut random), "valid"),
-            _ => {
-                let mut held = valid(&mut random);
-                for _ in 0..1 + random.below(2) {
-                    damage(&mut random, &mut held);
-                }
-                (held, "damaged")
-            }
-        };
-        let mut memory = held.lent();
-        let said = call(&mut random, &held, &mut memory);
+        let number = seed.wrapping_add(at as u64);
+        let mut random = Random::new(number.wrapping_mul(0xD134_2543_DE82_EF95));
+        let (held, how, said, memory) = case(&mut random);
         if let Some(what) = wrong(&said, &held, &memory) {
             return Some(Difference {
                 what,
@@ -779,6 +706,9 @@ pub fn run(seed: u64, count: usize, tally: &mut Tally) -> Option<Difference> {
         tally.add(how, 1);
         tally.add(said.call, 1);
         tally.add(NAMES[said.refusal as usize], 1);
+        if [WHOLE, SEVERAL].contains(&said.call) {
+            tally.add(OF_WHOLE[said.refusal as usize], 1);
+        }
     }
     None
 }
@@ -786,4 +716,23 @@ pub fn run(seed: u64, count: usize, tally: &mut Tally) -> Option<Difference> {
 const NAMES: [&str; 15] = [
     "accepted", "JOB", "KIND", "", "STATE", "", "", "ROOM", "", "", "", "TEXT", "TURN", "EXTENT",
     "NAME",
+];
+
+/// The same of the calls that take whole features.
+const OF_WHOLE: [&str; 15] = [
+    "features accepted",
+    "features JOB",
+    "features KIND",
+    "",
+    "features STATE",
+    "",
+    "",
+    "features ROOM",
+    "",
+    "",
+    "",
+    "features TEXT",
+    "features TURN",
+    "",
+    "",
 ];

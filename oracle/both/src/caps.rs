@@ -1,22 +1,22 @@
 //! A layer that is one entry short of the most keys or values: one more is accepted, another is refused as ROOM though the lists have room, and one that is there is found.
-//! The Rust has no such cap, so this is document 01's word alone.
+//! The same with whole features. The Rust has no such cap, so this is document 01's word alone.
 
+use crate::held::Held;
+use crate::judge::ROOM;
 use crate::lent::Watched;
+use crate::many::{self, Together};
 use crate::report::{Difference, Tally};
-use crate::tile_judge::Memory;
-use ours::tiles::{Changed, Figures, Layer, Value};
-
-const MOST: usize = 65_536;
-const ROOM: u32 = 7;
+use crate::tile_judge::MAX_ENTRIES as MOST;
+use ours::tiles::{Changed, Figures, Head, Indexes, Layer, Tile, Value};
 
 /// A layer with a feature open and so many entries of each kind; the keys are all empty, the values uints that ascend from 0.
-fn full(keys: usize, values: usize) -> (Layer, Memory) {
+fn full(keys: usize, values: usize) -> Held {
     let mut key_words = vec![0; 2 * keys];
     key_words.resize(2 * (MOST + 4), 9);
     let mut value_words: Vec<u32> = (0..values as u32).flat_map(|n| [5, n, 0]).collect();
     value_words.resize(3 * (MOST + 4), 9);
     let mut features = vec![1, 0, 0, 0, 0, 0];
-    features.resize(20, 9);
+    features.resize(60, 9);
     let used = Figures {
         keys,
         values,
@@ -34,15 +34,25 @@ fn full(keys: usize, values: usize) -> (Layer, Memory) {
         used,
         since,
     };
-    let memory = Memory {
-        keys: Watched::holding(&key_words),
-        values: Watched::holding(&value_words),
-        texts: Watched::holding(&[9; 8]),
-        features: Watched::holding(&features),
-        names: Watched::new(0),
-        bytes: Watched::new(0),
-    };
-    (layer, memory)
+    Held {
+        layer,
+        tile: Tile::default(),
+        keys: key_words,
+        values: value_words,
+        texts: vec![9; 8],
+        features,
+        names: Vec::new(),
+        bytes: Vec::new(),
+    }
+}
+
+/// One entry short of the most keys, or of the most values.
+fn one_short(by_key: bool) -> Held {
+    if by_key {
+        full(MOST - 1, 1)
+    } else {
+        full(1, MOST - 1)
+    }
 }
 
 /// What a tag is expected to do.
@@ -80,10 +90,8 @@ fn steps(by_key: bool) -> [Step; 4] {
 }
 
 fn wrong(by_key: bool) -> Option<String> {
-    let (mut layer, mut memory) = full(
-        if by_key { MOST - 1 } else { 1 },
-        if by_key { 1 } else { MOST - 1 },
-    );
+    let held = one_short(by_key);
+    let (mut layer, mut memory) = (held.layer, held.lent());
     for (at, step) in steps(by_key).into_iter().enumerate() {
         let mut wanted = Changed {
             refusal: step.refusal,
@@ -120,15 +128,90 @@ fn wrong(by_key: bool) -> Option<String> {
     None
 }
 
+/// Whole features with such tags, and what each is expected to answer: two keys or values that are new have no room, one that comes twice has.
+fn features(by_key: bool) -> [(Vec<u32>, u32); 4] {
+    let tag = |key: u32, value: u32| [key, 1, 5, value, 0];
+    let tags = |entries: [u32; 2]| {
+        if by_key {
+            entries.map(|at| tag(at, 0)).concat()
+        } else {
+            entries.map(|at| tag(0, 99_998 + at)).concat()
+        }
+    };
+    // The keys are the bytes of "ab"; where values are counted the one key "a" is new and comes again.
+    [
+        (tags([0, 1]), ROOM),
+        (tags([1, 1]), 0),
+        (tags([1, 0]), ROOM),
+        (tags([1, 1]), 0),
+    ]
+}
+
+/// The same through the calls that take whole features, with indexes lent, with none, and one feature by its own call.
+fn wrong_whole(by_key: bool, how: usize) -> Option<String> {
+    let mut held = one_short(by_key);
+    held.layer.is_open = 0;
+    let mut memory = held.lent();
+    for (at, (tags, refusal)) in features(by_key).into_iter().enumerate() {
+        let head = Head {
+            kind: 1,
+            has_id: 0,
+            id: 0,
+        };
+        let mut together = Together::default();
+        together.push(head, &[], &tags, b"ab");
+        let before = held.layer;
+        let (expected, count) = held.put_all(&together.given());
+        assert_eq!(expected, refusal, "step {at} by the rules");
+        held.expected_of(&mut memory);
+        let words = if how == 1 { 2 * MOST } else { 0 };
+        let (mut keys, mut values) = (Watched::new(words), Watched::new(words));
+        let (mut lists, _) = memory.lent();
+        let given = if how == 2 {
+            before.add_feature(head, &[], &tags, b"ab", &mut lists)
+        } else {
+            let mut indexes = Indexes {
+                keys: keys.lent(),
+                values: values.lent(),
+            };
+            let said = before.add_features(together.given(), &mut lists, &mut indexes);
+            if said.count != count {
+                return Some(format!("step {at}: {} accepted", said.count));
+            }
+            Changed {
+                refusal: said.refusal,
+                layer: said.layer,
+            }
+        };
+        if count > 0 && how < 2 {
+            many::expect_keys(&mut keys, &memory, held.layer.used);
+            many::expect_values(&mut values, &memory, held.layer.used);
+        }
+        if (given.refusal, given.layer) != (refusal, held.layer) {
+            return Some(format!("feature {at}: ours {given:?}, expected {refusal}"));
+        }
+        let differs = memory
+            .differs()
+            .or_else(|| keys.differs("keys' index"))
+            .or_else(|| values.differs("values' index"));
+        if let Some(differs) = differs {
+            return Some(format!("after feature {at}: {differs}"));
+        }
+    }
+    None
+}
+
 pub fn compare(tally: &mut Tally) -> Option<Difference> {
     for (by_key, what) in [(true, "keys"), (false, "values")] {
-        if let Some(found) = wrong(by_key) {
+        let found = wrong(by_key).or_else(|| (0..3).find_map(|how| wrong_whole(by_key, how)));
+        if let Some(found) = found {
             return Some(Difference {
                 what: found,
                 input: format!("a layer one short of the most {what}"),
             });
         }
         tally.add("tags at the most keys or values", 4);
+        tally.add("whole features there", 12);
     }
     None
 }

@@ -1,10 +1,8 @@
 //! The lists by which many features go in by one call, and what the indexes lent to it are expected to hold after it.
 
 use crate::lent::Watched;
-use crate::tile_judge::Memory;
-use ours::tiles::{Figures, Head};
-
-const MAX_ENTRIES: usize = 65_536;
+use crate::tile_judge::{Memory, MAX_ENTRIES};
+use ours::tiles::{Features, Figures, Head};
 
 /// Features one behind the other, as one call takes them.
 #[derive(Default)]
@@ -29,6 +27,15 @@ impl Together {
                 .extend([tag[0] + from, tag[1], tag[2], tag[3] + text, tag[4]]);
         }
         self.bytes.extend(bytes);
+    }
+
+    pub fn given(&self) -> Features<'_> {
+        Features {
+            heads: &self.heads,
+            words: &self.words,
+            tags: &self.tags,
+            bytes: &self.bytes,
+        }
     }
 }
 

@@ -13,9 +13,9 @@ pub const EXTENT: u32 = 13;
 pub const NAME: u32 = 14;
 
 /// The most bytes of a text, from document 01.
-const TEXT_LIMIT: usize = 1_024;
+pub const TEXT_LIMIT: usize = 1_024;
 /// The most keys of a layer, and the most values.
-const MAX_ENTRIES: usize = 65_536;
+pub const MAX_ENTRIES: usize = 65_536;
 
 /// The lengths of the lists: keys, values, texts, features, names, bytes.
 pub type Rooms = [usize; 6];
@@ -245,6 +245,47 @@ impl TileJudge {
             self.ask(operation);
         }
         refusal
+    }
+
+    /// What a whole feature is refused for, or 0: KIND, TEXT, TURN, and last ROOM, of exactly what it needs. A key or a value that comes twice in it is stored once.
+    pub fn refuses_whole(
+        &self,
+        kind: u32,
+        words: usize,
+        tags: &[(&[u8], &Value)],
+        memory: &Memory,
+    ) -> u32 {
+        let long = |text: &[u8]| text.len() > TEXT_LIMIT;
+        if !(1..=3).contains(&kind) {
+            return KIND;
+        }
+        if tags
+            .iter()
+            .any(|(key, value)| long(key) || long(value.text()))
+        {
+            return TEXT;
+        }
+        if self.layer.is_open == 1 {
+            return TURN;
+        }
+        let mut need = self.layer.used;
+        need.features += 6 + words + 2 * tags.len();
+        let (mut keys, mut values) = (self.keys.clone(), self.values.clone());
+        for (key, value) in tags {
+            if !keys.iter().any(|known| known == key) {
+                keys.push(key.to_vec());
+                need.texts += key.len();
+            }
+            if !values.contains(&shared(value)) {
+                values.push(shared(value));
+                need.texts += value.text().len();
+            }
+        }
+        (need.keys, need.values) = (keys.len(), values.len());
+        if words > MAX_WORDS || !memory.holds(need) {
+            return ROOM;
+        }
+        0
     }
 
     /// Puts an accepted operation to the Rust.

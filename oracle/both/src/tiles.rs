@@ -3,12 +3,13 @@
 use crate::caps;
 use crate::lent::Watched;
 use crate::many::{self, Together};
+use crate::near;
 use crate::random::Random;
 use crate::report::{Difference, Tally};
 use crate::scripts::{self, Operation, Value};
 use crate::shrink;
 use crate::tile_judge::{Memory, Rooms, TileJudge};
-use ours::tiles::{self, Features, Head, Indexes, Layer, Tile};
+use ours::tiles::{self, Head, Indexes, Layer, Tile};
 
 #[derive(Clone, Debug)]
 struct Script {
@@ -18,6 +19,8 @@ struct Script {
     rooms: Rooms,
     /// Features that are opened and closed go through the call that takes a whole one.
     whole: bool,
+    /// By which call they go, and which indexes are lent, starts with this turn.
+    turn: usize,
 }
 
 /// What was compared.
@@ -127,19 +130,25 @@ struct Run {
     layer: Layer,
     tile: Tile,
     counts: Counts,
+    /// The turn at the first call.
+    turn: usize,
     spoil: bool,
 }
 
 impl Run {
+    fn turn(&self) -> usize {
+        self.turn + self.counts.calls
+    }
+
     /// One call of ours: its refusal, and the layer and the tile after it.
     fn ours(&mut self, operation: &Operation) -> (u32, Layer, Tile) {
-        let (layer, tile) = (self.layer, self.tile);
+        let (layer, tile, turn) = (self.layer, self.tile, self.turn());
         let (mut lists, mut tile_lists) = self.memory.lent();
         let lent = &mut lists;
         let changed = match operation {
             Operation::Create(extent, name) => {
                 // Both ways to a layer, by turns where both are one.
-                let made = if *extent == tile.extent && self.counts.calls % 2 == 0 {
+                let made = if *extent == tile.extent && turn % 2 == 0 {
                     tile.create_layer(name, lent.texts)
                 } else {
                     tiles::layer(name, *extent, lent.texts)
@@ -186,7 +195,7 @@ impl Run {
         features: &[Feature],
     ) -> Result<(usize, u32, (u32, Layer, Tile)), String> {
         // Which indexes are lent changes from call to call and from script to script.
-        let turn = self.counts.calls + self.memory.features.room();
+        let turn = self.turn() + self.memory.features.room();
         let (mut accepted, mut refusal) = (0, 0);
         for feature in features {
             refusal = self.judged_whole(feature);
@@ -207,21 +216,20 @@ impl Run {
             keys: keys.lent(),
             values: values.lent(),
         };
-        let given = Features {
-            heads: &together.heads,
-            words: &together.words,
-            tags: &together.tags,
-            bytes: &together.bytes,
-        };
-        let said = self.layer.add_features(given, &mut lists, &mut indexes);
+        let said = self
+            .layer
+            .add_features(together.given(), &mut lists, &mut indexes);
         if said.count != accepted {
             return Err(format!(
                 "{} features accepted, expected {accepted}",
                 said.count
             ));
         }
-        many::expect_keys(&mut keys, &self.memory, self.judge.layer.used);
-        many::expect_values(&mut values, &self.memory, self.judge.layer.used);
+        // Without an accepted feature they stay.
+        if accepted > 0 {
+            many::expect_keys(&mut keys, &self.memory, self.judge.layer.used);
+            many::expect_values(&mut values, &self.memory, self.judge.layer.used);
+        }
         if let Some(differs) = keys
             .differs("keys' index")
             .or(values.differs("values' index"))
@@ -232,20 +240,19 @@ impl Run {
         Ok((accepted, refusal, (said.refusal, said.layer, self.tile)))
     }
 
-    /// What a whole feature is expected to answer: its calls up to the first that is refused, and then the layer as it was.
+    /// What a whole feature is expected to answer. A refused one changes nothing; an accepted one is what its calls make, which are all accepted.
     fn judged_whole(&mut self, feature: &Feature) -> u32 {
-        let before = self.judge.layer;
-        for (at, call) in feature.calls().iter().enumerate() {
-            let refusal = self.judge.perform(call, &mut self.memory);
-            if refusal != 0 {
-                if at > 0 {
-                    self.judge.perform(&Operation::Abandon, &mut self.memory);
-                }
-                assert_eq!(self.judge.layer, before, "a feature is abandoned");
-                return refusal;
+        let (kind, words) = (feature.kind, feature.words.len());
+        let refusal = self
+            .judge
+            .refuses_whole(kind, words, &feature.tags, &self.memory);
+        if refusal == 0 {
+            for call in feature.calls() {
+                let refused = self.judge.perform(&call, &mut self.memory);
+                assert_eq!(refused, 0, "{call:?} of a feature that is accepted");
             }
         }
-        0
+        refusal
     }
 
     fn compared(
@@ -314,16 +321,13 @@ fn run(script: &Script, spoil: bool) -> Result<Counts, String> {
         layer: Layer::default(),
         tile: tiles::tile(script.extent),
         counts: Counts::default(),
+        turn: script.turn,
         spoil,
     };
     let mut at = 0;
     while at < script.operations.len() {
         let rest = &script.operations[at..];
-        let most = if script.whole {
-            1 + run.counts.calls % 4
-        } else {
-            0
-        };
+        let most = if script.whole { 1 + run.turn() % 4 } else { 0 };
         let features = Feature::several(rest, most);
         let operation = &rest[0];
         let what = format!("operation {}", at + 1);
@@ -340,7 +344,7 @@ fn run(script: &Script, spoil: bool) -> Result<Counts, String> {
                     run.ours(operation),
                 )
             }
-            [feature] if run.counts.calls % 2 == 0 => {
+            [feature] if run.turn() % 2 == 0 => {
                 run.counts.whole += 1;
                 at += feature.operations;
                 (run.judged_whole(feature), run.ours_whole(feature))
@@ -603,14 +607,23 @@ fn held_against(
         operations,
         rooms,
         whole: at % 4 == 1,
+        turn: 0,
     };
+    let how = ["with enough room", "with just enough", "with little room"][at % 3];
+    tallied(script, how, spoil, tally)
+}
+
+/// A script run and counted, or the smallest that differs.
+fn tallied(
+    script: Script,
+    how: &'static str,
+    spoil: bool,
+    tally: &mut Tally,
+) -> Option<Difference> {
     match tried(&script, spoil) {
         Ok(counts) => {
             tally.add("scripts", 1);
-            tally.add(
-                ["with enough room", "with just enough", "with little room"][at % 3],
-                1,
-            );
+            tally.add(how, 1);
             tally.add("calls", counts.calls);
             tally.add("of them whole features", counts.whole);
             tally.add("of them several features at once", counts.many);
@@ -636,7 +649,48 @@ fn held_against(
     }
 }
 
-/// The fixed and the large scripts in each of the three rooms, with single calls and whole features; the widest ones and the caps; then the random ones.
+/// Scripts of whole features alone, in lists just as long as they need and in shorter ones.
+fn near_full(seed: u64, count: usize, spoil: bool, tally: &mut Tally) -> Option<Difference> {
+    let mut random = Random::new(seed ^ 0xF011);
+    for _ in 0..count {
+        let (operations, turn) = (near::script(&mut random), random.below(16));
+        for rooms in near::rooms(peaks(4096, &operations)) {
+            let script = Script {
+                extent: 4096,
+                operations: operations.clone(),
+                rooms,
+                whole: true,
+                turn,
+            };
+            let how = "of whole features, with just enough or up to three elements less";
+            if let Some(found) = tallied(script, how, spoil, tally) {
+                return Some(found);
+            }
+        }
+    }
+    None
+}
+
+/// A geometry that is too wide though there is room for it, by its own call and as a whole feature.
+fn too_wide(spoil: bool, tally: &mut Tally) -> Option<Difference> {
+    for operations in scripts::widest_tiles() {
+        for turn in 0..4 {
+            let script = Script {
+                extent: 4096,
+                rooms: bounds(&operations),
+                operations: operations.clone(),
+                whole: turn > 0,
+                turn,
+            };
+            if let Some(found) = tallied(script, "with enough room", spoil, tally) {
+                return Some(found);
+            }
+        }
+    }
+    None
+}
+
+/// The fixed and the large scripts in each of the three rooms, with single calls and whole features; the widest ones and the caps; whole features in lists that are nearly full; then the random ones.
 pub fn compare(seed: u64, count: usize, spoil: bool, tally: &mut Tally) -> Option<Difference> {
     let mut rooms = Random::new(seed ^ 0x5EED);
     for file in scripts::fixed_tiles()
@@ -657,8 +711,11 @@ pub fn compare(seed: u64, count: usize, spoil: bool, tally: &mut Tally) -> Optio
             }
         }
     }
-    if let Some(found) = caps::compare(tally) {
-        return Some(found);
+    let found = too_wide(spoil, tally)
+        .or_else(|| caps::compare(tally))
+        .or_else(|| near_full(seed, count / 10, spoil, tally));
+    if found.is_some() {
+        return found;
     }
     let mut random = Random::new(seed);
     for at in 0..count {
