@@ -1,12 +1,12 @@
 // Replays tile scripts: prints for each script what the program `tiles` prints for it, its outcomes and the tile's bytes; then the key and value index of
 // every accepted tag on a line.
-use tile_run::hand::Hand;
 use replay::number;
 use script::Next;
 use script::Op;
 use script::Part;
 use tile::Tile;
 use tile_run::Ran;
+use tile_run::hand::Hand;
 use tile_run::performing::Performed;
 use tile_run::performing::Work;
 

@@ -95,7 +95,13 @@ pub(crate) fn set_id(
 }
 
 // Completes the open feature.
-pub(crate) fn close(h: Hand, keys: &[u32], values: &[u32], texts: &[u8], features: &[u32]) -> Handled
+pub(crate) fn close(
+    h: Hand,
+    keys: &[u32],
+    values: &[u32],
+    texts: &[u8],
+    features: &[u32],
+) -> Handled
     ensures { λ r. ⌜ Handles intoLayer h r keys values texts features ⌝ }
 {
     match h {
@@ -105,7 +111,13 @@ pub(crate) fn close(h: Hand, keys: &[u32], values: &[u32], texts: &[u8], feature
 }
 
 // Abandons the open feature.
-pub(crate) fn abandon(h: Hand, keys: &[u32], values: &[u32], texts: &[u8], features: &[u32]) -> Handled
+pub(crate) fn abandon(
+    h: Hand,
+    keys: &[u32],
+    values: &[u32],
+    texts: &[u8],
+    features: &[u32],
+) -> Handled
     ensures { λ r. ⌜ Handles abandoned h r keys values texts features ⌝ }
 {
     match h {

@@ -119,7 +119,10 @@ pub fn perform(
                 crate::hand::open(h, kind, run, keys, values, texts, features),
             )
         }
-        Op::SetId(id) => keep(tile, crate::hand::set_id(h, id, keys, values, texts, features)),
+        Op::SetId(id) => keep(
+            tile,
+            crate::hand::set_id(h, id, keys, values, texts, features),
+        ),
         Op::Tag(key, v) => {
             let text = script::text(bytes, key);
             keep(
