@@ -69,7 +69,7 @@ addAll n (kind ∷ mark ∷ low ∷ high ∷ w ∷ t ∷ hs) words ws bytes s m 
     andNext (addFeature (headOf kind mark low high) (take w words) (take t ws) bytes (seen s m)) s m n
     (λ u l. addAll (suc n) hs (drop w words) (drop t ws) bytes u l)
 
--- JOB, where the heads are none or do not tell all the words; else the features
+-- JOB, where the words lent as heads are not heads or do not tell all the words; else the features. An empty list is well formed: it has no features.
 abbrev pub addFeatures : List ℕ → List ℕ → List ℕ → List ℕ → Layer → Memory → Written (Said Many) Memory
 addFeatures heads words ws bytes s m =
     cond (headsOk (length words) (length ws) heads) (addAll 0 heads words ws bytes s m) (kept (refused Job (record { layer = s; count = 0 })) m)
