@@ -3,3 +3,4 @@ pub mod Seen
 pub mod Rolled
 pub mod Odd
 pub mod Whole
+pub mod Later

@@ -150,7 +150,7 @@ module _ (v₀ : Seen) (L : valid v₀ ≡ true → Lengths v₀) (s : v₀ .lay
 
 -- later calls answer as if no feature had been opened, and leave what they would have left
 module _ (s : Layer) (m : Memory) (f : s .feature ≡ Shut) (since : List Call) (n : openEnded since ≡ true) (later : List Call) where
-  unseen : seen (layerAfter (since ++ (abandons ∷ [])) s m) (memoryAfter (since ++ (abandons ∷ [])) s m) ≡ seen s m
+  pub unseen : seen (layerAfter (since ++ (abandons ∷ [])) s m) (memoryAfter (since ++ (abandons ∷ [])) s m) ≡ seen s m
   unseen = after-seen (since ++ (abandons ∷ [])) s m ∙ rolled (seen s m) (seen-lengths s m) f since n
 
   pub rolled-back : answers later (layerAfter (since ++ (abandons ∷ [])) s m) (memoryAfter (since ++ (abandons ∷ [])) s m) ≡ answers later s m

@@ -39,7 +39,7 @@ cut-sized v e L =
       room = fits-yes o (v .room) (record { keys = omega (arith, W .keys, R .keys); values = omega (arith, W .values, R .values); texts = omega (arith, W .texts, R .texts); features = omega (arith, W .features, R .features) });
     }))
 
-sized : (c : Call) (v : Seen) → (valid v ≡ true → Lengths v) → All Sized (does c v) v
+pub sized : (c : Call) (v : Seen) → (valid v ≡ true → Lengths v) → All Sized (does c v) v
 sized (opens kind words) v L = fine-sized (does (opens kind words) v) v (good (opens kind words) v L (λ e. let z : _≡_ {A = ℕ} 0 1 = cc in omega arith))
 sized (marks low high) v L = fine-sized (does (marks low high) v) v (good (marks low high) v L (λ e. let z : _≡_ {A = ℕ} 0 1 = cc in omega arith))
 sized (tags t g) v L = fine-sized (does (tags t g) v) v (good (tags t g) v L (λ e. let z : _≡_ {A = ℕ} 0 1 = cc in omega arith))
@@ -50,7 +50,7 @@ sized abandons v L = by (valid v) refl
     by true e = cut-sized v e (L e)
     by false e = rw e tt
 
-seen-change : (x : Change) (s : Layer) (m : Memory) → All Sized x (seen s m) → seen (written x s m .answer .values) (written x s m .memory) ≡ next x (seen s m)
+pub seen-change : (x : Change) (s : Layer) (m : Memory) → All Sized x (seen s m) → seen (written x s m .answer .values) (written x s m .memory) ≡ next x (seen s m)
 seen-change (refuses r) s m S = refl
 seen-change (holds t h) s m S = seen-after t h m S
 
@@ -70,7 +70,7 @@ abbrev pub seenAfter : List Call → Seen → Seen
 seenAfter [] v = v
 seenAfter (c ∷ cs) v = seenAfter cs (next (does c v) v)
 
-answer-is : (x : Change) (s : Layer) (m : Memory) → written x s m .answer ≡ answerOf x s
+pub answer-is : (x : Change) (s : Layer) (m : Memory) → written x s m .answer ≡ answerOf x s
 answer-is (refuses r) s m = refl
 answer-is (holds t h) s m = refl
 
