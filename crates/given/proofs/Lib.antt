@@ -1,2 +1,6 @@
 pub mod FirstUse
 pub mod Numbers
+pub mod Alike
+pub mod Entries
+pub mod Values
+pub mod Records
