@@ -4,3 +4,4 @@ pub mod Alike
 pub mod Entries
 pub mod Values
 pub mod Records
+pub mod Holding
