@@ -5,3 +5,4 @@ pub mod Entries
 pub mod Values
 pub mod Records
 pub mod Holding
+pub mod Standing
