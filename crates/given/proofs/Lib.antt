@@ -6,3 +6,5 @@ pub mod Values
 pub mod Records
 pub mod Holding
 pub mod Standing
+pub mod Bytes
+pub mod Whole
