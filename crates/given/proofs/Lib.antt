@@ -8,3 +8,4 @@ pub mod Holding
 pub mod Standing
 pub mod Bytes
 pub mod Whole
+pub mod Runs

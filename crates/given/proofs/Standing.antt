@@ -20,7 +20,9 @@ use Rattle.layer.specs.declared.Open.the-variants.{Shut, Since}
 use Rattle.layer.specs.Held.{Memory, Seen, Change, holds, fits, heldBy, next}
 use Rattle.layer.specs.State.{valid}
 use Rattle.layer.specs.Calls.{Tag as Stored, isShut, moreWords, withUsed, withFeatures, recordWith, keyFound, valueFound, tagPut, tagPutBy}
-use Rattle.layer.proofs.Keeping.{All, by-check, by-open, is-shut}
+use Rattle.layer.proofs.Standing.{parts as valid-parts}
+use Rattle.layer.proofs.Keeping.{Lengths, All, sound, by-check, by-open, is-shut, opening-in}
+use Rattle.layer.proofs.Growth.{fits-before}
 use Rattle.tile.specs.Holding.{sameBytes}
 use Rattle.given.specs.Given.{Content, Tag, Feature, Drawing, Call, opens, identifies, tags, closes, abandons, same, among, placeOf, allTags, keysOf, valuesOf, drawn, fresh, identified, tagged, onOpen, completed, after}
 use Rattle.given.specs.Messages.{each, tagIndices}
@@ -29,7 +31,7 @@ use Rattle.given.proofs.FirstUse.{Met, met-left, met-right, all-met, ke
 use Rattle.given.proofs.Entries.{foundAt, keys-found}
 use Rattle.given.proofs.Values.{values-found}
 use Rattle.given.proofs.Records.{each-last, markOf, numberOf, recordOf, records-long}
-use Rattle.given.proofs.Holding.{Holds, HeldAs, record-held, record-cut, id-held, tag-held, tag-parts, cut-marked, cut-tagged}
+use Rattle.given.proofs.Holding.{HeldAs, key-words, value-words, record-held, record-cut, id-held, tag-held, tag-parts, cut-marked, cut-tagged}
 
 -- with a feature open, the lists hold it behind those completed, and up to the figures at opening they hold those completed
 abbrev pub OpenAs : Figures → ℕ → Memory → List ℕ → List Feature → Open → Option Feature → Type 0
@@ -141,28 +143,64 @@ module _ (v : Seen) (d : Drawing) (S : Stands v d) (o : Figures) (s : v .layer .
   pub abandoned-stands : Stands (next (holds (withUsed (v .layer) o Shut) (heldBy o (v .held))) v) (after abandons d)
   abandoned-stands = let (f, p, A, B) = there in record { extent-is = S .extent-is; parts = B }
 
--- ---- one law a call: where it is accepted, the drawing after it stands
-pub call-stands : (c : Call) → FineCall c → (v : Seen) (d : Drawing) → Stands v d → All (λ w. Stands w (after c d)) (asks c v) v
-call-stands (opens kind words) g v d S =
-    by-check (λ (x : Change). All (λ w. Stands w (after (opens kind words) d)) x v) (isKind kind) Kind _ tt (λ k.
-    by-check (λ (x : Change). All (λ w. Stands w (after (opens kind words) d)) x v) (valid v) State _ tt (λ e.
-    by-check (λ (x : Change). All (λ w. Stands w (after (opens kind words) d)) x v) (isShut (v .layer .feature)) Turn _ tt (λ f.
-    by-check (λ (x : Change). All (λ w. Stands w (after (opens kind words) d)) x v) (leb (length words) maxWords) Room _ tt (λ m.
-    by-check (λ (x : Change). All (λ w. Stands w (after (opens kind words) d)) x v) (fits (moreWords (v .layer .used) (6 + length words)) (v .room)) Room _ tt (λ h.
-    opened-stands v d S (is-shut (v .layer .feature) f) kind none words)))))
-call-stands (identifies n) g v d S =
-    by-check (λ (x : Change). All (λ w. Stands w (after (identifies n) d)) x v) (valid v) State _ tt (λ e.
-    by-open (λ (x : Change). All (λ w. Stands w (after (identifies n) d)) x v) (v .layer .feature) _ tt (λ o f. id-stands v d S o f n))
-call-stands (tags key c) g v d S =
-    by-check (λ (x : Change). All (λ w. Stands w (after (tags key c) d)) x v) (valid v) State _ tt (λ e.
-    by-check (λ (x : Change). All (λ w. Stands w (after (tags key c) d)) x v) (shortText (length (tagOf key c .key))) TextRefusal _ tt (λ a.
-    by-check (λ (x : Change). All (λ w. Stands w (after (tags key c) d)) x v) (shortText (length (tagOf key c .text))) TextRefusal _ tt (λ b.
-    by-open (λ (x : Change). All (λ w. Stands w (after (tags key c) d)) x v) (v .layer .feature) _ tt (λ o f.
-    by-check (λ (x : Change). All (λ w. Stands w (after (tags key c) d)) x v) (fits (tagPut o (tagOf key c) v .layer .used) (v .room)) Room _ tt (λ h.
-    tag-stands v d S o f key c g)))))
-call-stands closes g v d S =
-    by-check (λ (x : Change). All (λ w. Stands w (after closes d)) x v) (valid v) State _ tt (λ e.
-    by-open (λ (x : Change). All (λ w. Stands w (after closes d)) x v) (v .layer .feature) _ tt (λ o f. closed-stands v d S o f))
-call-stands abandons g v d S =
-    by-check (λ (x : Change). All (λ w. Stands w (after abandons d)) x v) (valid v) State _ tt (λ e.
-    by-open (λ (x : Change). All (λ w. Stands w (after abandons d)) x v) (v .layer .feature) _ tt (λ o f. abandoned-stands v d S o f))
+-- ---- parts as long as the figures say
+pub stands-lengths : (v : Seen) (d : Drawing) → Stands v d → Lengths v
+stands-lengths v d S = by (v .layer .feature) (d .pending) (S .parts)
+  where
+    from : (fs : List Feature) → HeldAs (v .layer .used) (v .layer .name) (v .held) (d .name) fs → Lengths v
+    from fs H =
+        record {
+          keys = key-words (v .layer .used) (v .layer .name) (v .held) (d .name) (keysOf fs) (valuesOf fs) fs H;
+          values = value-words (v .layer .used) (v .layer .name) (v .held) (d .name) (keysOf fs) (valuesOf fs) fs H;
+          texts = H .text-count;
+          features = H .word-count;
+        }
+
+    by : (x : Open) (y : Option Feature) → OpenAs (v .layer .used) (v .layer .name) (v .held) (d .name) (d .features) x y → Lengths v
+    by Shut none P = from (d .features) P
+    by Shut (some f) P = absurd P
+    by (Since o) none P = absurd P
+    by (Since o) (some f) P = from (d .features ++ (f ∷ [])) (P .0)
+
+-- ---- one law a call: where it is accepted, the drawing after it stands, within the room
+pub record Stays (w : Seen) (d : Drawing) : Type 0 where
+  pub stands : Stands w d
+  pub room : fits (w .layer .used) (w .room) ≡ true
+
+abbrev pub Kept : Drawing → Seen → Change → Type 0
+Kept d v x = All (λ w. Stays w d) x v
+
+module _ (v : Seen) (d : Drawing) (S : Stands v d) where
+  -- figures at opening fit where the present ones do
+  cut-room : (o : Figures) → v .layer .feature ≡ Since o → valid v ≡ true → fits o (v .room) ≡ true
+  cut-room o f e = fits-before o (v .layer .used) (v .room) (opening-in v (sound v e (stands-lengths v d S)) o f) (valid-parts v e .room)
+
+  pub call-stands : (c : Call) → FineCall c → Kept (after c d) v (asks c v)
+  call-stands (opens kind words) g =
+      let P = Kept (after (opens kind words) d) v in
+      by-check P (isKind kind) Kind _ tt (λ k.
+      by-check P (valid v) State _ tt (λ e.
+      by-check P (isShut (v .layer .feature)) Turn _ tt (λ f.
+      by-check P (leb (length words) maxWords) Room _ tt (λ m.
+      by-check P (fits (moreWords (v .layer .used) (6 + length words)) (v .room)) Room _ tt (λ h.
+      record { stands = opened-stands v d S (is-shut (v .layer .feature) f) kind none words; room = h })))))
+  call-stands (identifies n) g =
+      let P = Kept (after (identifies n) d) v in
+      by-check P (valid v) State _ tt (λ e.
+      by-open P (v .layer .feature) _ tt (λ o f. record { stands = id-stands v d S o f n; room = valid-parts v e .room }))
+  call-stands (tags key c) g =
+      let P = Kept (after (tags key c) d) v in
+      by-check P (valid v) State _ tt (λ e.
+      by-check P (shortText (length (tagOf key c .key))) TextRefusal _ tt (λ a.
+      by-check P (shortText (length (tagOf key c .text))) TextRefusal _ tt (λ b.
+      by-open P (v .layer .feature) _ tt (λ o f.
+      by-check P (fits (tagPut o (tagOf key c) v .layer .used) (v .room)) Room _ tt (λ h.
+      record { stands = tag-stands v d S o f key c g; room = h })))))
+  call-stands closes g =
+      let P = Kept (after closes d) v in
+      by-check P (valid v) State _ tt (λ e.
+      by-open P (v .layer .feature) _ tt (λ o f. record { stands = closed-stands v d S o f; room = valid-parts v e .room }))
+  call-stands abandons g =
+      let P = Kept (after abandons d) v in
+      by-check P (valid v) State _ tt (λ e.
+      by-open P (v .layer .feature) _ tt (λ o f. record { stands = abandoned-stands v d S o f; room = cut-room o f e }))

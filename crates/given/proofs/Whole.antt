@@ -26,12 +26,13 @@ use Rattle.layer.specs.Whole.{featureOpened, tagsPut, featurePut, addFeature}
 use Rattle.layer.proofs.Fitting.{both, never}
 use Rattle.layer.proofs.Listing.{yes}
 use Rattle.layer.proofs.Growth.{same-feature}
-use Rattle.layer.proofs.Keeping.{All, by-check, is-shut}
+use Rattle.layer.proofs.Keeping.{by-check, is-shut}
+use Rattle.layer.proofs.Features.{feature-room}
 use Rattle.given.specs.Given.{Content, Tag, Feature, Drawing, drawn, onOpen, tagged, completed, after, tags, closes, added}
 use Rattle.given.specs.Asked.{tagOf, contentAt, tagsGiven, idGiven, featureGiven, Int64, Fine, Words}
 use Rattle.given.proofs.Numbers.{low-half, high-half}
 use Rattle.given.proofs.Records.{markOf, numberOf}
-use Rattle.given.proofs.Standing.{Stands, opened-stands, tag-stands, closed-stands, none-open}
+use Rattle.given.proofs.Standing.{Stands, Kept, opened-stands, tag-stands, closed-stands}
 
 -- ---- 64 bits as a number, and back
 signed-fits : (n : ℕ) → n < 18446744073709551616 → (Int64 (signed64 n)) × (bitsOf (signed64 n) ≡ n)
@@ -138,9 +139,9 @@ module _ (f : Head) (words ws bytes : List ℕ) (g : Words ws) (v : Seen) (d : D
       let C = closed-stands (tagsPut o (tagsOf bytes ws) (featureOpened f words v)) (drawn d (d .features) (some (record { kind = f .kind; id = id; geometry = words; tags = tagsGiven bytes ws }))) T o (same-feature o (tagsOf bytes ws) (featureOpened f words v)) in
       record { extent-is = C .extent-is; parts = C .parts }
 
-  pub whole-stands : All (λ w. Stands w (added (featureGiven f words ws bytes) d)) (addFeature f words ws bytes v) v
+  pub whole-stands : Kept (added (featureGiven f words ws bytes) d) v (addFeature f words ws bytes v)
   whole-stands =
-      let P : Change → Type 0 = λ x. All (λ w. Stands w (added (featureGiven f words ws bytes) d)) x v in
+      let P = Kept (added (featureGiven f words ws bytes) d) v in
       let W = featurePut f words (tagsOf bytes ws) v in
       by-check P (tagsOk (length bytes) ws) Job _ tt (λ e.
       by-check P (isKind (f .kind)) Kind _ tt (λ k.
@@ -150,4 +151,4 @@ module _ (f : Head) (words ws bytes : List ℕ) (g : Words ws) (v : Seen) (d : D
       by-check P (leb (length words) maxWords) Room _ tt (λ m.
       by-check P (fits (W .layer .used) (W .room)) Room _ tt (λ r.
       let C = put-stands e (is-shut (v .layer .feature) s) in
-      record { extent-is = C .extent-is; parts = C .parts })))))))
+      record { stands = record { extent-is = C .extent-is; parts = C .parts }; room = rw (feature-room f words (tagsOf bytes ws) v) at r })))))))

@@ -1,3 +1,4 @@
 pub mod Given
 pub mod Messages
 pub mod Asked
+pub mod Runs
