@@ -1,40 +1,39 @@
 -- One theorem for a whole run: the used bytes of a fresh tile after any layers made by any calls are MVT's message of what was given.
-use Prim.Native.Nat.{ℕ, _+_, _≤_, zero-le}
+use Prim.Native.Nat.{ℕ, zero, suc, _+_, _≤_}
 use mathlib.Core.Path.{_≡_, refl, sym, ap, _∙_}
 use mathlib.Core.Bool.{Bool, true, false, cond}
-use mathlib.Core.List.{List, [], _∷_, _++_, map}
-use mathlib.Core.Option.{none}
+use mathlib.Core.List.{List, [], _∷_, map}
 use native.Mathlib.Omega.{arith}
-use lib.ListN.{length, take, length-append}
-use lib.Seq.{take-at, take-length, length-take-le}
+use lib.ListN.{length, take, drop}
+use lib.Seq.{take-at, take-length}
 use lib.Dec.{leb, eqb}
 use borrow.Author.Tests.{ne-eqb, leb-true}
 use Rattle.promise.specs.Laid.{lay}
-use Rattle.promise.proofs.Laying.{take-lay}
-use Rattle.refusal.specs.declared.Refusal.the-variants.{State, Turn}
+use Rattle.promise.specs.Answers.{Written, kept}
+use Rattle.refusal.specs.declared.Refusal.the-variants.{Job, State}
 use Rattle.refusal.specs.Refusals.{numberOf}
+use Rattle.refusal.specs.Said.{Said, accepted, refused}
 use Rattle.refusal.proofs.Laws.{numbered}
 use Rattle.table.specs.Texts.{shortText}
-use Rattle.wire.specs.declared.field.Field.the-variants.{TileLayer}
-use Rattle.wire.specs.Fields.{delimited}
 use Rattle.layer.specs.declared.Layer.{Layer}
 use Rattle.layer.specs.declared.Open.the-variants.{Shut}
-use Rattle.layer.specs.Held.{Memory, Seen, seen, Change, refuses, holds, smaller, maxTexts, written}
+use Rattle.layer.specs.Held.{Memory, Seen, seen, Change, refuses, holds, smaller, maxTexts, written, onto}
 use Rattle.layer.specs.State.{valid}
-use Rattle.layer.specs.Calls.{isShut, newLayer, created}
+use Rattle.layer.specs.Calls.{isShut, created}
+use Rattle.layer.specs.Whole.{addFeature}
+use Rattle.layer.specs.Many.{Many, headOf, headsOk, andNext, done, addAll}
 use Rattle.layer.proofs.Fitting.{smaller-le}
 use Rattle.layer.proofs.Keeping.{is-shut}
 use Rattle.layer.proofs.After.{seen-after}
-use Rattle.tile.specs.Layers.{layerBytes}
 use Rattle.tile.specs.Tiles.{TileMemory, lists, usedBytes, validTile, freshTile}
 use Rattle.tile.specs.declared.Tile.{Tile}
 use Rattle.tile.specs.Adding.{addLayer}
-use Rattle.tile.specs.Holding.{Given, seenOf, tileBytes, At, call, after, afterAll, taken}
+use Rattle.tile.specs.Holding.{tileBytes, At, call, after, afterAll, taken}
 use Rattle.tile.proofs.Holding.{run-holds}
-use Rattle.given.specs.Given.{Drawing, blank}
-use Rattle.given.specs.Messages.{layerMessage, tileMessage}
-use Rattle.given.specs.Asked.{Made, calls, whole, asked, gives, FineMade}
-use Rattle.given.specs.Runs.{Page, called, turned, turnedAll, Plan, begun, pageOf, AllFine, Sound, AllSound, layerOf, drawings}
+use Rattle.given.specs.Given.{Feature, Drawing, added}
+use Rattle.given.specs.Messages.{tileMessage}
+use Rattle.given.specs.Asked.{Made, calls, whole, asked, gives, featureGiven, featuresGiven, addedAll, FineMade, Words}
+use Rattle.given.specs.Runs.{Page, turned, Step, one, many, stepped, steppedAll, Plan, begun, pageOf, FineStep, AllFine, Sound, AllSound, layerOf, drawings}
 use Rattle.given.proofs.Entries.{none as no-keys}
 use Rattle.given.proofs.Values.{none as no-values}
 use Rattle.given.proofs.Standing.{Stands, stands-lengths, Kept, call-stands}
@@ -58,9 +57,74 @@ module _ (s : Layer) (m : Memory) (d e : Drawing) (S : Stands (seen s m) d) wher
 pub turned-stands : (c : Made) → FineMade c → (p : Page) → PageStands p → PageStands (turned c p)
 turned-stands c g p S = by-change (p .layer) (p .memory) (p .drawing) (gives c (p .drawing)) S (asked c (seen (p .layer) (p .memory))) (made-stands c g (seen (p .layer) (p .memory)) (p .drawing) S)
 
-pub all-stand : (cs : List Made) → AllFine cs → (p : Page) → PageStands p → PageStands (turnedAll cs p)
+-- many features: so many as are counted were accepted, one after the other
+words-take : (n : ℕ) (ws : List ℕ) → Words ws → Words (take n ws)
+words-take zero ws g = tt
+words-take (suc n) [] g = tt
+words-take (suc n) (w ∷ ws) g = (g .0, words-take n ws (g .1))
+
+words-drop : (n : ℕ) (ws : List ℕ) → Words ws → Words (drop n ws)
+words-drop zero ws g = g
+words-drop (suc n) [] g = tt
+words-drop (suc n) (w ∷ ws) g = words-drop n ws (g .1)
+
+-- k of the features were accepted behind n, and the drawing with these stands
+pub record ManyStand (n : ℕ) (fs : List Feature) (d : Drawing) (r : Written (Said Many) Memory) : Type 0 where
+  pub more : ℕ
+  pub counted : r .answer .values .count ≡ n + more
+  pub stand : Stands (seen (r .answer .values .layer) (r .memory)) (addedAll (take more fs) d)
+
+none-more : (n : ℕ) (fs : List Feature) (s : Layer) (m : Memory) (d : Drawing) → Stands (seen s m) d → ManyStand n fs d (done n s m)
+none-more n fs s m d S = by (valid (seen s m))
+  where
+    by : (b : Bool) → ManyStand n fs d (cond b (kept (accepted (record { layer = s; count = n })) m) (kept (refused State (record { layer = s; count = n })) m))
+    by true = record { more = 0; counted = omega arith; stand = S }
+    by false = record { more = 0; counted = omega arith; stand = S }
+
+one-more : (n : ℕ) (f : Feature) (fs : List Feature) (s : Layer) (m : Memory) (d : Drawing) → Stands (seen s m) d → (x : Change) → Kept (added f d) (seen s m) x → (go : Layer → Memory → Written (Said Many) Memory) → ((u : Layer) (l : Memory) → Stands (seen u l) (added f d) → ManyStand (suc n) fs (added f d) (go u l)) → ManyStand n (f ∷ fs) d (andNext x s m n go)
+one-more n f fs s m d S (refuses r) K go k = record { more = 0; counted = omega arith; stand = S }
+one-more n f fs s m d S (holds t h) K go k =
+    let N = k t (onto h m) (rw (seen-after t h m (record { lengths = stands-lengths _ (added f d) (K .stands); room = K .room })) (K .stands)) in
+    record { more = suc (N .more); counted = omega (arith, N .counted); stand = N .stand }
+
+many-from : (hs : List ℕ) (n : ℕ) (words ws bytes : List ℕ) → Words ws → (s : Layer) (m : Memory) (d : Drawing) → Stands (seen s m) d → ManyStand n (featuresGiven hs words ws bytes) d (addAll n hs words ws bytes s m)
+many-from [] n words ws bytes g s m d S = none-more n [] s m d S
+many-from (a ∷ []) n words ws bytes g s m d S = none-more n [] s m d S
+many-from (a ∷ b ∷ []) n words ws bytes g s m d S = none-more n [] s m d S
+many-from (a ∷ b ∷ c ∷ []) n words ws bytes g s m d S = none-more n [] s m d S
+many-from (a ∷ b ∷ c ∷ e ∷ []) n words ws bytes g s m d S = none-more n [] s m d S
+many-from (a ∷ b ∷ c ∷ e ∷ x ∷ []) n words ws bytes g s m d S = none-more n [] s m d S
+many-from (kind ∷ mark ∷ low ∷ high ∷ w ∷ t ∷ hs) n words ws bytes g s m d S =
+    let f = headOf kind mark low high in
+    one-more n (featureGiven f (take w words) (take t ws) bytes) (featuresGiven hs (drop w words) (drop t ws) bytes) s m d S
+    (addFeature f (take w words) (take t ws) bytes (seen s m))
+    (whole-stands f (take w words) (take t ws) bytes (words-take t ws g) (seen s m) d S)
+    (λ u l. addAll (suc n) hs (drop w words) (drop t ws) bytes u l)
+    (λ u l T. many-from hs (suc n) (drop w words) (drop t ws) bytes (words-drop t ws g) u l (added (featureGiven f (take w words) (take t ws) bytes) d) T)
+
+pub many-stands : (heads words ws bytes : List ℕ) → Words ws → (p : Page) → PageStands p → PageStands (stepped (many heads words ws bytes) p)
+many-stands heads words ws bytes g p S = by (headsOk (length words) (length ws) heads) refl
+  where
+    P : Written (Said Many) Memory → Type 0
+    P r = Stands (seen (r .answer .values .layer) (r .memory)) (addedAll (take (r .answer .values .count) (featuresGiven heads words ws bytes)) (p .drawing))
+
+    all : P (addAll 0 heads words ws bytes (p .layer) (p .memory))
+    all =
+        let N = many-from heads 0 words ws bytes g (p .layer) (p .memory) (p .drawing) S in
+        let e : addAll 0 heads words ws bytes (p .layer) (p .memory) .answer .values .count ≡ N .more = omega (arith, N .counted) in
+        rw e (N .stand)
+
+    by : (b : Bool) → headsOk (length words) (length ws) heads ≡ b → P (cond b (addAll 0 heads words ws bytes (p .layer) (p .memory)) (kept (refused Job (record { layer = p .layer; count = 0 })) (p .memory)))
+    by true e = all
+    by false e = S
+
+pub step-stands : (c : Step) → FineStep c → (p : Page) → PageStands p → PageStands (stepped c p)
+step-stands (one c) g p S = turned-stands c g p S
+step-stands (many heads words ws bytes) g p S = many-stands heads words ws bytes g p S
+
+pub all-stand : (cs : List Step) → AllFine cs → (p : Page) → PageStands p → PageStands (steppedAll cs p)
 all-stand [] g p S = S
-all-stand (c ∷ cs) g p S = all-stand cs (g .1) (turned c p) (turned-stands c (g .0) p S)
+all-stand (c ∷ cs) g p S = all-stand cs (g .1) (stepped c p) (step-stands c (g .0) p S)
 
 -- ---- a new layer
 room-for : (name : List ℕ) (extent : ℕ) (ts : List ℕ) → created name extent ts .answer .number ≡ 0 → length name ≤ length ts

@@ -5,12 +5,14 @@ use mathlib.Core.List.{List, [], _∷_}
 use mathlib.Core.Option.{Option, none, some}
 use lib.IntN.{ℤ, pos, negsuc}
 use lib.Dec.{eqb}
+use lib.ListN.{take, drop}
 use Rattle.whole.specs.Twos.{wide, signed64}
 use Rattle.layer.specs.declared.whole_feature.Head.{Head}
 use Rattle.layer.specs.Held.{Seen, Change}
 use Rattle.layer.specs.Calls.{Tag as Stored, intoFeature, setId, addTag, intoLayer, abandoned, tagString, tagBits, bitsOf, bitOf}
 use Rattle.layer.specs.TagLists.{textAt}
 use Rattle.layer.specs.Whole.{addFeature}
+use Rattle.layer.specs.Many.{headOf}
 use Rattle.given.specs.Given.{Content, text, float, double, int, uint, sint, bool, Tag, Feature, Drawing, Call, opens, identifies, tags, closes, abandons, after, added}
 
 -- the seven tag calls
@@ -48,6 +50,21 @@ idGiven false id = none
 
 abbrev pub featureGiven : Head → List ℕ → List ℕ → List ℕ → Feature
 featureGiven f words ws bytes = record { kind = f .kind; id = idGiven (f .«has_id») (f .id); geometry = words; tags = tagsGiven bytes ws }
+
+-- the features of a lent list of heads, six words a head: kind, id mark, the halves of the id, how many geometry words and how many tag words
+abbrev pub featuresGiven : List ℕ → List ℕ → List ℕ → List ℕ → List Feature
+featuresGiven [] words ws bytes = []
+featuresGiven (a ∷ []) words ws bytes = []
+featuresGiven (a ∷ b ∷ []) words ws bytes = []
+featuresGiven (a ∷ b ∷ c ∷ []) words ws bytes = []
+featuresGiven (a ∷ b ∷ c ∷ d ∷ []) words ws bytes = []
+featuresGiven (a ∷ b ∷ c ∷ d ∷ e ∷ []) words ws bytes = []
+featuresGiven (kind ∷ mark ∷ low ∷ high ∷ w ∷ t ∷ hs) words ws bytes =
+    featureGiven (headOf kind mark low high) (take w words) (take t ws) bytes ∷ featuresGiven hs (drop w words) (drop t ws) bytes
+
+abbrev pub addedAll : List Feature → Drawing → Drawing
+addedAll [] d = d
+addedAll (f ∷ fs) d = addedAll fs (added f d)
 
 -- ---- the calls as they are made
 pub data Made : Type 0 where

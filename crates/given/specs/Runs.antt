@@ -4,15 +4,17 @@ use mathlib.Core.Path.{_≡_}
 use mathlib.Core.Bool.{cond}
 use mathlib.Core.List.{List, [], _∷_, map}
 use lib.Dec.{eqb}
+use lib.ListN.{take}
 use Rattle.promise.specs.Answers.{Written}
 use Rattle.promise.specs.Laid.{lay}
 use Rattle.refusal.specs.Said.{Said}
 use Rattle.layer.specs.declared.Layer.{Layer}
 use Rattle.layer.specs.Held.{Memory, mem, seen, written}
 use Rattle.layer.specs.Calls.{newLayer, created}
+use Rattle.layer.specs.Many.{Many, addFeatures}
 use Rattle.tile.specs.Holding.{Given, At, call, after}
 use Rattle.given.specs.Given.{Drawing, blank}
-use Rattle.given.specs.Asked.{Made, asked, gives, FineMade}
+use Rattle.given.specs.Asked.{Made, asked, gives, featuresGiven, addedAll, FineMade, Words}
 
 -- a layer, its lists, and what was given to it
 pub record Page : Type 0 where
@@ -32,16 +34,33 @@ turned c p =
       drawing = cond (eqb (called c p .answer .number) 0) (gives c (p .drawing)) (p .drawing);
     }
 
-abbrev pub turnedAll : List Made → Page → Page
-turnedAll [] p = p
-turnedAll (c ∷ cs) p = turnedAll cs (turned c p)
+-- one call, or one with many features, of which those before the first that is refused are accepted
+pub data Step : Type 0 where
+  one : Made → Step
+  many : List ℕ → List ℕ → List ℕ → List ℕ → Step
+
+abbrev pub calledMany : List ℕ → List ℕ → List ℕ → List ℕ → Page → Written (Said Many) Memory
+calledMany heads words ws bytes p = addFeatures heads words ws bytes (p .layer) (p .memory)
+
+abbrev pub stepped : Step → Page → Page
+stepped (one c) p = turned c p
+stepped (many heads words ws bytes) p =
+    record {
+      layer = calledMany heads words ws bytes p .answer .values .layer;
+      memory = calledMany heads words ws bytes p .memory;
+      drawing = addedAll (take (calledMany heads words ws bytes p .answer .values .count) (featuresGiven heads words ws bytes)) (p .drawing);
+    }
+
+abbrev pub steppedAll : List Step → Page → Page
+steppedAll [] p = p
+steppedAll (c ∷ cs) p = steppedAll cs (stepped c p)
 
 -- what is lent and called: a name, an extent and four lists for creating a layer, and the calls on it
 pub record Plan : Type 0 where
   pub name : List ℕ
   pub extent : ℕ
   pub lent : Memory
-  pub calls : List Made
+  pub calls : List Step
 
 -- the layer as it is created, where that is accepted: its name is the first text
 abbrev pub begun : Plan → Page
@@ -53,11 +72,15 @@ begun p =
     }
 
 abbrev pub pageOf : Plan → Page
-pageOf p = turnedAll (p .calls) (begun p)
+pageOf p = steppedAll (p .calls) (begun p)
 
-abbrev pub AllFine : List Made → Type 0
+abbrev pub FineStep : Step → Type 0
+FineStep (one c) = FineMade c
+FineStep (many heads words ws bytes) = Words ws
+
+abbrev pub AllFine : List Step → Type 0
 AllFine [] = Unit {0}
-AllFine (c ∷ cs) = FineMade c × AllFine cs
+AllFine (c ∷ cs) = FineStep c × AllFine cs
 
 -- creating was accepted, and numbers are those of the calls' types
 pub record Sound (p : Plan) : Type 0 where
