@@ -9,3 +9,4 @@ pub mod Standing
 pub mod Bytes
 pub mod Whole
 pub mod Runs
+pub mod Corollaries
