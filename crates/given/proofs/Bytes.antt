@@ -8,10 +8,11 @@ use Rattle.tile.specs.Texts.{textField}
 use Rattle.tile.specs.Layers.{layerBytes}
 use Rattle.given.specs.Given.{Drawing, keysOf, valuesOf}
 use Rattle.given.specs.Messages.{layerMessage}
+use Rattle.given.specs.Layout.{Stands}
 use Rattle.given.proofs.Entries.{key-fields}
 use Rattle.given.proofs.Values.{value-fields}
 use Rattle.given.proofs.Records.{feature-fields}
-use Rattle.given.proofs.Standing.{Stands, none-open}
+use Rattle.given.proofs.Standing.{none-open}
 
 pub layer-bytes : (v : Seen) (d : Drawing) → Stands v d → v .layer .feature ≡ Shut → layerBytes (v .layer) (v .held) ≡ layerMessage d
 unfolding layerBytes layerMessage textField

@@ -23,7 +23,7 @@ use Rattle.given.specs.Given.{Call, opens, identifies, tags, closes, aba
 use Rattle.given.specs.Messages.{tagIndices}
 use Rattle.given.specs.Asked.{Int64}
 use Rattle.given.proofs.FirstUse.{Met, all-met}
-use Rattle.given.proofs.Numbers.{bits-are, signed-back}
+use Rattle.given.proofs.Numbers.{signed-back}
 
 abbrev pub afterAll : List Call → Drawing → Drawing
 afterAll [] d = d
@@ -132,7 +132,7 @@ pub same-mark : (a b : Content) → same a b ≡ true → mark a ≡ mark b
 same-mark a b e = bytes-are (mark a) (mark b) e
 
 pub same-int : (a b : ℤ) → Int64 a → Int64 b → bits64 a ≡ bits64 b → a ≡ b
-same-int a b f g e = sym (signed-back a f) ∙ ap signed64 (bits-are a ∙ e ∙ sym (bits-are b)) ∙ signed-back b g
+same-int a b f g e = sym (signed-back a f) ∙ ap signed64 e ∙ signed-back b g
 
 -- -0.0 where 0.0 was used before: the first index, and the other way round; a NaN is another than one of other bits
 abbrev pub tagOf : Content → Tag

@@ -22,12 +22,9 @@ use Rattle.tile.specs.Holding.{sameBytes}
 use Rattle.tile.proofs.Names.{found-among}
 use Rattle.given.specs.Given.{among, placeOf}
 use Rattle.given.specs.Messages.{each, keyField}
+use Rattle.given.specs.Layout.{TextStands, KeysStand, no-keys, one-key}
 
 -- ---- one text
-pub record TextStands (texts : List ℕ) (start len : ℕ) (t : List ℕ) : Type 0 where
-  pub within : start + len ≤ length texts
-  pub there : take len (drop start texts) ≡ t
-
 module _ (texts more : List ℕ) (start len : ℕ) (t : List ℕ) (T : TextStands texts start len t) where
   pub text-more : TextStands (texts ++ more) start len t
   text-more =
@@ -66,29 +63,25 @@ found-next j true b place = ap At (omega arith)
 found-next j false b place = ap (λ (n : ℕ). cond b (At n) Nothing) (omega arith)
 
 -- ---- keys
-pub data KeysStand (texts : List ℕ) : List ℕ → List (List ℕ) → Type 0 where
-  none : KeysStand texts [] []
-  one : (start len : ℕ) (key ws : List ℕ) (keys : List (List ℕ)) → TextStands texts start len key → KeysStand texts ws keys → KeysStand texts (start ∷ len ∷ ws) (key ∷ keys)
-
 module _ (texts : List ℕ) where
   pub keys-count : (ws : List ℕ) (keys : List (List ℕ)) → KeysStand texts ws keys → length ws ≡ length keys * 2
-  keys-count _ _ none = refl
-  keys-count _ _ (one start len key ws keys T K) = let n = keys-count ws keys K in omega arith
+  keys-count _ _ no-keys = refl
+  keys-count _ _ (one-key start len key ws keys T K) = let n = keys-count ws keys K in omega arith
 
   pub keys-more : (more ws : List ℕ) (keys : List (List ℕ)) → KeysStand texts ws keys → KeysStand (texts ++ more) ws keys
-  keys-more more _ _ none = none
-  keys-more more _ _ (one start len key ws keys T K) = one start len key ws keys (text-more texts more start len key T) (keys-more more ws keys K)
+  keys-more more _ _ no-keys = no-keys
+  keys-more more _ _ (one-key start len key ws keys T K) = one-key start len key ws keys (text-more texts more start len key T) (keys-more more ws keys K)
 
   pub keys-append : (ws xs : List ℕ) (keys others : List (List ℕ)) → KeysStand texts ws keys → KeysStand texts xs others → KeysStand texts (ws ++ xs) (keys ++ others)
-  keys-append _ xs _ others none O = O
-  keys-append _ xs _ others (one start len key ws keys T K) O = one start len key (ws ++ xs) (keys ++ others) T (keys-append ws xs keys others K O)
+  keys-append _ xs _ others no-keys O = O
+  keys-append _ xs _ others (one-key start len key ws keys T K) O = one-key start len key (ws ++ xs) (keys ++ others) T (keys-append ws xs keys others K O)
 
   pub keys-found : (ws : List ℕ) (keys : List (List ℕ)) → KeysStand texts ws keys → (j : ℕ) (key : List ℕ) → findKey j ws texts key ≡ foundAt j (among sameBytes key keys) (placeOf sameBytes key keys)
-  keys-found _ _ none j key = refl
-  keys-found _ _ (one start len k ws keys T K) j key =
+  keys-found _ _ no-keys j key = refl
+  keys-found _ _ (one-key start len k ws keys T K) j key =
       rw (text-found texts start len k T key, keys-found ws keys K (suc j) key) (found-next j (sameBytes k key) (among sameBytes key keys) (placeOf sameBytes key keys))
 
   pub key-fields : (ws : List ℕ) (keys : List (List ℕ)) → KeysStand texts ws keys → keyFields texts ws ≡ each keyField keys
   unfolding textField
-  key-fields _ _ none = refl
-  key-fields _ _ (one start len key ws keys T K) = rw (T .there, key-fields ws keys K)
+  key-fields _ _ no-keys = refl
+  key-fields _ _ (one-key start len key ws keys T K) = rw (T .there, key-fields ws keys K)

@@ -19,24 +19,11 @@ use Rattle.tile.specs.Holding.{sameBytes}
 use Rattle.given.specs.Given.{Content, text, float, double, int, uint, sint, bool, Tag, Feature, same, among, placeOf, joined, allTags, keysOf, valuesOf, identified, tagged}
 use Rattle.given.specs.Messages.{each, tagIndices}
 use Rattle.given.specs.Asked.{tagOf, Fine}
+use Rattle.given.specs.Layout.{KeysStand, no-keys, one-key, ValuesStand, no-values, one-value, markOf, numberOf, recordFrom, recordOf, Holds, HeldAs}
 use Rattle.given.proofs.FirstUse.{new, place-new, joins, bytes-same, content-same, Met, met-left, met-right, indices-more, indices-append}
-use Rattle.given.proofs.Entries.{TextStands, text-more, text-new, KeysStand, none as no-keys, one as one-key, keys-count, keys-more, keys-append, foundAt}
-use Rattle.given.proofs.Values.{ValuesStand, none as no-values, one as one-value, value-new, values-count, values-more, values-append}
-use Rattle.given.proofs.Records.{each-append, each-last, markOf, numberOf, recordFrom, recordOf, records-more, id-laid, tag-laid}
-
--- the used figures u, the name of n bytes and the used parts h hold this name and these features, with these keys and values
-pub record Holds (u : Figures) (n : ℕ) (h : Memory) (name : List ℕ) (keys : List (List ℕ)) (values : List Content) (fs : List Feature) : Type 0 where
-  pub key-count : u .keys ≡ length keys
-  pub value-count : u .values ≡ length values
-  pub text-count : length (h .texts) ≡ u .texts
-  pub word-count : length (h .features) ≡ u .features
-  pub title : TextStands (h .texts) 0 n name
-  pub keys-stand : KeysStand (h .texts) (h .keys) keys
-  pub values-stand : ValuesStand (h .texts) (h .values) values
-  pub records-are : h .features ≡ each (recordOf keys values) fs
-
-abbrev pub HeldAs : Figures → ℕ → Memory → List ℕ → List Feature → Type 0
-HeldAs u n h name fs = Holds u n h name (keysOf fs) (valuesOf fs) fs
+use Rattle.given.proofs.Entries.{text-more, text-new, keys-count, keys-more, keys-append, foundAt}
+use Rattle.given.proofs.Values.{value-new, values-count, values-more, values-append}
+use Rattle.given.proofs.Records.{each-last, records-more, id-laid, tag-laid}
 
 module _ (u : Figures) (n : ℕ) (h : Memory) (name : List ℕ) (keys : List (List ℕ)) (values : List Content) (fs : List Feature) (H : Holds u n h name keys values fs) where
   pub key-words : length (h .keys) ≡ u .keys * 2

@@ -25,12 +25,12 @@ pub bits-are : (n : ℤ) → bitsOf n ≡ bits64 n
 bits-are (pos n) = refl
 bits-are (negsuc n) = omega arith
 
-pub signed-back : (n : ℤ) → Int64 n → signed64 (bitsOf n) ≡ n
+pub signed-back : (n : ℤ) → Int64 n → signed64 (bits64 n) ≡ n
 signed-back (pos n) h = rw (lt-ltb n 9223372036854775808 h)
 signed-back (negsuc n) h =
-    twos-high 9223372036854775808 18446744073709551615 (18446744073709551615 - n) refl (omega arith) (omega arith)
+    twos-high 9223372036854775808 18446744073709551615 (18446744073709551616 - suc n) refl (omega arith) (omega arith)
     ∙ ap negsuc (omega arith)
 
-pub zigzag-is : (n : ℤ) → Int64 n → zigzag (bitsOf n) ≡ param n
+pub zigzag-is : (n : ℤ) → Int64 n → zigzag (bits64 n) ≡ param n
 unfolding zigzag
 zigzag-is n h = ap param (signed-back n h)

@@ -15,6 +15,7 @@ use Rattle.tile.specs.Features.{recordMessage, featureMessage as storedMessage}
 use Rattle.tile.specs.Entries.{featureFields}
 use Rattle.given.specs.Given.{Content, Tag, Feature, allTags, identified, tagged}
 use Rattle.given.specs.Messages.{each, tagIndices, featureMessage, featureField}
+use Rattle.given.specs.Layout.{markOf, numberOf, recordFrom, recordOf}
 use Rattle.given.proofs.FirstUse.{Met, met-left, met-right, indices-more, indices-append}
 use Rattle.given.proofs.Numbers.{halves}
 
@@ -24,23 +25,6 @@ each-append field (x ∷ xs) ys = rw (each-append field xs ys) (sym (append-asso
 
 pub each-last : {A : Type 0} (field : A → List ℕ) (xs : List A) (x : A) → each field (xs ++ (x ∷ [])) ≡ each field xs ++ field x
 each-last field xs x = each-append field xs (x ∷ []) ∙ rw append-nil
-
--- ---- a feature's words
-abbrev pub markOf : Option ℕ → ℕ
-markOf none = 0
-markOf (some n) = 1
-
-abbrev pub numberOf : Option ℕ → ℕ
-numberOf none = 0
-numberOf (some n) = n
-
--- of kind, id, geometry and tag words
-abbrev pub recordFrom : ℕ → Option ℕ → List ℕ → List ℕ → List ℕ
-recordFrom kind id geometry indices =
-    kind ∷ markOf id ∷ numberOf id % 4294967296 ∷ numberOf id / 4294967296 ∷ length indices ∷ length geometry ∷ (geometry ++ indices)
-
-abbrev pub recordOf : List (List ℕ) → List Content → Feature → List ℕ
-recordOf keys values f = recordFrom (f .kind) (f .id) (f .geometry) (tagIndices keys values (f .tags))
 
 -- ---- more keys and values behind those that are met
 module _ (keys moreKeys : List (List ℕ)) (values moreValues : List Content) where

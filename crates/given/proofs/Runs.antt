@@ -33,10 +33,9 @@ use Rattle.tile.proofs.Holding.{run-holds}
 use Rattle.given.specs.Given.{Feature, Drawing, added}
 use Rattle.given.specs.Messages.{tileMessage}
 use Rattle.given.specs.Asked.{Made, calls, whole, asked, gives, featureGiven, featuresGiven, addedAll, FineMade, Words}
+use Rattle.given.specs.Layout.{no-keys, no-values, Stands}
 use Rattle.given.specs.Runs.{Page, turned, Step, one, many, stepped, steppedAll, Plan, begun, pageOf, FineStep, AllFine, Sound, AllSound, layerOf, drawings}
-use Rattle.given.proofs.Entries.{none as no-keys}
-use Rattle.given.proofs.Values.{none as no-values}
-use Rattle.given.proofs.Standing.{Stands, stands-lengths, Kept, call-stands}
+use Rattle.given.proofs.Standing.{stands-lengths, Kept, call-stands}
 use Rattle.given.proofs.Whole.{whole-stands}
 use Rattle.given.proofs.Bytes.{layer-bytes}
 

@@ -27,22 +27,12 @@ use Rattle.tile.specs.Holding.{sameBytes}
 use Rattle.given.specs.Given.{Content, Tag, Feature, Drawing, Call, opens, identifies, tags, closes, abandons, same, among, placeOf, allTags, keysOf, valuesOf, drawn, fresh, identified, tagged, onOpen, completed, after}
 use Rattle.given.specs.Messages.{each, tagIndices}
 use Rattle.given.specs.Asked.{tagOf, asks, Fine, FineCall}
+use Rattle.given.specs.Layout.{markOf, numberOf, recordOf, HeldAs, OpenAs, Stands}
 use Rattle.given.proofs.FirstUse.{Met, met-left, met-right, all-met, keys-one-more, values-one-more}
 use Rattle.given.proofs.Entries.{foundAt, keys-found}
 use Rattle.given.proofs.Values.{values-found}
-use Rattle.given.proofs.Records.{each-last, markOf, numberOf, recordOf, records-long}
-use Rattle.given.proofs.Holding.{HeldAs, key-words, value-words, record-held, record-cut, id-held, tag-held, tag-parts, cut-marked, cut-tagged}
-
--- with a feature open, the lists hold it behind those completed, and up to the figures at opening they hold those completed
-abbrev pub OpenAs : Figures → ℕ → Memory → List ℕ → List Feature → Open → Option Feature → Type 0
-OpenAs u n h name fs Shut none = HeldAs u n h name fs
-OpenAs u n h name fs Shut (some f) = ⊥
-OpenAs u n h name fs (Since o) none = ⊥
-OpenAs u n h name fs (Since o) (some f) = HeldAs u n h name (fs ++ (f ∷ [])) × HeldAs o n (heldBy o h) name fs
-
-pub record Stands (v : Seen) (d : Drawing) : Type 0 where
-  pub extent-is : v .layer .extent ≡ d .extent
-  pub parts : OpenAs (v .layer .used) (v .layer .name) (v .held) (d .name) (d .features) (v .layer .feature) (d .pending)
+use Rattle.given.proofs.Records.{each-last, records-long}
+use Rattle.given.proofs.Holding.{key-words, value-words, record-held, record-cut, id-held, tag-held, tag-parts, cut-marked, cut-tagged}
 
 -- ---- by whether a feature is open
 module _ (u : Figures) (n : ℕ) (h : Memory) (name : List ℕ) (fs : List Feature) where

@@ -12,34 +12,20 @@ use Rattle.words.specs.Params.{param}
 use Rattle.wire.specs.declared.field.ValueKind.the-variants.{Text, Float}
 use Rattle.wire.specs.declared.field.Field.the-variants.{LayerValue, Value as ValueField}
 use Rattle.wire.specs.Fields.{delimited, fixed32Field}
-use Rattle.layer.specs.Calls.{bitsOf, bitOf, storedAs}
+use Rattle.layer.specs.Calls.{bitOf, storedAs}
 use Rattle.tile.specs.Texts.{textField}
 use Rattle.tile.specs.Values.{valueMessage as storedMessage}
 use Rattle.tile.specs.Entries.{valueFields}
 use Rattle.tile.specs.Holding.{sameBytes}
-use Rattle.given.specs.Given.{Content, text, float, double, int, uint, sint, bool, mark, same, among, placeOf}
+use Rattle.given.specs.Given.{Content, text, float, double, int, uint, sint, bool, bits64, same, among, placeOf}
 use Rattle.given.specs.Messages.{each, valueMessage, valueField}
 use Rattle.given.specs.Asked.{tagOf, Fine}
+use Rattle.given.specs.Layout.{TextStands, BitsStand, ValueStands, ValuesStand, no-values, one-value}
 use Rattle.given.proofs.Numbers.{halves, bits-are, zigzag-is}
 use Rattle.given.proofs.Alike.{number-found}
-use Rattle.given.proofs.Entries.{TextStands, text-more, text-new, text-found, foundAt, found-next}
+use Rattle.given.proofs.Entries.{text-more, text-new, text-found, foundAt, found-next}
 
 -- ---- one value
--- of what is no text: its kind, and the halves of its bits
-pub record BitsStand (kind low high k bits : ℕ) : Type 0 where
-  pub kind-is : kind ≡ k
-  pub low-is : low ≡ bits % 4294967296
-  pub high-is : high ≡ bits / 4294967296
-
-abbrev pub ValueStands : List ℕ → ℕ → ℕ → ℕ → Content → Type 0
-ValueStands texts kind low high (text t) = (kind ≡ 1) × TextStands texts low high t
-ValueStands texts kind low high (float bits) = BitsStand kind low high 2 bits
-ValueStands texts kind low high (double bits) = BitsStand kind low high 3 bits
-ValueStands texts kind low high (int n) = BitsStand kind low high 4 (bitsOf n)
-ValueStands texts kind low high (uint n) = BitsStand kind low high 5 n
-ValueStands texts kind low high (sint n) = BitsStand kind low high 6 (bitsOf n)
-ValueStands texts kind low high (bool b) = BitsStand kind low high 7 (bitOf b)
-
 value-more : (texts more : List ℕ) (kind low high : ℕ) (c : Content) → ValueStands texts kind low high c → ValueStands (texts ++ more) kind low high c
 value-more texts more kind low high (text t) S = (S .0, text-more texts more low high t (S .1))
 value-more texts more kind low high (float bits) S = S
@@ -54,9 +40,9 @@ pub value-new : (before key : List ℕ) (c : Content) (w : Value) → w ≡ stor
 value-new before key (text t) w e = (ap (λ (v : Value). v .kind) e, rw e (rw append-nil at (text-new before t [])))
 value-new before key (float bits) w e = rw e (record { kind-is = refl; low-is = refl; high-is = refl })
 value-new before key (double bits) w e = rw e (record { kind-is = refl; low-is = refl; high-is = refl })
-value-new before key (int n) w e = rw e (record { kind-is = refl; low-is = refl; high-is = refl })
+value-new before key (int n) w e = rw (e, bits-are n) (record { kind-is = refl; low-is = refl; high-is = refl })
 value-new before key (uint n) w e = rw e (record { kind-is = refl; low-is = refl; high-is = refl })
-value-new before key (sint n) w e = rw e (record { kind-is = refl; low-is = refl; high-is = refl })
+value-new before key (sint n) w e = rw (e, bits-are n) (record { kind-is = refl; low-is = refl; high-is = refl })
 value-new before key (bool b) w e = rw e (record { kind-is = refl; low-is = refl; high-is = refl })
 
 -- a value is found where it is the same content
@@ -74,9 +60,9 @@ module _ (texts : List ℕ) (kind low high : ℕ) where
   value-found (text t) S f key b g = rw (S .0) (text-row texts low high t (S .1) key b)
   value-found (float n) S f key b g = rw (S .kind-is, S .low-is, S .high-is) (number-found texts 2 n refl (λ e. f) key b g)
   value-found (double n) S f key b g = rw (S .kind-is, S .low-is, S .high-is) (number-found texts 3 n refl (λ e. absurd (omega arith)) key b g)
-  value-found (int n) S f key b g = rw (S .kind-is, S .low-is, S .high-is, ← bits-are n) (number-found texts 4 (bitsOf n) refl (λ e. absurd (omega arith)) key b g)
+  value-found (int n) S f key b g = rw (S .kind-is, S .low-is, S .high-is) (number-found texts 4 (bits64 n) refl (λ e. absurd (omega arith)) key b g)
   value-found (uint n) S f key b g = rw (S .kind-is, S .low-is, S .high-is) (number-found texts 5 n refl (λ e. absurd (omega arith)) key b g)
-  value-found (sint n) S f key b g = rw (S .kind-is, S .low-is, S .high-is, ← bits-are n) (number-found texts 6 (bitsOf n) refl (λ e. absurd (omega arith)) key b g)
+  value-found (sint n) S f key b g = rw (S .kind-is, S .low-is, S .high-is) (number-found texts 6 (bits64 n) refl (λ e. absurd (omega arith)) key b g)
   value-found (bool n) S f key b g = rw (S .kind-is, S .low-is, S .high-is) (number-found texts 7 (bitOf n) refl (λ e. absurd (omega arith)) key b g)
 
   -- its message is that of what was given
@@ -85,35 +71,31 @@ module _ (texts : List ℕ) (kind low high : ℕ) where
   value-message (text t) S f = rw (S .0, S .1 .there)
   value-message (float n) S f = let e : n % 4294967296 ≡ n = omega arith in rw (S .kind-is, S .low-is, e)
   value-message (double n) S f = rw (S .kind-is, S .low-is, S .high-is, halves n)
-  value-message (int n) S f = rw (S .kind-is, S .low-is, S .high-is, halves (bitsOf n), bits-are n)
+  value-message (int n) S f = rw (S .kind-is, S .low-is, S .high-is, halves (bits64 n))
   value-message (uint n) S f = rw (S .kind-is, S .low-is, S .high-is, halves n)
-  value-message (sint n) S f = rw (S .kind-is, S .low-is, S .high-is, halves (bitsOf n), zigzag-is n f)
+  value-message (sint n) S f = rw (S .kind-is, S .low-is, S .high-is, halves (bits64 n), zigzag-is n f)
   value-message (bool true) S f = rw (S .kind-is, S .low-is)
   value-message (bool false) S f = rw (S .kind-is, S .low-is)
 
 -- ---- values
-pub data ValuesStand (texts : List ℕ) : List ℕ → List Content → Type 0 where
-  none : ValuesStand texts [] []
-  one : (kind low high : ℕ) (c : Content) (ws : List ℕ) (cs : List Content) → ValueStands texts kind low high c → Fine c → ValuesStand texts ws cs → ValuesStand texts (kind ∷ low ∷ high ∷ ws) (c ∷ cs)
-
 module _ (texts : List ℕ) where
   pub values-count : (ws : List ℕ) (cs : List Content) → ValuesStand texts ws cs → length ws ≡ length cs * 3
-  values-count _ _ none = refl
-  values-count _ _ (one kind low high c ws cs S f W) = let n = values-count ws cs W in omega arith
+  values-count _ _ no-values = refl
+  values-count _ _ (one-value kind low high c ws cs S f W) = let n = values-count ws cs W in omega arith
 
   pub values-more : (more ws : List ℕ) (cs : List Content) → ValuesStand texts ws cs → ValuesStand (texts ++ more) ws cs
-  values-more more _ _ none = none
-  values-more more _ _ (one kind low high c ws cs S f W) = one kind low high c ws cs (value-more texts more kind low high c S) f (values-more more ws cs W)
+  values-more more _ _ no-values = no-values
+  values-more more _ _ (one-value kind low high c ws cs S f W) = one-value kind low high c ws cs (value-more texts more kind low high c S) f (values-more more ws cs W)
 
   pub values-append : (ws xs : List ℕ) (cs ds : List Content) → ValuesStand texts ws cs → ValuesStand texts xs ds → ValuesStand texts (ws ++ xs) (cs ++ ds)
-  values-append _ xs _ ds none O = O
-  values-append _ xs _ ds (one kind low high c ws cs S f W) O = one kind low high c (ws ++ xs) (cs ++ ds) S f (values-append ws xs cs ds W O)
+  values-append _ xs _ ds no-values O = O
+  values-append _ xs _ ds (one-value kind low high c ws cs S f W) O = one-value kind low high c (ws ++ xs) (cs ++ ds) S f (values-append ws xs cs ds W O)
 
   pub values-found : (ws : List ℕ) (cs : List Content) → ValuesStand texts ws cs → (j : ℕ) (key : List ℕ) (b : Content) → Fine b → findValue j ws texts (tagOf key b .value) (tagOf key b .text) ≡ foundAt j (among same b cs) (placeOf same b cs)
-  values-found _ _ none j key b g = refl
-  values-found _ _ (one kind low high c ws cs S f W) j key b g =
+  values-found _ _ no-values j key b g = refl
+  values-found _ _ (one-value kind low high c ws cs S f W) j key b g =
       rw (value-found texts kind low high c S f key b g, values-found ws cs W (suc j) key b g) (found-next j (same c b) (among same b cs) (placeOf same b cs))
 
   pub value-fields : (ws : List ℕ) (cs : List Content) → ValuesStand texts ws cs → valueFields texts ws ≡ each valueField cs
-  value-fields _ _ none = refl
-  value-fields _ _ (one kind low high c ws cs S f W) = rw (value-message texts kind low high c S f, value-fields ws cs W)
+  value-fields _ _ no-values = refl
+  value-fields _ _ (one-value kind low high c ws cs S f W) = rw (value-message texts kind low high c S f, value-fields ws cs W)

@@ -30,9 +30,9 @@ use Rattle.layer.proofs.Keeping.{by-check, is-shut}
 use Rattle.layer.proofs.Features.{feature-room}
 use Rattle.given.specs.Given.{Content, Tag, Feature, Drawing, drawn, onOpen, tagged, completed, after, tags, closes, added}
 use Rattle.given.specs.Asked.{tagOf, contentAt, tagsGiven, idGiven, featureGiven, Int64, Fine, Words}
+use Rattle.given.specs.Layout.{markOf, numberOf, Stands}
 use Rattle.given.proofs.Numbers.{low-half, high-half}
-use Rattle.given.proofs.Records.{markOf, numberOf}
-use Rattle.given.proofs.Standing.{Stands, Kept, opened-stands, tag-stands, closed-stands}
+use Rattle.given.proofs.Standing.{Kept, opened-stands, tag-stands, closed-stands}
 
 -- ---- 64 bits as a number, and back
 signed-fits : (n : ℕ) → n < 18446744073709551616 → (Int64 (signed64 n)) × (bitsOf (signed64 n) ≡ n)
