@@ -1,0 +1,12 @@
+pub mod FirstUse
+pub mod Numbers
+pub mod Alike
+pub mod Entries
+pub mod Values
+pub mod Records
+pub mod Holding
+pub mod Standing
+pub mod Bytes
+pub mod Whole
+pub mod Runs
+pub mod Corollaries

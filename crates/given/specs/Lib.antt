@@ -1,0 +1,5 @@
+pub mod Given
+pub mod Messages
+pub mod Asked
+pub mod Layout
+pub mod Runs
