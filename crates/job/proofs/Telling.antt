@@ -4,7 +4,6 @@ use mathlib.Core.List.{List}
 use Prim.Native.Nat.{ℕ, _+_, _*_, _≤_}
 use native.Mathlib.Omega.{arith}
 use borrow.Author.Tests.{le-leb, ne-eqb}
-use lib.IntN.{ℤ}
 use lib.ListN.{length, take}
 use lib.Seq.{length-take-le}
 use Rattle.promise.specs.Answers.{Written, Gives}
@@ -16,7 +15,7 @@ use Rattle.refusal.specs.Said.{Said, accepted, refused}
 use Rattle.refusal.proofs.Laws.{numbered}
 use Rattle.lines.specs.Printed.{shown, wordsText, wordsRoom, refusedText, refusedRoom}
 use Rattle.lines.proofs.Columns.{words-short, refused-short}
-use Rattle.job_file.specs.JobFile.{Memory, jobFile}
+use Rattle.job_file.specs.JobFile.{jobFile}
 use Rattle.job.specs.Program.{fileText, Told}
 
 -- what is shown in a text that has the room, and whose bytes fit, is told
@@ -34,21 +33,21 @@ told room bytes text r l h k g =
 not-zero : (x : Refusal) → numberOf x ≡ 0 → ⊥
 not-zero x e = omega (arith, numbered x)
 
-module _ (n : Written (Said ℕ) (List ℕ)) (points : List ℤ) (words text : List ℕ) (r : ℕ) (l : List ℕ) (nums : List ℕ) where
+module _ (n : Written (Said ℕ) (List ℕ)) (words text : List ℕ) (r : ℕ) (l : List ℕ) (nums : List ℕ) where
   -- the numbers were refused
-  pub no-numbers : (x : Refusal) → refusedRoom ≤ length text → Gives n (refused x 0) nums → Gives (shown refusedRoom (refusedText (numberOf x) 0) text) r l → Told (fileText n points words) r l
+  pub no-numbers : (x : Refusal) → refusedRoom ≤ length text → Gives n (refused x 0) nums → Gives (shown refusedRoom (refusedText (numberOf x) 0) text) r l → Told (fileText n words) r l
   no-numbers x h g k = rw (← g .answer, ne-eqb (numberOf x) 0 (not-zero x)) (told refusedRoom (refusedText (numberOf x) 0) text r l h (refused-short (numberOf x) 0) k)
 
-  module _ (k : ℕ) (g : Gives n (accepted k) nums) (m : Memory) where
+  module _ (k : ℕ) (g : Gives n (accepted k) nums) (m : List ℕ) where
     -- the job was refused
-    pub no-job : (x : Refusal) (p : ℕ) → refusedRoom ≤ length text → Gives (jobFile (take k nums) (record { points = points; words = words })) (refused x p) m
-        → Gives (shown refusedRoom (refusedText (numberOf x) p) text) r l → Told (fileText n points words) r l
+    pub no-job : (x : Refusal) (p : ℕ) → refusedRoom ≤ length text → Gives (jobFile (take k nums) words) (refused x p) m
+        → Gives (shown refusedRoom (refusedText (numberOf x) p) text) r l → Told (fileText n words) r l
     no-job x p h j q =
         rw (← g .answer, ← g .memory, ← j .answer, ← j .memory, ne-eqb (numberOf x) 0 (not-zero x)) (told refusedRoom (refusedText (numberOf x) p) text r l h (refused-short (numberOf x) p) q)
 
     -- the job has words
-    pub all-words : (u : ℕ) → u ≤ length (m .words) → 27 + 21 * length (m .words) ≤ length text → Gives (jobFile (take k nums) (record { points = points; words = words })) (accepted u) m
-        → Gives (shown (wordsRoom (take u (m .words))) (wordsText (take u (m .words))) text) r l → Told (fileText n points words) r l
+    pub all-words : (u : ℕ) → u ≤ length m → 27 + 21 * length m ≤ length text → Gives (jobFile (take k nums) words) (accepted u) m
+        → Gives (shown (wordsRoom (take u m)) (wordsText (take u m)) text) r l → Told (fileText n words) r l
     all-words u v h j q =
-        let h′ : wordsRoom (take u (m .words)) ≤ length text = omega (arith, length-take-le u (m .words) v) in
-        rw (← g .answer, ← g .memory, ← j .answer, ← j .memory) (told (wordsRoom (take u (m .words))) (wordsText (take u (m .words))) text r l h′ (words-short (take u (m .words))) q)
+        let h′ : wordsRoom (take u m) ≤ length text = omega (arith, length-take-le u m v) in
+        rw (← g .answer, ← g .memory, ← j .answer, ← j .memory) (told (wordsRoom (take u m)) (wordsText (take u m)) text r l h′ (words-short (take u m)) q)

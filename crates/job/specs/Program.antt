@@ -4,25 +4,23 @@ use mathlib.Core.Path.{_≡_}
 use mathlib.Core.Bool.{cond}
 use mathlib.Core.List.{List}
 use lib.Dec.{eqb}
-use lib.IntN.{ℤ}
 use lib.ListN.{length, take}
 use Rattle.promise.specs.Answers.{Written}
 use Rattle.refusal.specs.Said.{Said}
 use Rattle.numbers.specs.Numbers.{reading}
 use Rattle.lines.specs.Printed.{wordsText, refusedText}
-use Rattle.job_file.specs.JobFile.{Memory, jobFile}
+use Rattle.job_file.specs.JobFile.{jobFile}
 
 -- a whole job's answer: its words, or `refused R at P`
-abbrev pub jobText : Written (Said ℕ) Memory → List ℕ
-jobText w = cond (eqb (w .answer .number) 0) (wordsText (take (w .answer .values) (w .memory .words))) (refusedText (w .answer .number) (w .answer .values))
+abbrev pub jobText : Written (Said ℕ) (List ℕ) → List ℕ
+jobText w = cond (eqb (w .answer .number) 0) (wordsText (take (w .answer .values) (w .memory))) (refusedText (w .answer .number) (w .answer .values))
 
 -- the file's numbers are read, and where that is accepted they are taken for a job; a file that is refused has no accepted points
-abbrev pub fileText : Written (Said ℕ) (List ℕ) → List ℤ → List ℕ → List ℕ
-fileText n points words =
-    cond (eqb (n .answer .number) 0) (jobText (jobFile (take (n .answer .values) (n .memory)) (record { points = points; words = words }))) (refusedText (n .answer .number) 0)
+abbrev pub fileText : Written (Said ℕ) (List ℕ) → List ℕ → List ℕ
+fileText n words = cond (eqb (n .answer .number) 0) (jobText (jobFile (take (n .answer .values) (n .memory)) words)) (refusedText (n .answer .number) 0)
 
-unfoldable pub printed : List ℕ → List ℕ → List ℤ → List ℕ → List ℕ
-printed file numbers points words = fileText (reading file numbers) points words
+unfoldable pub printed : List ℕ → List ℕ → List ℕ → List ℕ
+printed file numbers words = fileText (reading file numbers) words
 
 -- the text begins with these bytes, and r counts them
 pub record Told (bytes : List ℕ) (r : ℕ) (text : List ℕ) : Type 0 where

@@ -6,20 +6,14 @@ use encoder::whole_job::Encoded;
 use numbers::Numbers;
 
 // What the program prints for a file, at the front of `text`: how many bytes it is. The lists are the program's own, and large enough.
-fn answer(
-    file: &[u8],
-    numbers: &mut [u32],
-    points: &mut [i32],
-    words: &mut [u32],
-    text: &mut [u8],
-) -> usize
+fn answer(file: &[u8], numbers: &mut [u32], words: &mut [u32], text: &mut [u8]) -> usize
     requires { ⌜ 53 ≤ length (now text) ⌝ }
     requires { ⌜ 27 + 21 * length (now words) ≤ length (now text) ⌝ }
-    ensures { λ r. ⌜ Told (printed (now (file .entry)) (now (numbers .entry)) (now (points .entry)) (now (words .entry))) r (now (text .exit)) ⌝ }
+    ensures { λ r. ⌜ Told (printed (now (file .entry)) (now (numbers .entry)) (now (words .entry))) r (now (text .exit)) ⌝ }
 {
     match numbers::read_numbers(file, numbers) {
         Numbers::Refused(r) => lines::show_refused(refusal::number(r), 0, text),
-        Numbers::Read(n) => match job_file::encode_file(&numbers[..n], points, words) {
+        Numbers::Read(n) => match job_file::encode_file(&numbers[..n], words) {
             Encoded::Refused(r, accepted) => lines::show_refused(
                 refusal::number(r),
                 accepted,
@@ -35,9 +29,8 @@ fn main() {
     let mut file = [0u8; 65537];
     let n = io::read_full(libc::STDIN_FILENO, &mut file);
     let mut numbers = [0u32; 16384];
-    let mut points = [0i32; 16384];
     let mut words = [0u32; 16384];
     let mut text = [0u8; 344_091];
-    let k = answer(&file[..n], &mut numbers, &mut points, &mut words, &mut text);
+    let k = answer(&file[..n], &mut numbers, &mut words, &mut text);
     io::write_all(libc::STDOUT_FILENO, &text[..k]);
 }

@@ -6,18 +6,12 @@ use lib.Dec.{leb}
 use lib.IntN.{ℤ}
 use lib.ListN.{length, take, drop, getD}
 use Rattle.promise.specs.Answers.{Written, kept}
-use Rattle.promise.specs.Laid.{lay}
-use Rattle.refusal.specs.declared.Refusal.the-variants.{Job, Room}
+use Rattle.refusal.specs.declared.Refusal.the-variants.{Job}
 use Rattle.refusal.specs.Said.{Said, refused}
 use Rattle.clip.specs.declared.BBox.{BBox}
 use Rattle.numbers.specs.Numbers.{maxBytes}
 use Rattle.whole.specs.Twos.{signed32}
 use Rattle.encoder.specs.Jobs.{encodedJob}
-
--- the lent lists: the points as signed numbers, and the words
-pub record Memory : Type 0 where
-  pub points : List ℤ
-  pub words : List ℕ
 
 -- ---- the contents table
 abbrev pub kindOf : List ℕ → ℕ
@@ -40,19 +34,17 @@ endsOf file = take (partsOf file) (drop 6 file)
 abbrev pub pointsIn : List ℕ → List ℤ
 pointsIn file = map signed32 (drop (6 + partsOf file) file)
 
--- the whole job, its points laid in their list
-abbrev pub encodes : Written (Said ℕ) (List ℕ) → List ℤ → List ℤ → Written (Said ℕ) Memory
-encodes w ps points = record { answer = w .answer; memory = record { points = lay 0 ps points; words = w .memory } }
-
--- taking the file apart: JOB, "file cut short or too long" (65,536 bytes, four to a number), and then ROOM for the points' list; then the whole job
-unfoldable pub jobFile : List ℕ → Memory → Written (Said ℕ) Memory
-jobFile file m =
+-- JOB first, "file cut short or too long" (65,536 bytes, four to a number); then the whole job in its own order: JOB of its lists, KIND, BOX, the calls
+unfoldable pub jobFile : List ℕ → List ℕ → Written (Said ℕ) (List ℕ)
+jobFile file words =
     cond (leb (length file) (maxBytes / 4))
     (cond (leb 6 (length file))
     (cond (leb (partsOf file) (length file - 6))
-    (cond (leb (length file - (6 + partsOf file)) (length (m .points)))
-    (encodes (encodedJob (kindOf file) (boxOf file) (pointsIn file) (endsOf file) (m .words)) (pointsIn file) (m .points))
-    (kept (refused Room 0) m))
-    (kept (refused Job 0) m))
-    (kept (refused Job 0) m))
-    (kept (refused Job 0) m)
+    (encodedJob (kindOf file) (boxOf file) (pointsIn file) (endsOf file) words)
+    (kept (refused Job 0) words))
+    (kept (refused Job 0) words))
+    (kept (refused Job 0) words)
+
+-- ---- what the private step `encode_body` promises: the job whose ends stand from 6 up to `body`, and whose points from there on
+abbrev pub bodyEncoded : List ℕ → ℕ → List ℕ → Written (Said ℕ) (List ℕ)
+bodyEncoded file body words = encodedJob (kindOf file) (boxOf file) (map signed32 (drop body file)) (take (body - 6) (drop 6 file)) words

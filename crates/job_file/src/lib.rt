@@ -7,7 +7,7 @@ ghost use Rattle.promise.specs.Answers.{Gives};
 ghost use Rattle.promise.specs.Laid.{lay};
 ghost use Rattle.whole.specs.Twos.{signed32};
 ghost use Rattle.encoder.specs.Jobs.{saidEncoded};
-ghost use Rattle.job_file.specs.JobFile.{box, jobFile};
+ghost use Rattle.job_file.specs.JobFile.{box, bodyEncoded, jobFile};
 use clip::BBox;
 use encoder::whole_job::Encoded;
 use numbers::File;
@@ -44,9 +44,27 @@ fn wide(n: u32) -> usize
     n as usize
 }
 
-// The job that a file's numbers are: kind, box, part count, each part's end; then the points, which are laid in `points` as signed numbers.
-pub fn encode_file(file: &[u32], points: &mut [i32], words: &mut [u32]) -> Encoded
-    ensures { λ r. ⌜ Gives (jobFile (now (file .entry)) (record { points = now (points .entry); words = now (words .entry) })) (saidEncoded r) (record { points = now (points .exit); words = now (words .exit) }) ⌝ }
+// The job of a file whose points begin at `body`; they are laid in `points` as signed numbers.
+fn encode_body(file: &[u32], body: usize, points: &mut [i32], words: &mut [u32]) -> Encoded
+    requires { ⌜ 6 ≤ body ⌝ }
+    requires { ⌜ body ≤ length (now file) ⌝ }
+    requires { ⌜ length (now file) ≤ length (now points) ⌝ }
+    ensures { λ r. ⌜ Gives (bodyEncoded (now (file .entry)) body (now (words .entry))) (saidEncoded r) (now (words .exit)) ⌝ }
+{
+    let n = file.len() - body;
+    lay_signed(&file[body..], points);
+    encoder::whole_job::encode(
+        file[0],
+        box_of(file[1], file[2], file[3], file[4]),
+        &points[..n],
+        &file[6..body],
+        words,
+    )
+}
+
+// The job that a file's numbers are: kind, box, part count, each part's end; then the points. A file has fewer of them than the own list holds.
+pub fn encode_file(file: &[u32], words: &mut [u32]) -> Encoded
+    ensures { λ r. ⌜ Gives (jobFile (now (file .entry)) (now (words .entry))) (saidEncoded r) (now (words .exit)) ⌝ }
 {
     let end = file.len();
     if File::MAX_BYTES / 4 < end {
@@ -59,17 +77,6 @@ pub fn encode_file(file: &[u32], points: &mut [i32], words: &mut [u32]) -> Encod
     if end - 6 < parts {
         return Encoded::Refused(Refusal::Job, 0);
     }
-    let body = 6 + parts;
-    let n = end - body;
-    if points.len() < n {
-        return Encoded::Refused(Refusal::Room, 0);
-    }
-    lay_signed(&file[body..], points);
-    encoder::whole_job::encode(
-        file[0],
-        box_of(file[1], file[2], file[3], file[4]),
-        &points[..n],
-        &file[6..body],
-        words,
-    )
+    let mut points = [0i32; 16384];
+    encode_body(file, 6 + parts, &mut points, words)
 }

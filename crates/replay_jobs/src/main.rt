@@ -1,8 +1,8 @@
 // Replays jobs: prints for each job file what the program `job` prints for it, its words or its refusal.
 use encoder::whole_job::Encoded;
 
-fn print_job(job: &[u32], points: &mut [i32], words: &mut [u32]) {
-    match job_file::encode_file(job, points, words) {
+fn print_job(job: &[u32], words: &mut [u32]) {
+    match job_file::encode_file(job, words) {
         Encoded::Refused(r, accepted) => {
             replay::print_refused(r, accepted);
         }
@@ -12,21 +12,20 @@ fn print_job(job: &[u32], points: &mut [i32], words: &mut [u32]) {
     }
 }
 
-fn print_all(cases: &[u32], points: &mut [i32], words: &mut [u32]) {
+fn print_all(cases: &[u32], words: &mut [u32]) {
     let mut at = 0;
     while at < cases.len() {
-        print_job(replay::body(cases, at), points, words);
+        print_job(replay::body(cases, at), words);
         at = replay::past(cases, at);
     }
 }
 
-// The lists are as long as the program's.
+// The list is as long as the program's.
 fn replay_file(path: &[u8]) {
     let mut cases = [0u32; 16384];
     let n = replay::load(path, &mut cases);
-    let mut points = [0i32; 16384];
     let mut words = [0u32; 16384];
-    print_all(&cases[..n], &mut points, &mut words);
+    print_all(&cases[..n], &mut words);
 }
 
 fn main() {

@@ -1,4 +1,4 @@
--- Crates `whole_job`, `job_file` and `numbers`: wrong jobs, wrong job files and wrong numbers of a file.
+-- Crates `encoder` (its whole job), `job_file` and `numbers`: wrong jobs, wrong job files and wrong numbers of a file.
 use Prim.Native.Nat.{ℕ, _+_, _-_, _*_, _/_, _%_}
 use mathlib.Core.Path.{_≡_, ap}
 use mathlib.Core.Bool.{false, cond}
@@ -24,7 +24,7 @@ use Rattle.encoder.specs.Completing.{finished, completed}
 use Rattle.encoder.specs.Calls.{add}
 use Rattle.encoder.specs.Jobs.{pointsOf, endsAt, isJob, part, jobCalls, encodedJob}
 use Rattle.numbers.specs.Numbers.{maxBytes, number, numbersOf, reading}
-use Rattle.job_file.specs.JobFile.{Memory, kindOf, box, boxOf, partsOf, endsOf, pointsIn, jobFile}
+use Rattle.job_file.specs.JobFile.{kindOf, box, boxOf, partsOf, endsOf, pointsIn, jobFile}
 use Rattle.ruled_out.specs.Inputs.{bit, size, item, sizeOf, firstY, hundred, flat}
 
 -- ---- whole_job::encode: its lists
@@ -101,22 +101,27 @@ pub part-count-lies : ((file : List ℕ) → endsOf file ≡ drop 6 file) → �
 part-count-lies h = let e : _≡_ {A = ℕ} 1 5 = ap length (h sample) in omega arith
 
 -- a file whose ends are not all there is taken
-pub missing-ends-taken : ((file : List ℕ) (m : Memory)
-    → jobFile file m .answer ≡ encodedJob (kindOf file) (boxOf file) (pointsIn file) (endsOf file) (m .words) .answer) → ⊥
+pub missing-ends-taken : ((file words : List ℕ)
+    → jobFile file words .answer ≡ encodedJob (kindOf file) (boxOf file) (pointsIn file) (endsOf file) words .answer) → ⊥
 unfolding jobFile encodedJob isJob isGood valid isCoord completed
-missing-ends-taken h =
-    let e : _≡_ {A = ℕ} 1 6 = ap (λ (a : Said ℕ). a .number) (h (1 ∷ 0 ∷ 100 ∷ 0 ∷ 100 ∷ 2 ∷ 0 ∷ []) (record { points = []; words = [] })) in omega arith
+missing-ends-taken h = let e : _≡_ {A = ℕ} 1 6 = ap (λ (a : Said ℕ). a .number) (h (1 ∷ 0 ∷ 100 ∷ 0 ∷ 100 ∷ 2 ∷ 0 ∷ []) []) in omega arith
 
--- the points are not laid in their list
-pub points-not-laid : ((file : List ℕ) (m : Memory) → jobFile file m .memory .points ≡ m .points) → ⊥
-unfolding jobFile encodedJob isJob isGood valid isCoord boundary emission param finished added completed
-points-not-laid h = let e : _≡_ {A = ℕ} 5 0 = ap (sizeOf 0) (h sample (record { points = replicate 4 (pos 0); words = replicate 8 0 })) in omega arith
-
--- a list too short for the points is JOB
-pub short-points-as-job : ((file : List ℕ) (m : Memory)
-    → jobFile file m .answer .number ≡ cond (eqb (jobFile file m .answer .number) 7) 1 (jobFile file m .answer .number)) → ⊥
+-- KIND is asked before the file is known to be whole
+pub kind-before-file : ((file words : List ℕ)
+    → jobFile file words .answer .number ≡ cond (isKind (kindOf file)) (jobFile file words .answer .number) 2) → ⊥
 unfolding jobFile
-short-points-as-job h = let e : _≡_ {A = ℕ} 7 1 = h sample (record { points = []; words = replicate 8 0 }) in omega arith
+kind-before-file h = let e : _≡_ {A = ℕ} 1 2 = h [] [] in omega arith
+
+-- ROOM for the points is asked before KIND
+pub room-before-kind : ((file words : List ℕ)
+    → jobFile file words .answer .number ≡ cond (leb (length (pointsIn file)) (length words)) (jobFile file words .answer .number) 7) → ⊥
+unfolding jobFile encodedJob isJob
+room-before-kind h = let e : _≡_ {A = ℕ} 2 7 = h (0 ∷ 0 ∷ 100 ∷ 0 ∷ 100 ∷ 1 ∷ 1 ∷ 5 ∷ 7 ∷ []) [] in omega arith
+
+-- no words are written
+pub no-words-written : ((file words : List ℕ) → jobFile file words .memory ≡ words) → ⊥
+unfolding jobFile encodedJob isJob isGood valid isCoord boundary emission param finished added completed
+no-words-written h = let e : _≡_ {A = ℕ} 17 0 = ap (item 0) (h sample (replicate 8 0)) in omega arith
 
 -- ---- numbers::File::max_bytes
 -- one byte more

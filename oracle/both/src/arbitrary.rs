@@ -4,6 +4,7 @@ use crate::cases;
 use crate::judge::{Job, LIMIT};
 use crate::lent::Lent;
 use crate::random::Random;
+use crate::readings;
 use crate::report::{Difference, Tally};
 use ours::{Encoder, Point};
 
@@ -237,17 +238,11 @@ fn read(random: &mut Random) -> Said {
     let room = random.below(40);
     let mut out = Lent::new(room);
     let given = ours::decode(&words, out.signed());
-    let untouched = out.differs(std::iter::empty::<u32>()).is_none();
-    let sound = if given.refusal == 0 {
-        3 * given.vertices <= room
-    } else {
-        given.vertices == 0 && untouched
-    };
     Said {
         call: "words read",
         refusal: given.refusal,
         allowed: READ,
-        sound,
+        sound: readings::differs(&words, room, false).is_none(),
         guarded: out.guarded(),
     }
 }

@@ -4,6 +4,7 @@ use crate::cases::{self, FILE_LIMIT};
 use crate::judge::{self, Call, Job, Judge, Verdict, EMPTY};
 use crate::lent::Lent;
 use crate::random::Random;
+use crate::readings;
 use crate::report::{Difference, Tally};
 use crate::shrink;
 use ours::{Encoder, Point};
@@ -76,16 +77,8 @@ fn read_back(expected: &Expected) -> Option<String> {
     if expected.refusal != 0 {
         return None;
     }
-    let vertices = judge::vertices(&expected.words);
-    let mut out = Lent::new(vertices.len());
-    let given = ours::decode(&expected.words, out.signed());
-    if (given.refusal, given.vertices) != (0, vertices.len() / 3) {
-        return Some(format!(
-            "reading the words: {given:?}, expected {} vertices",
-            vertices.len() / 3
-        ));
-    }
-    out.differs(vertices.iter().map(|n| *n as u32))
+    let numbers = readings::vertices(&expected.words, usize::MAX).map_or(0, |found| found.len());
+    readings::differs(&expected.words, numbers, false)
         .map(|what| format!("reading the words: {what}"))
 }
 

@@ -221,25 +221,3 @@ fn geometry_words(geometry: mvt::GeomData) -> Vec<u32> {
     let read: TileRead = prost::Message::decode(&bytes[..]).expect("the tile reads back");
     read.layers[0].features[0].geometry.clone()
 }
-
-/// The vertices of words that an encoder made, three numbers each: an independent reading by MVT, no answer of the Rust.
-pub fn vertices(words: &[u32]) -> Vec<i32> {
-    let mut found = Vec::new();
-    let (mut x, mut y, mut at) = (0i64, 0i64, 0);
-    while at < words.len() {
-        let (id, count) = (words[at] & 7, words[at] >> 3);
-        at += 1;
-        if id == 7 {
-            found.extend([7, x as i32, y as i32]);
-            continue;
-        }
-        for _ in 0..count {
-            let step = |word: u32| i64::from((word >> 1) as i32 ^ -((word & 1) as i32));
-            x += step(words[at]);
-            y += step(words[at + 1]);
-            at += 2;
-            found.extend([id as i32, x as i32, y as i32]);
-        }
-    }
-    found
-}

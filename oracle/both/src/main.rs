@@ -13,6 +13,7 @@ mod lent;
 mod many;
 mod near;
 mod random;
+mod readings;
 mod report;
 mod scripts;
 mod shrink;
@@ -23,7 +24,7 @@ mod whole;
 use report::{Difference, Tally};
 use std::process::exit;
 
-const USAGE: &str = "usage: both jobs|clips|tiles|arbitrary|arbitrary-tiles|spoiled-jobs|spoiled-tiles SEED COUNT, or both cases jobs|large_jobs|clips|tiles|large_tiles SEED COUNT";
+const USAGE: &str = "usage: both jobs|clips|readings|tiles|arbitrary|arbitrary-tiles|spoiled-jobs|spoiled-readings|spoiled-tiles SEED COUNT, or both cases jobs|large_jobs|clips|tiles|large_tiles SEED COUNT";
 
 fn run(kind: &str, seed: u64, count: usize, tally: &mut Tally) -> Option<Difference> {
     match kind {
@@ -31,6 +32,9 @@ fn run(kind: &str, seed: u64, count: usize, tally: &mut Tally) -> Option<Differe
         // Shows that a difference is found: a word of ours is changed before it is compared.
         "spoiled-jobs" => jobs::compare(seed, count, true, tally),
         "clips" => clips::compare(seed, count, tally),
+        "readings" => readings::compare(seed, count, false, tally),
+        // The same: a fault of ours is said to be COMMAND.
+        "spoiled-readings" => readings::compare(seed, count, true, tally),
         "tiles" => tiles::compare(seed, count, false, tally),
         // The same: a byte of ours is changed.
         "spoiled-tiles" => tiles::compare(seed, count, true, tally),

@@ -2,15 +2,37 @@
 use Prim.Native.Nat.{_≤_}
 use mathlib.Core.Path.{sym}
 use native.Mathlib.Omega.{arith}
-use borrow.Author.Needs.{needs}
 use lib.ListN.{length}
 use lib.Seq.{length-take-le}
 use Rattle.numbers.proofs.Places.{read-within}
 use Rattle.job_file.proofs.Taking.{file-within}
 use Rattle.job.specs.Program.{printed}
 use Rattle.job.proofs.Telling.{no-numbers, no-job, all-words}
+use borrow.Author.Needs.{needs}
 use Rattle.job.proofs.answer.Statement.{statement}
 use Rattle.job.proofs.answer.Tie as tie
+
+-- the places on the way
+abbrev start-before-read-numbers : tie.After-read-numbers → tie.Start
+start-before-read-numbers c = c .before .before .before .before .before .before
+
+abbrev start-before-encode-file-arg : tie.After-encode-file-arg → tie.Start
+start-before-encode-file-arg c = start-before-read-numbers (c .before .before .before .before .before .before)
+
+abbrev start-before-used : tie.After-used → tie.Start
+start-before-used c = start-before-encode-file-arg (c .before .before .before .before .before .before)
+
+abbrev start-before-number : tie.After-number → tie.Start
+start-before-number c = start-before-read-numbers (c .before .before .before .before .before .before)
+
+abbrev start-before-r2 : tie.After-r2 → tie.Start
+start-before-r2 c = start-before-encode-file-arg (c .before .before .before .before .before .before)
+
+numbers-within : (c : tie.After-known-told2) → c .before .n .given .0 .0 ≤ length (start-before-read-numbers (c .before .before .before .before .before) .args .numbers .now)
+numbers-within c = read-within _ _ _ _ (rw (c .before .n .given .1) at (c .before .before .before .before .before .read-numbers .ensures))
+
+words-within : (c : tie.After-known-told4) → c .before .used .given .0 .0 ≤ length (start-before-used (c .before) .args .words .now)
+words-within c = file-within _ _ _ (sym ((rw (c .before .used .given .1) at (c .before .before .before .before .before .encode-file .ensures)) .answer))
 
 read-numbers-requires : tie.Need-read-numbers-requires
 read-numbers-requires c κs = search needs
@@ -26,13 +48,6 @@ show-refused-requires c κs = search needs
 
 enum-known-n : tie.Need-enum-known-n
 enum-known-n c = search needs
-
--- the numbers that were read, and the words that were used, are counts within their lists
-numbers-within : (c : tie.After-known-told2) → c .before .n .given .0 .0 ≤ length (c .before .before .before .before .before .before .before .before .before .before .before .args .numbers .now)
-numbers-within c = read-within _ _ _ _ (rw (c .before .n .given .1) at (c .before .before .before .before .before .read-numbers .ensures))
-
-words-within : (c : tie.After-known-told4) → c .before .used .given .0 .0 ≤ length (c .before .before .before .before .before .before .before .before .before .before .before .before .before .before .before .before .before .before .before .before .before .args .words .now)
-words-within c = file-within _ _ _ (sym ((rw (c .before .used .given .1) at (c .before .before .before .before .before .before .encode-file .ensures)) .answer))
 
 slice-reshare-prefix-encode-file : tie.Need-slice-reshare-prefix-encode-file
 slice-reshare-prefix-encode-file c = omega (arith, numbers-within c)
@@ -73,9 +88,9 @@ same-length-2 c = search needs
 returns : tie.Need-returns
 unfolding printed
 returns c =
-    let n = c .before .before .before .before in
-    let k = n .before in
-    no-numbers _ _ _ (c .before .before .before .before .before .before .before .before .before .before .before .before .before .before .before .before .args .text .now) _ _ _ (k .before .r .given .0 .0) (c .before .before .before .before .before .before .before .before .before .before .before .before .before .before .before .before .pre .0) (rw (k .before .r .given .1) at (k .before .before .before .before .before .read-numbers .ensures)) (rw (n .number .ensures) at (c .before .before .show-refused .ensures))
+    let k = c .before .before .before .before .before .before in
+    no-numbers _ _ (start-before-number (c .before .before .before .before) .args .text .now) _ _ _ (k .r .given .0 .0) (start-before-number (c .before .before .before .before) .pre .0)
+    (rw (k .r .given .1) at (k .before .before .before .before .read-numbers .ensures)) (rw (c .before .before .before .before .number .ensures) at (c .before .before .show-refused .ensures))
 
 same-length-3 : tie.Need-same-length-3
 same-length-3 c = search needs
@@ -86,16 +101,17 @@ same-length-4 c = search needs
 same-length-5 : tie.Need-same-length-5
 same-length-5 c = search needs
 
-same-length-6 : tie.Need-same-length-6
-same-length-6 c = search needs
-
 returns-2 : tie.Need-returns-2
 unfolding printed
 returns-2 c =
-    let n = c .before .before .before .before in
-    let k = n .before in
-    let t = k .before .before .before .before .before .before .before .before .before .before in
-    no-job _ _ _ (c .before .before .before .before .before .before .before .before .before .before .before .before .before .before .before .before .before .before .before .before .before .before .before .before .before .before .args .text .now) _ _ _ _ (rw (t .before .n .given .1) at (t .before .before .before .before .before .read-numbers .ensures)) _ (k .before .r2 .given .0 .0) _ (c .before .before .before .before .before .before .before .before .before .before .before .before .before .before .before .before .before .before .before .before .before .before .before .before .before .before .pre .0) (rw (k .before .r2 .given .1) at (k .before .before .before .before .before .before .encode-file .ensures)) (rw (n .number2 .ensures) at (c .before .before .show-refused2 .ensures))
+    let k = c .before .before .before .before .before .before in
+    let e = k .before .before .before .before in
+    let t = e .before .before .before .before in
+    no-job _ _ (start-before-r2 (c .before .before .before .before .before .before) .args .text .now) _ _ _ _ (rw (t .n .given .1) at (t .before .before .before .before .read-numbers .ensures)) _ (k .r2 .given .0 .0) _ (start-before-r2 (c .before .before .before .before .before .before) .pre .0)
+    (rw (k .r2 .given .1) at (e .encode-file .ensures)) (rw (c .before .before .before .before .number2 .ensures) at (c .before .before .show-refused2 .ensures))
+
+same-length-6 : tie.Need-same-length-6
+same-length-6 c = search needs
 
 same-length-7 : tie.Need-same-length-7
 same-length-7 c = search needs
@@ -103,18 +119,16 @@ same-length-7 c = search needs
 same-length-8 : tie.Need-same-length-8
 same-length-8 c = search needs
 
-same-length-9 : tie.Need-same-length-9
-same-length-9 c = search needs
-
-same-length-10 : tie.Need-same-length-10
-same-length-10 c = search needs
-
 returns-3 : tie.Need-returns-3
 unfolding printed
 returns-3 c =
-    let k = c .before .before .before .before .before in
-    let t = k .before .before .before .before .before .before .before .before .before .before in
-    all-words _ _ _ (c .before .before .before .before .before .before .before .before .before .before .before .before .before .before .before .before .before .before .before .before .before .before .before .before .before .before .args .text .now) _ _ _ _ (rw (t .before .n .given .1) at (t .before .before .before .before .before .read-numbers .ensures)) _ (k .before .used .given .0 .0) (omega (arith, words-within k)) (omega arith) (rw (k .before .used .given .1) at (k .before .before .before .before .before .before .encode-file .ensures)) (c .before .before .show-words .ensures)
+    let k = c .before .before .before .before .before .before in
+    let e = k .before .before .before .before in
+    let t = e .before .before .before .before in
+    let s = t .before .before .before .before in
+    let f = s .before .before .before .before .before .before in
+    all-words _ _ (f .args .text .now) _ _ _ _ (rw (t .n .given .1) at (s .read-numbers .ensures)) _ (k .used .given .0 .0)
+    (omega (arith, words-within (c .before .before .before .before .before))) (omega arith) (rw (k .used .given .1) at (e .encode-file .ensures)) (c .before .before .show-words .ensures)
 
 pub answer-spec : {M : Type 1} → statement M
 answer-spec =
@@ -141,10 +155,8 @@ answer-spec =
     same-length-3
     same-length-4
     same-length-5
-    same-length-6
     returns-2
+    same-length-6
     same-length-7
     same-length-8
-    same-length-9
-    same-length-10
     returns-3)

@@ -1,7 +1,7 @@
 -- The program's lists are as large as `answer` asks.
 use mathlib.Core.Path.{sym}
-use borrow.Author.Needs.{needs}
 use lib.Seq.{length-take-le}
+use borrow.Author.Needs.{needs}
 use Rattle.job.proofs.main.Statement.{statement}
 use Rattle.job.proofs.main.Tie as tie
 
@@ -26,9 +26,6 @@ slice-aggregate-answer-3 c = search needs
 slice-aggregate-answer-4 : tie.Need-slice-aggregate-answer-4
 slice-aggregate-answer-4 c = search needs
 
-slice-aggregate-answer-5 : tie.Need-slice-aggregate-answer-5
-slice-aggregate-answer-5 c = search needs
-
 answer-requires : tie.Need-answer-requires
 answer-requires c κs = (search needs, search needs)
 
@@ -36,7 +33,7 @@ array-share-prefix-text : tie.Need-array-share-prefix-text
 array-share-prefix-text c = search needs
 
 slice-aggregate-write-all : tie.Need-slice-aggregate-write-all
-slice-aggregate-write-all c = sym (length-take-le _ _ (c .before .before .before .before .before .answer .ensures .inside))
+slice-aggregate-write-all c = sym (length-take-le _ _ (c .before .before .before .before .answer .ensures .inside))
 
 write-all-requires : tie.Need-write-all-requires
 write-all-requires c κs = search needs
@@ -55,7 +52,6 @@ main-spec =
     slice-aggregate-answer-2
     slice-aggregate-answer-3
     slice-aggregate-answer-4
-    slice-aggregate-answer-5
     answer-requires
     array-share-prefix-text
     slice-aggregate-write-all

@@ -1,4 +1,4 @@
--- Each turn goes on by a record; the lists keep their lengths.
+-- Each turn goes on by a record; the list keeps its length.
 use borrow.Author.Needs.{needs}
 use lib.ListN.{length}
 use native.Mathlib.Omega.{arith}
@@ -8,10 +8,10 @@ use Rattle.replay_jobs.proofs.print_all.Statement.{statement}
 use Rattle.replay_jobs.proofs.print_all.Tie as tie
 
 abbrev Inv-loop : tie.InvT-loop
-Inv-loop cases points₀ words₀ at₀ points words at = (length points ≡ length points₀) × (length words ≡ length words₀)
+Inv-loop cases words₀ at₀ words at = length words ≡ length words₀
 
 abbrev μ-loop : tie.MeasureT-loop
-μ-loop cases points₀ words₀ at₀ points words at = length cases - at
+μ-loop cases words₀ at₀ words at = length cases - at
 
 loop-holds : tie.Need-loop-holds Inv-loop μ-loop
 loop-holds c = search needs
@@ -34,9 +34,6 @@ loop-again c = search needs
 same-length : tie.Need-same-length Inv-loop μ-loop
 same-length c = search needs
 
-same-length-2 : tie.Need-same-length-2 Inv-loop μ-loop
-same-length-2 c = search needs
-
 returns : tie.Need-returns Inv-loop μ-loop
 returns c = search needs
 
@@ -53,5 +50,4 @@ print-all-spec =
     loop-less
     loop-again
     same-length
-    same-length-2
     returns)

@@ -1,0 +1,110 @@
+-- The points are laid, and their list's front is what the job is given.
+use native.Mathlib.Omega.{arith}
+use mathlib.Core.Path.{sym}
+use lib.Seq.{length-take-le}
+use Rattle.job_file.proofs.Taking.{encoded-body}
+use borrow.Author.Needs.{needs}
+use Rattle.job_file.proofs.encode_body.Statement.{statement}
+use Rattle.job_file.proofs.encode_body.Tie as tie
+
+-- the places on the way
+abbrev start-before-points : tie.After-points → tie.Start
+start-before-points c = c .before .before .before .before .before .before
+
+abbrev start-before-box-of : tie.After-box-of → tie.Start
+start-before-box-of c = start-before-points (c .before .before .before .before .before .before)
+
+abbrev lay-signed-before-shared-slice-known6 : tie.After-shared-slice-known6 → tie.After-lay-signed
+lay-signed-before-shared-slice-known6 c = c .before .before .before .before .before .before
+
+abbrev lay-signed-before-words : tie.After-words → tie.After-lay-signed
+lay-signed-before-words c = lay-signed-before-shared-slice-known6 (c .before .before .before .before .before .before)
+
+sub-n : tie.Need-sub-n
+sub-n c = search needs
+
+mul-lay-signed : tie.Need-mul-lay-signed
+mul-lay-signed c = search needs
+
+sub-lay-signed : tie.Need-sub-lay-signed
+sub-lay-signed c = search needs
+
+part-lay-signed-start : tie.Need-part-lay-signed-start
+part-lay-signed-start c = search needs
+
+part-lay-signed-end : tie.Need-part-lay-signed-end
+part-lay-signed-end c = search needs
+
+lay-signed-requires : tie.Need-lay-signed-requires
+lay-signed-requires c κs = search needs
+
+shared-slice-read-encode : tie.Need-shared-slice-read-encode
+shared-slice-read-encode c = search needs
+
+shared-slice-read-box-of : tie.Need-shared-slice-read-box-of
+shared-slice-read-box-of c = search needs
+
+shared-slice-read-box-of-2 : tie.Need-shared-slice-read-box-of-2
+shared-slice-read-box-of-2 c = search needs
+
+shared-slice-read-box-of-3 : tie.Need-shared-slice-read-box-of-3
+shared-slice-read-box-of-3 c = search needs
+
+shared-slice-read-box-of-4 : tie.Need-shared-slice-read-box-of-4
+shared-slice-read-box-of-4 c = search needs
+
+box-of-requires : tie.Need-box-of-requires
+box-of-requires c κs = search needs
+
+slice-reshare-prefix-encode : tie.Need-slice-reshare-prefix-encode
+slice-reshare-prefix-encode c = search needs
+
+slice-aggregate-encode : tie.Need-slice-aggregate-encode
+slice-aggregate-encode c = sym (length-take-le _ _ (omega arith))
+
+sub-encode : tie.Need-sub-encode
+sub-encode c = search needs
+
+part-encode-start : tie.Need-part-encode-start
+part-encode-start c = search needs
+
+part-encode-end : tie.Need-part-encode-end
+part-encode-end c = search needs
+
+encode-requires : tie.Need-encode-requires
+encode-requires c κs = search needs
+
+same-length : tie.Need-same-length
+same-length c = search needs
+
+same-length-2 : tie.Need-same-length-2
+same-length-2 c = search needs
+
+returns : tie.Need-returns
+returns c = encoded-body (start-before-box-of (c .before .before .before .before .before .before) .args .file .now) (start-before-box-of (c .before .before .before .before .before .before) .args .points .now) (start-before-box-of (c .before .before .before .before .before .before) .args .body) (start-before-box-of (c .before .before .before .before .before .before) .pre .1 .0) (start-before-box-of (c .before .before .before .before .before .before) .pre .1 .1) (start-before-box-of (c .before .before .before .before .before .before) .args .words .now) _ (lay-signed-before-words (c .before) .lay-signed .ensures) _ (c .before .before .before .before .before .before .box-of .ensures) _ _ (c .before .before .encode .ensures)
+
+pub encode-body-spec : {M : Type 1} → statement M
+encode-body-spec =
+    tie.close
+    (tie.spec
+    sub-n
+    mul-lay-signed
+    sub-lay-signed
+    part-lay-signed-start
+    part-lay-signed-end
+    lay-signed-requires
+    shared-slice-read-encode
+    shared-slice-read-box-of
+    shared-slice-read-box-of-2
+    shared-slice-read-box-of-3
+    shared-slice-read-box-of-4
+    box-of-requires
+    slice-reshare-prefix-encode
+    slice-aggregate-encode
+    sub-encode
+    part-encode-start
+    part-encode-end
+    encode-requires
+    same-length
+    same-length-2
+    returns)
