@@ -9,16 +9,10 @@ use lib.ListN.{length, take, drop}
 use lib.Dec.{eqb}
 use borrow.Author.Tests.{eqb-true}
 use Rattle.table.specs.declared.Value.{Value}
-use Rattle.table.specs.Texts.{inside, begins, sameText}
+use Rattle.table.specs.Texts.{inside, begins, sameText, textOf}
 use Rattle.table.specs.Values.{isZero, sameContent, sameValue}
-use Rattle.index.specs.Hashes.{hashText, textIn, mixed, hashValue, hashStored}
-
-pub never : {X : Type 0} → false ≡ true → X
-never p = absurd (let z : _≡_ {A = ℕ} 0 1 = cc in omega arith)
-
-pub both : (a b : Bool) → cond a b false ≡ true → (a ≡ true) × (b ≡ true)
-both true b e = (refl, e)
-both false b e = never e
+use Rattle.table.proofs.Growing.{never, both}
+use Rattle.index.specs.Hashes.{hashText, mixed, hashValue, hashStored}
 
 pub and-both : (a b : Bool) → (a && b) ≡ true → (a ≡ true) × (b ≡ true)
 and-both true b e = (refl, e)
@@ -32,7 +26,7 @@ begins-take (x ∷ l) (b ∷ key) e =
     let p = both (eqb x b) (begins l key) e in
     rw (eqb-true x b (p .0), begins-take l key (p .1))
 
-pub text-is : (ts : List ℕ) (start len : ℕ) (key : List ℕ) → sameText ts start len key ≡ true → textIn ts start len ≡ key
+pub text-is : (ts : List ℕ) (start len : ℕ) (key : List ℕ) → sameText ts start len key ≡ true → textOf ts start len ≡ key
 text-is ts start len key e =
     let p = both (inside (length ts) start len) (cond (eqb len (length key)) (begins (drop start ts) key) false) e in
     let q = both (eqb len (length key)) (begins (drop start ts) key) (p .1) in
@@ -62,8 +56,8 @@ content-by kind low high low₂ high₂ false q e =
     let b = zero-halves kind low₂ high₂ (p .1) in
     rw (a .0, a .1, b .0, b .1)
 
-value-by : (ts : List ℕ) (kind low high low₂ high₂ : ℕ) (text : List ℕ) (t : Bool) → cond t (sameText ts low high text) (sameContent kind low high low₂ high₂) ≡ true → cond t (hashText (textIn ts low high)) (mixed kind low high) ≡ cond t (hashText text) (mixed kind low₂ high₂)
-value-by ts kind low high low₂ high₂ text true e = let q : textIn ts low high ≡ text = text-is ts low high text e in ap (λ (x : List ℕ). hashText x) q
+value-by : (ts : List ℕ) (kind low high low₂ high₂ : ℕ) (text : List ℕ) (t : Bool) → cond t (sameText ts low high text) (sameContent kind low high low₂ high₂) ≡ true → cond t (hashText (textOf ts low high)) (mixed kind low high) ≡ cond t (hashText text) (mixed kind low₂ high₂)
+value-by ts kind low high low₂ high₂ text true e = let q : textOf ts low high ≡ text = text-is ts low high text e in ap (λ (x : List ℕ). hashText x) q
 value-by ts kind low high low₂ high₂ text false e = content-by kind low high low₂ high₂ (eqb low low₂ && eqb high high₂) refl e
 
 pub same-value-hash : (ts : List ℕ) (kind low high : ℕ) (v : Value) (text : List ℕ) → sameValue ts kind low high v text ≡ true → hashStored ts kind low high ≡ hashValue v text

@@ -8,7 +8,8 @@ use native.Mathlib.Omega.{arith}
 use lib.ListN.{length, getD, length-append}
 use Rattle.table.specs.Keys.{keysIn}
 use Rattle.table.specs.Values.{valuesIn}
-use Rattle.index.specs.Hashes.{hashText, textIn, hashStored}
+use Rattle.table.specs.Texts.{textOf}
+use Rattle.index.specs.Hashes.{hashText, hashStored}
 use Rattle.index.specs.Chains.{cleared, pushed, built}
 use Rattle.index.specs.Entries.{keyCount, keyHash, builtKeys, valueCount, valueHash, builtValues}
 use Rattle.index.proofs.Growing.{word-last, key-text, key-word, value-text, value-word}
@@ -31,7 +32,7 @@ values-length l k vs ts e = rw e
 pub keys-again : (l ks ts more : List ℕ) → keysIn (length ts) ks ≡ true → builtKeys l ks ts ≡ builtKeys l ks (ts ++ more)
 keys-again l ks ts more e = built-same (cleared l) (keyHash ks ts) (keyHash ks (ts ++ more)) (keyCount ks) (key-text ks ts more e)
 
-pub keys-more : (l ks ts : List ℕ) (n start : ℕ) (key more : List ℕ) → keysIn (length ts) ks ≡ true → length ks ≡ n * 2 → textIn (ts ++ more) start (length key) ≡ key → pushed (builtKeys l ks ts) n (hashText key) ≡ builtKeys l (ks ++ (start ∷ length key ∷ [])) (ts ++ more)
+pub keys-more : (l ks ts : List ℕ) (n start : ℕ) (key more : List ℕ) → keysIn (length ts) ks ≡ true → length ks ≡ n * 2 → textOf (ts ++ more) start (length key) ≡ key → pushed (builtKeys l ks ts) n (hashText key) ≡ builtKeys l (ks ++ (start ∷ length key ∷ [])) (ts ++ more)
 keys-more l ks ts n start key more e g t =
     let new : List ℕ = start ∷ length key ∷ [] in
     let c : keyCount ks ≡ n = omega arith in

@@ -9,17 +9,17 @@ use lib.ListN.{length, getD, take, drop, length-append, length-drop, List·getD-
 use lib.Seq.{take-append-le, drop-append-le, getD-append-add}
 use lib.Dec.{eqb}
 use borrow.Author.Tests.{leb-true}
-use Rattle.table.specs.Texts.{inside}
+use Rattle.table.specs.Texts.{inside, textOf}
 use Rattle.table.specs.Keys.{keysIn}
 use Rattle.table.specs.Values.{valueOk, valuesIn}
-use Rattle.index.specs.Hashes.{hashText, textIn, hashStored}
+use Rattle.index.specs.Hashes.{hashText, hashStored}
 use Rattle.index.specs.Chains.{slots, Indexes, pushed, maxEntry, bucketsOf}
 use Rattle.index.specs.Entries.{keyCount, keyHash, KeyIndex, valueCount, valueHash, ValueIndex}
-use Rattle.index.proofs.Alike.{never, both}
+use Rattle.table.proofs.Growing.{never, both}
 use Rattle.index.proofs.Pushing.{same-buckets, pushed-is-index}
 
 -- ---- texts
-pub text-kept : (ts more : List ℕ) (start len : ℕ) → start + len ≤ length ts → textIn (ts ++ more) start len ≡ textIn ts start len
+pub text-kept : (ts more : List ℕ) (start len : ℕ) → start + len ≤ length ts → textOf (ts ++ more) start len ≡ textOf ts start len
 text-kept ts more start len h =
     let a : drop start (ts ++ more) ≡ drop start ts ++ more = drop-append-le start ts more (omega arith) in
     ap (take len) a ∙ take-append-le len (drop start ts) more (omega (arith, length-drop start ts))
@@ -56,7 +56,7 @@ pub word-last : (l new : List ℕ) (m i : ℕ) → length l ≡ m → getD (l ++
 word-last l new m i e = rw (← e) (getD-append-add l new i 0)
 
 -- a key more
-pub keys-pushed : (l ks ts : List ℕ) (n start : ℕ) (key more : List ℕ) → keysIn (length ts) ks ≡ true → length ks ≡ n * 2 → KeyIndex l ks ts → n < slots l → n < maxEntry → textIn (ts ++ more) start (length key) ≡ key → KeyIndex (pushed l n (hashText key)) (ks ++ (start ∷ length key ∷ [])) (ts ++ more)
+pub keys-pushed : (l ks ts : List ℕ) (n start : ℕ) (key more : List ℕ) → keysIn (length ts) ks ≡ true → length ks ≡ n * 2 → KeyIndex l ks ts → n < slots l → n < maxEntry → textOf (ts ++ more) start (length key) ≡ key → KeyIndex (pushed l n (hashText key)) (ks ++ (start ∷ length key ∷ [])) (ts ++ more)
 keys-pushed l ks ts n start key more e g I a b t =
     let new : List ℕ = start ∷ length key ∷ [] in
     let c : keyCount ks ≡ n = omega arith in

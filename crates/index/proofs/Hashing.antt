@@ -8,9 +8,9 @@ use lib.ListN.{length, getD, take, drop, drop-of-length-le, length-drop}
 use lib.Seq.{take-all, take-nil}
 use lib.Dec.{ltb}
 use borrow.Author.Tests.{ltb-true, ltb-false, eq-eqb}
-use Rattle.table.specs.Texts.{Wide}
+use Rattle.table.specs.Texts.{Wide, textOf}
 use Rattle.table.proofs.Steps.{next}
-use Rattle.index.specs.Hashes.{Octet, hashFrom, hashText, textIn, mixed, hashStored}
+use Rattle.index.specs.Hashes.{Octet, hashFrom, hashText, mixed, hashStored}
 use Rattle.index.specs.Entries.{keyHash}
 use Rattle.index.specs.Steps.{endIn}
 
@@ -36,7 +36,7 @@ module _ (text : List ℕ) (acc i : ℕ) (I : Inv text acc i) where
   ends h = rw (I .rest, drop-of-length-le text {i = i} h)
 
 -- ---- `hash_part`
-pub beyond : (texts : List ℕ) (start len : ℕ) → length texts < start → 0 ≡ hashText (textIn texts start len)
+pub beyond : (texts : List ℕ) (start len : ℕ) → length texts < start → 0 ≡ hashText (textOf texts start len)
 beyond texts start len h = rw (drop-of-length-le texts {i = start} (omega arith), take-nil)
 
 end-by : (bytes start len : ℕ) (t : Bool) → ltb (bytes - start) len ≡ t → start ≤ bytes → (start ≤ cond t bytes (start + len)) × (cond t bytes (start + len) ≤ bytes)
@@ -52,7 +52,7 @@ part-by texts start len true e h =
     take-all (length texts - start) (drop start texts) (omega (arith, l)) ∙ sym (take-all len (drop start texts) (omega (arith, l, ltb-true (length texts - start) len e)))
 part-by texts start len false e h = let n : start + len - start ≡ len = omega arith in rw n
 
-pub part-is : (texts : List ℕ) (start len : ℕ) → start ≤ length texts → take (endIn (length texts) start len - start) (drop start texts) ≡ textIn texts start len
+pub part-is : (texts : List ℕ) (start len : ℕ) → start ≤ length texts → take (endIn (length texts) start len - start) (drop start texts) ≡ textOf texts start len
 part-is texts start len h = part-by texts start len (ltb (length texts - start) len) refl h
 
 module _ (texts : List ℕ) (start len : ℕ) (h : start ≤ length texts) (e : ℕ) (g : e ≡ endIn (length texts) start len) where
@@ -62,9 +62,9 @@ module _ (texts : List ℕ) (start len : ℕ) (h : start ≤ length texts) (e : 
   pub part-to : e ≤ length texts
   part-to = rw g (ends-in (length texts) start len h .1)
 
-  pub part-hash : (r : ℕ) → r ≡ hashText (take (e - start) (drop start texts)) → r ≡ hashText (textIn texts start len)
+  pub part-hash : (r : ℕ) → r ≡ hashText (take (e - start) (drop start texts)) → r ≡ hashText (textOf texts start len)
   part-hash r f =
-      let q : take (e - start) (drop start texts) ≡ textIn texts start len = rw g (part-is texts start len h) in
+      let q : take (e - start) (drop start texts) ≡ textOf texts start len = rw g (part-is texts start len h) in
       f ∙ ap (λ (x : List ℕ). hashText x) q
 
 -- ---- `mix`
@@ -73,9 +73,9 @@ unfolding mixed
 mixed-is kind low high k a b x y z = rw (x .same, y .same, z .same)
 
 -- ---- `hash_stored`
-pub stored-text : (ts : List ℕ) (kind low high : ℕ) → kind ≡ 1 → (start len : ℕ) → Wide low start → Wide high len → (r : ℕ) → r ≡ hashText (textIn ts start len) → r ≡ hashStored ts kind low high
+pub stored-text : (ts : List ℕ) (kind low high : ℕ) → kind ≡ 1 → (start len : ℕ) → Wide low start → Wide high len → (r : ℕ) → r ≡ hashText (textOf ts start len) → r ≡ hashStored ts kind low high
 stored-text ts kind low high k start len a b r g = rw (eq-eqb _ _ k, ← a .same, ← b .same) g
 
 -- ---- `build_keys`
-pub key-hashed : (keys texts : List ℕ) (j start len : ℕ) → Wide (getD keys (j * 2) 0) start → Wide (getD keys (j * 2 + 1) 0) len → (h : ℕ) → h ≡ hashText (textIn texts start len) → h ≡ keyHash keys texts j
+pub key-hashed : (keys texts : List ℕ) (j start len : ℕ) → Wide (getD keys (j * 2) 0) start → Wide (getD keys (j * 2 + 1) 0) len → (h : ℕ) → h ≡ hashText (textOf texts start len) → h ≡ keyHash keys texts j
 key-hashed keys texts j start len a b h g = rw (← a .same, ← b .same) g

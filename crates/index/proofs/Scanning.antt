@@ -14,9 +14,11 @@ use Rattle.table.specs.declared.Found.the-variants.{At, Nothing}
 use Rattle.table.specs.declared.Value.{Value}
 use Rattle.table.specs.Keys.{findKey}
 use Rattle.table.specs.Values.{findValue}
+use Rattle.table.specs.Texts.{textOf}
+use Rattle.table.specs.Least.{smaller}
 use Rattle.table.proofs.Steps.{next}
-use Rattle.index.specs.Hashes.{hashText, textIn, hashValue}
-use Rattle.index.specs.Chains.{slots, latest, Indexes, walk, foundAt, reach, walked, bucketsOf}
+use Rattle.index.specs.Hashes.{hashText, hashValue}
+use Rattle.index.specs.Chains.{slots, latest, Indexes, walk, foundAt, walked, bucketsOf}
 use Rattle.index.specs.Entries.{keyCount, keyHash, keyAt, KeyIndex, walkedKey, valueCount, valueHash, valueAt, ValueIndex, walkedValue}
 use Rattle.index.proofs.Alike.{text-is, same-value-hash}
 
@@ -72,8 +74,8 @@ found-or false j x f e = e
 module _ (l : List ℕ) (bs : ℕ → ℕ) (same : ℕ → Bool) (n h : ℕ) (I : Indexes l bs n) (k : n ≤ slots l) (agree : (j : ℕ) → j < n → same j ≡ true → bs j ≡ h % slots l) where
   walked-first : walked l same n h ≡ foundAt (firstFrom same 0 n 0)
   walked-first =
-      let r : reach n (slots l) ≡ n = rw (le-leb n (slots l) k) in
-      let w : walk l same (reach n (slots l)) (getD l (h % slots l) 0) 0 ≡ firstFrom same 0 n 0 = ap (λ (x : ℕ). walk l same x (getD l (h % slots l) 0) 0) r ∙ head-scan l bs same n h I k agree ∙ scan-all same n in
+      let r : smaller n (slots l) ≡ n = rw (le-leb n (slots l) k) in
+      let w : walk l same (smaller n (slots l)) (getD l (h % slots l) 0) 0 ≡ firstFrom same 0 n 0 = ap (λ (x : ℕ). walk l same x (getD l (h % slots l) 0) 0) r ∙ head-scan l bs same n h I k agree ∙ scan-all same n in
       ap foundAt w
 
 -- ---- keys
@@ -94,7 +96,7 @@ pub walked-key-is : (l ks ts key : List ℕ) → KeyIndex l ks ts → keyCount k
 walked-key-is l ks ts key I k =
     walked-first l (bucketsOf (keyHash ks ts) (slots l)) (keyAt ks ts key) (keyCount ks) (hashText key) I k
     (λ (j : ℕ) (h : j < keyCount ks) (e : keyAt ks ts key j ≡ true).
-    let q : textIn ts (getD ks (j * 2) 0) (getD ks (j * 2 + 1) 0) ≡ key = text-is ts (getD ks (j * 2) 0) (getD ks (j * 2 + 1) 0) key e in
+    let q : textOf ts (getD ks (j * 2) 0) (getD ks (j * 2 + 1) 0) ≡ key = text-is ts (getD ks (j * 2) 0) (getD ks (j * 2 + 1) 0) key e in
     ap (λ (x : List ℕ). hashText x % slots l) q)
     ∙ sym (find-keys ks ts key (keyCount ks) 0 (omega arith) (omega arith))
 

@@ -6,12 +6,14 @@ use mathlib.Core.List.{List}
 use native.Mathlib.Omega.{arith}
 use native.Mathlib.Nat.{le-refl, mod-lt}
 use lib.ListN.{length, getD}
-use lib.Dec.{leb, eqb}
-use borrow.Author.Tests.{ne-eqb, eqb-true, eqb-false, leb-true, leb-false}
+use lib.Dec.{eqb}
+use borrow.Author.Tests.{ne-eqb, eqb-true, eqb-false}
 use Rattle.table.specs.declared.Found.{Found}
 use Rattle.table.specs.declared.Found.the-variants.{At, Nothing}
 use Rattle.table.specs.Texts.{Wide, sameText}
-use Rattle.index.specs.Chains.{slots, walk, reach, foundAt, walked}
+use Rattle.table.specs.Least.{smaller}
+use Rattle.table.proofs.Least.{smaller-le}
+use Rattle.index.specs.Chains.{slots, walk, foundAt, walked}
 use Rattle.index.specs.Entries.{keyAt}
 use Rattle.index.specs.Steps.{Ahead}
 
@@ -72,29 +74,22 @@ pub found-some : (n : ℕ) → (n ≡ 0 → ⊥) → At (n - 1) ≡ foundAt n
 found-some zero h = absurd (h refl)
 found-some (suc n) h = let e : suc n - 1 ≡ n = omega arith in rw e
 
-reach-by : (n s : ℕ) (t : Bool) → leb n s ≡ t → (cond t n s ≤ n) × (cond t n s ≤ s)
-reach-by n s true e = (le-refl n, leb-true n s e)
-reach-by n s false e = (omega (arith, leb-false n s e), le-refl s)
+pub ahead-keys : (index keys : List ℕ) (limit : ℕ) → limit ≡ smaller (length keys / 2) (slots index) → Ahead limit (length index) 2 (length keys)
+ahead-keys index keys limit e = let r = smaller-le (length keys / 2) (slots index) in record { linked = omega (arith, r .1); listed = omega (arith, r .0) }
 
-pub reach-le : (n s : ℕ) → (reach n s ≤ n) × (reach n s ≤ s)
-reach-le n s = reach-by n s (leb n s) refl
-
-pub ahead-keys : (index keys : List ℕ) (limit : ℕ) → limit ≡ reach (length keys / 2) (slots index) → Ahead limit (length index) 2 (length keys)
-ahead-keys index keys limit e = let r = reach-le (length keys / 2) (slots index) in record { linked = omega (arith, r .1); listed = omega (arith, r .0) }
-
-pub ahead-values : (index values : List ℕ) (limit : ℕ) → limit ≡ reach (length values / 3) (slots index) → Ahead limit (length index) 3 (length values)
-ahead-values index values limit e = let r = reach-le (length values / 3) (slots index) in record { linked = omega (arith, r .1); listed = omega (arith, r .0) }
+pub ahead-values : (index values : List ℕ) (limit : ℕ) → limit ≡ smaller (length values / 3) (slots index) → Ahead limit (length index) 3 (length values)
+ahead-values index values limit e = let r = smaller-le (length values / 3) (slots index) in record { linked = omega (arith, r .1); listed = omega (arith, r .0) }
 
 -- no slots, no entry
 pub walked-nowhere : (l : List ℕ) (same : ℕ → Bool) (n h : ℕ) → slots l ≡ 0 → Nothing ≡ walked l same n h
 walked-nowhere l same n h e =
-    let z : reach n (slots l) ≡ 0 = omega (arith, reach-le n (slots l) .1) in
+    let z : smaller n (slots l) ≡ 0 = omega (arith, smaller-le n (slots l) .1) in
     rw z
 
 pub in-slots : (l : List ℕ) (h : ℕ) → (slots l ≡ 0 → ⊥) → h % slots l < length l
 in-slots l h e = omega (arith, mod-lt h {m = slots l} (omega arith))
 
-pub walked-is : (l : List ℕ) (same : ℕ → Bool) (n h limit : ℕ) → limit ≡ reach n (slots l) → (head : ℕ) → Wide (getD l (h % slots l) 0) head → (w : ℕ) → w ≡ walk l same limit head 0 → (r : Found) → r ≡ foundAt w → r ≡ walked l same n h
+pub walked-is : (l : List ℕ) (same : ℕ → Bool) (n h limit : ℕ) → limit ≡ smaller n (slots l) → (head : ℕ) → Wide (getD l (h % slots l) 0) head → (w : ℕ) → w ≡ walk l same limit head 0 → (r : Found) → r ≡ foundAt w → r ≡ walked l same n h
 walked-is l same n h limit e head g w f r q = rw (q, f, e, g .same)
 
 -- what is found is among the entries
@@ -119,6 +114,6 @@ found-below (suc n) i e = let q : n ≡ i = cc in omega arith
 
 pub walked-below : (l : List ℕ) (same : ℕ → Bool) (n h i : ℕ) → walked l same n h ≡ At i → i < n
 walked-below l same n h i e =
-    let w : ℕ = walk l same (reach n (slots l)) (getD l (h % slots l) 0) 0 in
-    let a = walk-le l same n (reach n (slots l)) (getD l (h % slots l) 0) 0 (reach-le n (slots l) .0) (omega arith) in
+    let w : ℕ = walk l same (smaller n (slots l)) (getD l (h % slots l) 0) 0 in
+    let a = walk-le l same n (smaller n (slots l)) (getD l (h % slots l) 0) 0 (smaller-le n (slots l) .0) (omega arith) in
     omega (arith, a, found-below w i e)

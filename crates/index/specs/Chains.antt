@@ -8,6 +8,7 @@ use lib.ListN.{length, getD, set, replicate}
 use lib.Dec.{leb, ltb, eqb}
 use Rattle.table.specs.declared.Found.{Found}
 use Rattle.table.specs.declared.Found.the-variants.{At, Nothing}
+use Rattle.table.specs.Least.{smaller}
 
 -- how many buckets an index of so many words has, and how many entries it has links for
 abbrev pub slotsIn : ℕ → ℕ
@@ -67,10 +68,6 @@ abbrev pub foundAt : ℕ → Found
 foundAt zero = Nothing
 foundAt (suc j) = At j
 
--- the entries that there are links for
-abbrev pub reach : ℕ → ℕ → ℕ
-reach n s = cond (leb n s) n s
-
--- the entry of the bucket of h, among n, that is the same
+-- the entry of the bucket of h that is the same, among those of n entries that there are links for
 abbrev pub walked : List ℕ → (ℕ → Bool) → ℕ → ℕ → Found
-walked l same n h = foundAt (walk l same (reach n (slots l)) (getD l (h % slots l) 0) 0)
+walked l same n h = foundAt (walk l same (smaller n (slots l)) (getD l (h % slots l) 0) 0)

@@ -7,9 +7,9 @@ use lib.ListN.{length, getD}
 use Rattle.table.specs.declared.Found.{Found}
 use Rattle.table.specs.declared.Found.the-variants.{At, Nothing}
 use Rattle.table.specs.declared.Value.{Value}
-use Rattle.table.specs.Texts.{sameText}
+use Rattle.table.specs.Texts.{sameText, textOf}
 use Rattle.table.specs.Values.{sameValue}
-use Rattle.index.specs.Hashes.{hashText, textIn, hashStored}
+use Rattle.index.specs.Hashes.{hashText, hashStored}
 use Rattle.index.specs.Chains.{slots, bucketsOf, Indexes, cleared, built, walked}
 
 -- ---- keys
@@ -17,7 +17,7 @@ abbrev pub keyCount : List ℕ → ℕ
 keyCount keys = length keys / 2
 
 abbrev pub keyHash : List ℕ → List ℕ → ℕ → ℕ
-keyHash keys texts j = hashText (textIn texts (getD keys (j * 2) 0) (getD keys (j * 2 + 1) 0))
+keyHash keys texts j = hashText (textOf texts (getD keys (j * 2) 0) (getD keys (j * 2 + 1) 0))
 
 abbrev pub keyAt : List ℕ → List ℕ → List ℕ → ℕ → Bool
 keyAt keys texts key j = sameText texts (getD keys (j * 2) 0) (getD keys (j * 2 + 1) 0) key
@@ -52,12 +52,18 @@ builtValues l values texts = built (cleared l) (valueHash values texts) (valueCo
 abbrev pub walkedValue : List ℕ → List ℕ → List ℕ → Value → List ℕ → ℕ → Found
 walkedValue l values texts v text h = walked l (valueAt values texts v text) (valueCount values) h
 
+abbrev aba : List ℕ
+aba = 0 ∷ 1 ∷ 1 ∷ 1 ∷ 0 ∷ 1 ∷ []
+
+abbrev nines : List ℕ
+nines = 9 ∷ 9 ∷ 9 ∷ 9 ∷ 9 ∷ 9 ∷ []
+
 -- of the keys a, b and a again in an index of three slots, b is the second and a the first; in an index that holds anything an entry may be missed
-b-second : walkedKey (builtKeys (9 ∷ 9 ∷ 9 ∷ 9 ∷ 9 ∷ 9 ∷ []) (0 ∷ 1 ∷ 1 ∷ 1 ∷ 0 ∷ 1 ∷ []) (97 ∷ 98 ∷ [])) (0 ∷ 1 ∷ 1 ∷ 1 ∷ 0 ∷ 1 ∷ []) (97 ∷ 98 ∷ []) (98 ∷ []) (hashText (98 ∷ [])) ≡ At 1
+b-second : walkedKey (builtKeys nines aba (97 ∷ 98 ∷ [])) aba (97 ∷ 98 ∷ []) (98 ∷ []) (hashText (98 ∷ [])) ≡ At 1
 b-second = refl
 
-a-first : walkedKey (builtKeys (9 ∷ 9 ∷ 9 ∷ 9 ∷ 9 ∷ 9 ∷ []) (0 ∷ 1 ∷ 1 ∷ 1 ∷ 0 ∷ 1 ∷ []) (97 ∷ 98 ∷ [])) (0 ∷ 1 ∷ 1 ∷ 1 ∷ 0 ∷ 1 ∷ []) (97 ∷ 98 ∷ []) (97 ∷ []) (hashText (97 ∷ [])) ≡ At 0
+a-first : walkedKey (builtKeys nines aba (97 ∷ 98 ∷ [])) aba (97 ∷ 98 ∷ []) (97 ∷ []) (hashText (97 ∷ [])) ≡ At 0
 a-first = refl
 
-missed : walkedKey (9 ∷ 9 ∷ 9 ∷ 9 ∷ 9 ∷ 9 ∷ []) (0 ∷ 1 ∷ []) (97 ∷ []) (97 ∷ []) (hashText (97 ∷ [])) ≡ Nothing
+missed : walkedKey nines (0 ∷ 1 ∷ []) (97 ∷ []) (97 ∷ []) (hashText (97 ∷ [])) ≡ Nothing
 missed = refl

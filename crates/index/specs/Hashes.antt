@@ -4,9 +4,9 @@ use Prim.Native.Nat.{ℕ, _+_, _*_, _/_, _%_, _<_}
 use mathlib.Core.Path.{_≡_}
 use mathlib.Core.Bool.{cond}
 use mathlib.Core.List.{List, [], _∷_}
-use lib.ListN.{take, drop}
 use lib.Dec.{eqb}
 use Rattle.table.specs.declared.Value.{Value}
+use Rattle.table.specs.Texts.{textOf}
 
 -- r is the byte x
 pub record Octet (x r : ℕ) : Type 0 where
@@ -21,10 +21,6 @@ hashFrom acc (b ∷ bs) = hashFrom ((acc * 16777619 + b) % 4294967296) bs
 abbrev pub hashText : List ℕ → ℕ
 hashText bs = hashFrom 0 bs
 
--- the text of len bytes at start, or what there is of it
-abbrev pub textIn : List ℕ → ℕ → ℕ → List ℕ
-textIn texts start len = take len (drop start texts)
-
 -- the two halves without the top bit of each, so that 0.0 and -0.0 have one number
 unfoldable pub mixed : ℕ → ℕ → ℕ → ℕ
 mixed kind low high = (kind + low % 2147483648 + high % 2147483648 * 31) * 82952543 / 65536
@@ -35,4 +31,4 @@ hashValue v text = cond (eqb (v .kind) 1) (hashText text) (mixed (v .kind) (v .l
 
 -- the number of the value stored as these three words
 abbrev pub hashStored : List ℕ → ℕ → ℕ → ℕ → ℕ
-hashStored texts kind low high = cond (eqb kind 1) (hashText (textIn texts low high)) (mixed kind low high)
+hashStored texts kind low high = cond (eqb kind 1) (hashText (textOf texts low high)) (mixed kind low high)

@@ -5,14 +5,16 @@ ghost use mathlib.Core.Path.{_≡_};
 ghost use mathlib.Core.Bool.{cond};
 ghost use Prim.Native.Nat.{_≤_};
 ghost use lib.ListN.{length};
-ghost use Rattle.index.specs.Hashes.{Octet, hashText, textIn, mixed, hashValue, hashStored};
-ghost use Rattle.index.specs.Chains.{serves, cleared, pushed, walk, foundAt, reach};
+ghost use Rattle.table.specs.Texts.{textOf};
+ghost use Rattle.index.specs.Hashes.{Octet, hashText, mixed, hashValue, hashStored};
+ghost use Rattle.index.specs.Chains.{serves, cleared, pushed, walk, foundAt};
 ghost use Rattle.index.specs.Entries.{keyAt, builtKeys, walkedKey, valueAt, builtValues, walkedValue};
 ghost use Rattle.index.specs.Steps.{endIn, Ahead};
 use table::Found;
 use table::Value;
 use table::same_text;
 use table::same_value;
+use table::smaller;
 use table::wide;
 
 // ---- the number that chooses a bucket
@@ -49,7 +51,7 @@ fn end_of(bytes: usize, start: usize, len: usize) -> usize
 
 // The number of the text of len bytes at start, or of what there is of it.
 fn hash_part(texts: &[u8], start: usize, len: usize) -> usize
-    ensures { λ r. ⌜ r ≡ hashText (textIn (now (texts .entry)) start len) ⌝ }
+    ensures { λ r. ⌜ r ≡ hashText (textOf (now (texts .entry)) start len) ⌝ }
 {
     if texts.len() < start {
         return 0;
@@ -156,15 +158,6 @@ pub fn build_values(index: &mut [u32], values: &[u32], texts: &[u8])
 }
 
 // ---- looking up
-fn smaller(n: usize, s: usize) -> usize
-    ensures { λ r. ⌜ r ≡ reach n s ⌝ }
-{
-    if n <= s {
-        return n;
-    }
-    s
-}
-
 fn choose(b: bool, x: usize, y: usize) -> usize
     ensures { λ r. ⌜ r ≡ cond b x y ⌝ }
 {

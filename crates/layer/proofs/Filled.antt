@@ -16,7 +16,7 @@ use Rattle.layer.specs.declared.Open.the-variants.{Since}
 use Rattle.layer.specs.Held.{Memory, mem, roomOf, fits, Seen, seen, front, onto}
 use Rattle.layer.specs.State.{valid}
 use Rattle.layer.specs.Calls.{Tag, isValue, keyFound, valueFound, tagPut}
-use Rattle.layer.specs.TagLists.{valueGiven, textAt, textPlace, tagAt, okAt, tagsOk, tagsShort, tagsOf}
+use Rattle.layer.specs.TagLists.{valueGiven, textPlace, tagAt, okAt, tagsOk, tagsShort, tagsOf}
 use Rattle.layer.specs.Whole.{tagsPut}
 use Rattle.layer.specs.Lookup.{Index, Current, Kept}
 use Rattle.layer.specs.WholeSteps.{placeAt, TagThere, Leaves, Long, MayTag, MayFill}

@@ -5,22 +5,23 @@ use mathlib.Core.Bool.{Bool, true, false, cond, _&&_}
 use mathlib.Core.List.{List, [], _∷_, _++_, append-nil, append-assoc}
 use native.Mathlib.Omega.{arith}
 use lib.ListN.{length, take, drop, length-append, length-drop}
-use lib.Seq.{length-take-le, take-at, drop-at}
+use lib.Seq.{length-take-le}
 use lib.Dec.{eqb}
 use borrow.Author.Tests.{le-leb, leb-true, eqb-true, eq-eqb}
 use Rattle.table.specs.declared.Found.{Found}
 use Rattle.table.specs.declared.Found.the-variants.{At, Nothing}
 use Rattle.table.specs.declared.Value.{Value}
-use Rattle.table.specs.Texts.{inside, begins, sameText}
+use Rattle.table.specs.Texts.{inside, begins, sameText, textOf}
 use Rattle.table.specs.Keys.{findKey, keysIn}
 use Rattle.table.specs.Values.{isZero, sameContent, sameValue, findValue, valueOk, valuesIn}
 use Rattle.records.specs.Records.{isFound}
-use Rattle.index.specs.Hashes.{textIn}
-use Rattle.index.proofs.Alike.{never, both, and-both, text-is}
+use Rattle.table.proofs.Growing.{never, both}
+use Rattle.index.proofs.Alike.{and-both, text-is}
 use Rattle.index.proofs.Growing.{text-kept}
-use Rattle.layer.specs.TagLists.{textAt, valueGiven, textPlace}
+use Rattle.layer.specs.TagLists.{valueGiven, textPlace}
 use Rattle.layer.specs.Calls.{storedAs}
-use Rattle.layer.specs.NeedSteps.{textOf}
+use Rattle.layer.specs.NeedSteps.{placedText}
+use Rattle.layer.proofs.Entries.{text-next}
 
 -- ---- tests
 same-when : (a b : Bool) → (a ≡ true → b ≡ true) → (b ≡ true → a ≡ true) → a ≡ b
@@ -40,20 +41,16 @@ begins-front l zero = refl
 begins-front [] (suc n) = refl
 begins-front (x ∷ l) (suc n) = rw (eq-eqb x x refl) (begins-front l n)
 
-is-text : (ts : List ℕ) (start len : ℕ) (key : List ℕ) → start + len ≤ length ts → textIn ts start len ≡ key → sameText ts start len key ≡ true
+is-text : (ts : List ℕ) (start len : ℕ) (key : List ℕ) → start + len ≤ length ts → textOf ts start len ≡ key → sameText ts start len key ≡ true
 is-text ts start len key h e =
     let n : length (take len (drop start ts)) ≡ len = length-take-le len (drop start ts) (omega (arith, length-drop start ts)) in
     rw (← e, le-leb (start + len) (length ts) h, n, eq-eqb len len refl) (begins-front (drop start ts) len)
 
-same-texts : (ts us : List ℕ) (start len s n : ℕ) (key : List ℕ) → start + len ≤ length ts → s + n ≤ length us → textIn ts start len ≡ textIn us s n → sameText ts start len key ≡ sameText us s n key
+same-texts : (ts us : List ℕ) (start len s n : ℕ) (key : List ℕ) → start + len ≤ length ts → s + n ≤ length us → textOf ts start len ≡ textOf us s n → sameText ts start len key ≡ sameText us s n key
 same-texts ts us start len s n key h k e =
     same-when (sameText ts start len key) (sameText us s n key)
     (λ y. is-text us s n key k (sym e ∙ text-is ts start len key y))
     (λ y. is-text ts start len key h (e ∙ text-is us s n key y))
-
--- a text between others
-text-next : (a b c : List ℕ) (n : ℕ) → length a ≡ n → textIn (a ++ (b ++ c)) n (length b) ≡ b
-text-next a b c n e = ap (take (length b)) (drop-at a (b ++ c) n e) ∙ take-at b c (length b) refl
 
 -- ---- an entry met or not
 by-found : (s : Bool) (j : ℕ) (f g : Found) (n : Bool) → isFound f ≡ cond (isFound g) true n → isFound (cond s (At j) f) ≡ cond (isFound (cond s (At j) g)) true n
@@ -92,16 +89,16 @@ key-append n (a ∷ b ∷ ks) new ts key j e =
 
 -- a key that is the text of len bytes at start was looked up (`f`), and put where it was not found
 module _ (bytes : List ℕ) (start len : ℕ) (h : start + len ≤ length bytes) (ks ts : List ℕ) (u : ℕ) (K : keysIn (length ts) ks ≡ true) (L : length ts ≡ u) where
-  pub key-old : (j : ℕ) → findKey 0 ks ts (textAt bytes start len) ≡ At j → (more key : List ℕ) → isFound (findKey 0 (ks ++ []) (ts ++ more) key) ≡ cond (isFound (findKey 0 ks ts key)) true (sameText bytes start len key)
+  pub key-old : (j : ℕ) → findKey 0 ks ts (textOf bytes start len) ≡ At j → (more key : List ℕ) → isFound (findKey 0 (ks ++ []) (ts ++ more) key) ≡ cond (isFound (findKey 0 ks ts key)) true (sameText bytes start len key)
   key-old j q more key =
       let a : isFound (findKey 0 (ks ++ []) (ts ++ more) key) ≡ isFound (findKey 0 ks ts key) = rw append-nil (ap (λ (f : Found). isFound f) (key-kept ts more key ks 0 K)) in
       a ∙ absorbed (isFound (findKey 0 ks ts key)) (sameText bytes start len key)
       (λ y. ap (λ (k : List ℕ). isFound (findKey 0 ks ts k)) (sym (text-is bytes start len key y)) ∙ ap (λ (f : Found). isFound f) q)
 
-  pub key-new : (more key : List ℕ) → isFound (findKey 0 (ks ++ (u ∷ length (textAt bytes start len) ∷ [])) (ts ++ (textAt bytes start len ++ more)) key) ≡ cond (isFound (findKey 0 ks ts key)) true (sameText bytes start len key)
+  pub key-new : (more key : List ℕ) → isFound (findKey 0 (ks ++ (u ∷ length (textOf bytes start len) ∷ [])) (ts ++ (textOf bytes start len ++ more)) key) ≡ cond (isFound (findKey 0 ks ts key)) true (sameText bytes start len key)
   key-new more key =
-      let new = textAt bytes start len in
-      let all = ts ++ (textAt bytes start len ++ more) in
+      let new = textOf bytes start len in
+      let all = ts ++ (textOf bytes start len ++ more) in
       let n : length new ≡ len = length-take-le len (drop start bytes) (omega (arith, length-drop start bytes)) in
       let s : sameText all u (length new) key ≡ sameText bytes start len key =
       same-texts all bytes u (length new) start len key (omega (arith, length-append ts (new ++ more), length-append new more)) h (text-next ts new more u L) in
@@ -148,12 +145,12 @@ kind-by ts kind low high low₂ high₂ a b k l h true q n e =
 kind-by ts kind low high low₂ high₂ a b k l h false q n e = rw q
 
 module _ (bytes : List ℕ) (kind low high : ℕ) where
-  swap-by : (v : Value) (text : List ℕ) (t : Bool) → eqb kind 1 ≡ t → sameValue bytes kind low high v text ≡ true → (ts : List ℕ) (k l h : ℕ) → sameValue ts k l h (valueGiven kind low high) (textOf bytes (textPlace kind low high)) ≡ sameValue ts k l h v text
+  swap-by : (v : Value) (text : List ℕ) (t : Bool) → eqb kind 1 ≡ t → sameValue bytes kind low high v text ≡ true → (ts : List ℕ) (k l h : ℕ) → sameValue ts k l h (valueGiven kind low high) (placedText bytes (textPlace kind low high)) ≡ sameValue ts k l h v text
   swap-by v text true q e ts k l h =
       let p = both (eqb kind (v .kind)) (cond (eqb kind 1) (sameText bytes low high text) (sameContent kind low high (v .low) (v .high))) e in
       let a : sameText bytes low high text ≡ true = rw q at (p .1) in
       let b : v .kind ≡ 1 = sym (eqb-true kind (v .kind) (p .0)) ∙ eqb-true kind 1 q in
-      let c : textAt bytes low high ≡ text = text-is bytes low high text a in
+      let c : textOf bytes low high ≡ text = text-is bytes low high text a in
       rw (q, c, b) (twice-asked (eqb k 1) (sameText ts l h text) (sameContent k l h 0 0) (sameContent k l h (v .low) (v .high)))
   swap-by v text false q e ts k l h =
       let p = both (eqb kind (v .kind)) (cond (eqb kind 1) (sameText bytes low high text) (sameContent kind low high (v .low) (v .high))) e in
@@ -200,33 +197,33 @@ value-append n (a ∷ b ∷ c ∷ vs) new ts v text j e =
     (value-append n vs new ts v text (suc j) (both (valueOk n a b c) (valuesIn n vs) e .1))
 
 -- a value as it is stored, its text where it is put, is the one that was given
-stored-by : (bytes all : List ℕ) (kind low high start : ℕ) (t : Bool) → eqb kind 1 ≡ t → valueOk (length bytes) kind low high ≡ true → start + length (textOf bytes (textPlace kind low high)) ≤ length all → textIn all start (length (textOf bytes (textPlace kind low high))) ≡ textOf bytes (textPlace kind low high) → (v : Value) (text : List ℕ) →
-    sameValue all (storedAs start (valueGiven kind low high) (length (textOf bytes (textPlace kind low high))) .kind) (storedAs start (valueGiven kind low high) (length (textOf bytes (textPlace kind low high))) .low) (storedAs start (valueGiven kind low high) (length (textOf bytes (textPlace kind low high))) .high) v text ≡ sameValue bytes kind low high v text
+stored-by : (bytes all : List ℕ) (kind low high start : ℕ) (t : Bool) → eqb kind 1 ≡ t → valueOk (length bytes) kind low high ≡ true → start + length (placedText bytes (textPlace kind low high)) ≤ length all → textOf all start (length (placedText bytes (textPlace kind low high))) ≡ placedText bytes (textPlace kind low high) → (v : Value) (text : List ℕ) →
+    sameValue all (storedAs start (valueGiven kind low high) (length (placedText bytes (textPlace kind low high))) .kind) (storedAs start (valueGiven kind low high) (length (placedText bytes (textPlace kind low high))) .low) (storedAs start (valueGiven kind low high) (length (placedText bytes (textPlace kind low high))) .high) v text ≡ sameValue bytes kind low high v text
 stored-by bytes all kind low high start true q e h g v text =
     let k : kind ≡ 1 = eqb-true kind 1 q in
     let i : low + high ≤ length bytes = leb-true (low + high) (length bytes) (rw q at e) in
-    let m : start + length (textAt bytes low high) ≤ length all = rw q at h in
-    let x : textIn all start (length (textAt bytes low high)) ≡ textAt bytes low high = rw q at g in
-    let s = same-texts all bytes start (length (textAt bytes low high)) low high text m i x in
+    let m : start + length (textOf bytes low high) ≤ length all = rw q at h in
+    let x : textOf all start (length (textOf bytes low high)) ≡ textOf bytes low high = rw q at g in
+    let s = same-texts all bytes start (length (textOf bytes low high)) low high text m i x in
     rw k (ap (λ (b : Bool). cond (eqb 1 (v .kind)) b false) s)
 stored-by bytes all kind low high start false q e h g v text = rw (q, q, q)
 
 module _ (bytes : List ℕ) (kind low high : ℕ) (ok : valueOk (length bytes) kind low high ≡ true) (vs ts : List ℕ) (u : ℕ) (K : valuesIn (length ts) vs ≡ true) (L : length ts ≡ u) where
-  pub value-old : (j : ℕ) → findValue 0 vs ts (valueGiven kind low high) (textOf bytes (textPlace kind low high)) ≡ At j → (more : List ℕ) (v : Value) (text : List ℕ) → isFound (findValue 0 (vs ++ []) (ts ++ more) v text) ≡ cond (isFound (findValue 0 vs ts v text)) true (sameValue bytes kind low high v text)
+  pub value-old : (j : ℕ) → findValue 0 vs ts (valueGiven kind low high) (placedText bytes (textPlace kind low high)) ≡ At j → (more : List ℕ) (v : Value) (text : List ℕ) → isFound (findValue 0 (vs ++ []) (ts ++ more) v text) ≡ cond (isFound (findValue 0 vs ts v text)) true (sameValue bytes kind low high v text)
   value-old j q more v text =
       let a : isFound (findValue 0 (vs ++ []) (ts ++ more) v text) ≡ isFound (findValue 0 vs ts v text) = rw append-nil (ap (λ (f : Found). isFound f) (value-kept ts more v text vs 0 K)) in
       a ∙ absorbed (isFound (findValue 0 vs ts v text)) (sameValue bytes kind low high v text)
-      (λ y. ap (λ (f : Found). isFound f) (sym (find-alike ts (valueGiven kind low high) v (textOf bytes (textPlace kind low high)) text (swap-by bytes kind low high v text (eqb kind 1) refl y ts) vs 0) ∙ q))
+      (λ y. ap (λ (f : Found). isFound f) (sym (find-alike ts (valueGiven kind low high) v (placedText bytes (textPlace kind low high)) text (swap-by bytes kind low high v text (eqb kind 1) refl y ts) vs 0) ∙ q))
 
   pub value-new : (put : List ℕ) (n : ℕ) → length put ≡ n → (v : Value) (text : List ℕ) →
-      isFound (findValue 0 (vs ++ (storedAs (u + n) (valueGiven kind low high) (length (textOf bytes (textPlace kind low high))) .kind ∷ storedAs (u + n) (valueGiven kind low high) (length (textOf bytes (textPlace kind low high))) .low ∷ storedAs (u + n) (valueGiven kind low high) (length (textOf bytes (textPlace kind low high))) .high ∷ [])) (ts ++ (put ++ textOf bytes (textPlace kind low high))) v text)
+      isFound (findValue 0 (vs ++ (storedAs (u + n) (valueGiven kind low high) (length (placedText bytes (textPlace kind low high))) .kind ∷ storedAs (u + n) (valueGiven kind low high) (length (placedText bytes (textPlace kind low high))) .low ∷ storedAs (u + n) (valueGiven kind low high) (length (placedText bytes (textPlace kind low high))) .high ∷ [])) (ts ++ (put ++ placedText bytes (textPlace kind low high))) v text)
       ≡ cond (isFound (findValue 0 vs ts v text)) true (sameValue bytes kind low high v text)
   value-new put n m v text =
-      let new = textOf bytes (textPlace kind low high) in
-      let all = ts ++ (put ++ textOf bytes (textPlace kind low high)) in
-      let w = storedAs (u + n) (valueGiven kind low high) (length (textOf bytes (textPlace kind low high))) in
+      let new = placedText bytes (textPlace kind low high) in
+      let all = ts ++ (put ++ placedText bytes (textPlace kind low high)) in
+      let w = storedAs (u + n) (valueGiven kind low high) (length (placedText bytes (textPlace kind low high))) in
       let x : all ≡ ts ++ put ++ (new ++ []) = sym (append-assoc ts put new) ∙ ap (λ (l : List ℕ). ts ++ put ++ l) (sym (append-nil new)) in
-      let y : textIn all (u + n) (length new) ≡ new = ap (λ (l : List ℕ). textIn l (u + n) (length new)) x ∙ text-next (ts ++ put) new [] (u + n) (omega (arith, length-append ts put)) in
+      let y : textOf all (u + n) (length new) ≡ new = ap (λ (l : List ℕ). textOf l (u + n) (length new)) x ∙ text-next (ts ++ put) new [] (u + n) (omega (arith, length-append ts put)) in
       let s = stored-by bytes all kind low high (u + n) (eqb kind 1) refl ok (omega (arith, length-append ts (put ++ new), length-append put new)) y v text in
       value-append (length ts) vs (w .kind ∷ w .low ∷ w .high ∷ []) all v text 0 K
       ∙ ap (λ (f : Found). cond (isFound f) true (isFound (findValue 0 (w .kind ∷ w .low ∷ w .high ∷ []) all v text))) (value-kept ts (put ++ new) v text vs 0 K)

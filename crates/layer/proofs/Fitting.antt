@@ -2,22 +2,22 @@
 -- functions that compute them.
 use Prim.Native.Nat.{ℕ, _*_, _/_, _≤_}
 use mathlib.Core.Path.{_≡_, refl, sym, ap, _∙_}
-use mathlib.Core.Bool.{Bool, true, false, cond, not, _&&_}
+use mathlib.Core.Bool.{Bool, true, false, not, _&&_}
 use mathlib.Core.List.{List}
 use native.Mathlib.Omega.{arith}
-use native.Mathlib.Nat.{le-refl}
 use lib.ListN.{length, take}
 use lib.Dec.{leb}
-use borrow.Author.Tests.{le-leb, leb-true, leb-false, not-true, not-false}
+use borrow.Author.Tests.{le-leb, leb-true, not-true, not-false}
 use Rattle.table.specs.declared.Found.{Found}
 use Rattle.table.specs.Keys.{keysIn}
 use Rattle.table.specs.Values.{valuesIn}
+pub use Rattle.table.proofs.Least.{smaller-le}
 use Rattle.records.specs.Records.{isFound, recordsIn, oneRecord}
 use Rattle.layer.specs.declared.Figures.{Figures}
 use Rattle.layer.specs.declared.Open.{Open}
 use Rattle.layer.specs.declared.Open.the-variants.{Shut, Since}
 use Rattle.layer.specs.declared.Layer.{Layer}
-use Rattle.layer.specs.Held.{mem, smaller, roomOf, fits, seen, maxKeys, maxValues, maxTexts, maxFeatureWords}
+use Rattle.layer.specs.Held.{mem, roomOf, fits, seen, maxKeys, maxValues, maxTexts, maxFeatureWords}
 use Rattle.layer.specs.State.{recordsOk, valid}
 
 pub never : {X : Type 0} → false ≡ true → X
@@ -43,13 +43,6 @@ within a b e =
 
 pub fits-yes : (a b : Figures) → Within a b → fits a b ≡ true
 fits-yes a b w = rw (le-leb _ _ (w .keys), le-leb _ _ (w .values), le-leb _ _ (w .texts), le-leb _ _ (w .features))
-
-smaller-by : (a b : ℕ) (t : Bool) → leb a b ≡ t → (cond t a b ≤ a) × (cond t a b ≤ b)
-smaller-by a b true e = (le-refl a, leb-true a b e)
-smaller-by a b false e = (omega (arith, leb-false a b e), le-refl b)
-
-pub smaller-le : (a b : ℕ) → (smaller a b ≤ a) × (smaller a b ≤ b)
-smaller-le a b = smaller-by a b (leb a b) refl
 
 -- figures that fit into the room fit into the lists and stay at or below the caps
 pub record Fit (u : Figures) (keys values texts features : ℕ) : Type 0 where

@@ -5,8 +5,7 @@ use mathlib.Core.Path.{_≡_, refl, sym, ap, subst, _∙_}
 use mathlib.Core.Bool.{Bool, true, false, cond, _&&_}
 use mathlib.Core.List.{List, [], _++_, append-nil, append-assoc}
 use native.Mathlib.Omega.{arith}
-use lib.ListN.{length, take, drop, length-append, length-replicate}
-use lib.Seq.{take-at, drop-at}
+use lib.ListN.{length, length-append, length-replicate}
 use lib.Dec.{ltb, leb, eqb}
 use borrow.Author.Tests.{leb-true}
 use Rattle.table.specs.declared.Found.{Found}
@@ -14,7 +13,8 @@ use Rattle.table.specs.declared.Found.the-variants.{At, Nothing}
 use Rattle.table.specs.declared.Value.{Value}
 use Rattle.table.specs.Keys.{keysIn, findKey}
 use Rattle.table.specs.Values.{valuesIn, findValue}
-use Rattle.index.specs.Hashes.{hashText, textIn, hashValue, hashStored}
+use Rattle.table.specs.Texts.{textOf}
+use Rattle.index.specs.Hashes.{hashText, hashValue, hashStored}
 use Rattle.index.specs.Chains.{slotsIn, serves, cleared, pushed}
 use Rattle.index.specs.Entries.{keyCount, keyHash, KeyIndex, builtKeys, walkedKey, valueCount, valueHash, ValueIndex, builtValues, walkedValue}
 use Rattle.index.proofs.Pushing.{length-pushed, length-built, built-keys, built-values}
@@ -25,7 +25,7 @@ use Rattle.layer.specs.Held.{maxKeys, maxValues, Seen}
 use Rattle.layer.specs.State.{valid}
 use Rattle.layer.specs.Calls.{Tag, moreOf, putOf, keyWords, storedAs, valueWords}
 use Rattle.layer.proofs.Fitting.{both, within}
-use Rattle.layer.proofs.Entries.{length-put}
+use Rattle.layer.proofs.Entries.{length-put, text-next}
 use Rattle.layer.proofs.Standing.{parts}
 use Rattle.layer.proofs.Keeping.{Lengths}
 use Rattle.layer.specs.Lookup.{Index, keyIndex, valueIndex, indexed, keyBy, valueBy, pushedNew, noted, Current, Kept}
@@ -131,14 +131,12 @@ module _ (used : ℕ → Bool) (build grown put : List ℕ → List ℕ) (alike 
   pushed-by l h false q = rw q
 
 -- a text behind others
-text-behind : (ts a b c : List ℕ) (n k : ℕ) → length ts ≡ n → length a ≡ k → textIn (ts ++ (a ++ (b ++ c))) (n + k) (length b) ≡ b
+text-behind : (ts a b c : List ℕ) (n k : ℕ) → length ts ≡ n → length a ≡ k → textOf (ts ++ (a ++ (b ++ c))) (n + k) (length b) ≡ b
 text-behind ts a b c n k e f =
-    let x : ts ++ (a ++ (b ++ c)) ≡ ts ++ a ++ (b ++ c) = sym (append-assoc ts a (b ++ c)) in
-    let y : drop (n + k) (ts ++ a ++ (b ++ c)) ≡ b ++ c = drop-at (ts ++ a) (b ++ c) (n + k) (omega (arith, length-append ts a)) in
-    ap (λ (l : List ℕ). take (length b) (drop (n + k) l)) x ∙ ap (take (length b)) y ∙ take-at b c (length b) refl
+    ap (λ (l : List ℕ). textOf l (n + k) (length b)) (sym (append-assoc ts a (b ++ c))) ∙ text-next (ts ++ a) b c (n + k) (omega (arith, length-append ts a))
 
 -- the number of a value as it is stored is the value's
-stored-hash : (v : Value) (text ts : List ℕ) (start : ℕ) (b : Bool) → eqb (v .kind) 1 ≡ b → textIn ts start (length text) ≡ text →
+stored-hash : (v : Value) (text ts : List ℕ) (start : ℕ) (b : Bool) → eqb (v .kind) 1 ≡ b → textOf ts start (length text) ≡ text →
     hashStored ts (storedAs start v (length text) .kind) (storedAs start v (length text) .low) (storedAs start v (length text) .high) ≡ hashValue v text
 stored-hash v text ts start true q e = rw q (ap (λ (l : List ℕ). hashText l) e)
 stored-hash v text ts start false q e = rw (q, q)
@@ -175,7 +173,7 @@ module _ (v : Seen) (e : valid v ≡ true) (L : Lengths v) where
     key-pushed : (f : Found) → f ≡ kf → (l : List ℕ) → pushedNew f (builtKeys l (v .held .keys) (v .held .texts)) (v .layer .used .keys) (hashText (t .key)) ≡ builtKeys l (v .held .keys ++ putOf f (keyWords (v .layer .used .texts) (t .key))) texts-after
     key-pushed (At j) q l = keys-again l (v .held .keys) (v .held .texts) (putOf kf (t .key) ++ putOf vf (t .text)) keys-inside ∙ ap (λ (k : List ℕ). builtKeys l k texts-after) (sym (append-nil (v .held .keys)))
     key-pushed Nothing q l =
-        let a : textIn texts-after (v .layer .used .texts) (length (t .key)) ≡ t .key = rw (← q) (let z : v .layer .used .texts + 0 ≡ v .layer .used .texts = omega arith in rw z at (text-behind (v .held .texts) [] (t .key) (putOf vf (t .text)) (v .layer .used .texts) 0 (L .texts) refl)) in
+        let a : textOf texts-after (v .layer .used .texts) (length (t .key)) ≡ t .key = rw (← q) (let z : v .layer .used .texts + 0 ≡ v .layer .used .texts = omega arith in rw z at (text-behind (v .held .texts) [] (t .key) (putOf vf (t .text)) (v .layer .used .texts) 0 (L .texts) refl)) in
         keys-more l (v .held .keys) (v .held .texts) (v .layer .used .keys) (v .layer .used .texts) (t .key) (putOf kf (t .key) ++ putOf vf (t .text)) keys-inside (L .keys) a
 
     value-pushed : (f : Found) → f ≡ vf → (l : List ℕ) → pushedNew f (builtValues l (v .held .values) (v .held .texts)) (v .layer .used .values) (hashValue (t .value) (t .text))
@@ -183,7 +181,7 @@ module _ (v : Seen) (e : valid v ≡ true) (L : Lengths v) where
     value-pushed (At j) q l = values-again l (v .held .values) (v .held .texts) (putOf kf (t .key) ++ putOf vf (t .text)) values-inside ∙ ap (λ (k : List ℕ). builtValues l k texts-after) (sym (append-nil (v .held .values)))
     value-pushed Nothing q l =
         let start = v .layer .used .texts + moreOf kf (length (t .key)) in
-        let a : textIn texts-after (v .layer .used .texts + moreOf kf (length (t .key))) (length (t .text)) ≡ t .text =
+        let a : textOf texts-after (v .layer .used .texts + moreOf kf (length (t .key))) (length (t .text)) ≡ t .text =
         rw (← q) (rw (append-nil (t .text)) at (text-behind (v .held .texts) (putOf kf (t .key)) (t .text) [] (v .layer .used .texts) (moreOf kf (length (t .key))) (L .texts) (length-put kf (t .key)))) in
         let s = storedAs start (t .value) (length (t .text)) in
         values-more l (v .held .values) (v .held .texts) (v .layer .used .values) (s .kind) (s .low) (s .high) (hashValue (t .value) (t .text)) (putOf kf (t .key) ++ putOf vf (t .text)) values-inside (L .values) (stored-hash (t .value) (t .text) texts-after start (eqb (t .value .kind) 1) refl a)

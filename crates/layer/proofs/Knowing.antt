@@ -19,7 +19,7 @@ use Rattle.layer.specs.Calls.{grownBy}
 use Rattle.layer.specs.TagLists.{tagsOk}
 use Rattle.layer.specs.Lookup.{keyBy, valueBy}
 use Rattle.layer.specs.WholeSteps.{placeAt}
-use Rattle.layer.specs.NeedSteps.{keyGiven, valueAmong, ifGiven, orGiven, textOf, keyKnown, valueKnown, needOf, walked, stepAt, KeysLooked, ValuesLooked, KeyAsked, ValueAsked, NeedAsked, NeedLoop}
+use Rattle.layer.specs.NeedSteps.{keyGiven, valueAmong, ifGiven, orGiven, placedText, keyKnown, valueKnown, needOf, walked, stepAt, KeysLooked, ValuesLooked, KeyAsked, ValueAsked, NeedAsked, NeedLoop}
 use Rattle.layer.specs.Steps.{Small}
 use Rattle.layer.proofs.Placing.{key-room, text-room}
 use Rattle.layer.proofs.Listing.{ok-at, ok-after, short-at}
@@ -29,30 +29,30 @@ use Rattle.layer.proofs.Walking.{small-tag, Grow, Walks, walks-start, w
 abbrev lentText : List ℕ → ℕ → ℕ → List ℕ
 lentText bytes start len = take (start + len - start) (drop start bytes)
 
-lent-is : (bytes : List ℕ) (at : Text) → lentText bytes (at .start) (at .len) ≡ textOf bytes at
+lent-is : (bytes : List ℕ) (at : Text) → lentText bytes (at .start) (at .len) ≡ placedText bytes at
 lent-is bytes at = let z : at .start + at .len - at .start ≡ at .len = omega arith in rw z
 
 module _ (bytes ks ts kx earlier : List ℕ) (room : ℕ) (at : Text) (K : KeysLooked kx room ks ts) (h : ℕ) (he : h ≡ hashText (lentText bytes (at .start) (at .len))) (f : Found) (fe : f ≡ keyBy kx room ks ts (lentText bytes (at .start) (at .len)) h) where
-  key-scanned : f ≡ findKey 0 ks ts (textOf bytes at)
+  key-scanned : f ≡ findKey 0 ks ts (placedText bytes at)
   key-scanned = fe ∙ ap (λ (n : ℕ). keyBy kx room ks ts (lentText bytes (at .start) (at .len)) n) he ∙ K .looked (lentText bytes (at .start) (at .len)) ∙ ap (λ (l : List ℕ). findKey 0 ks ts l) (lent-is bytes at)
 
   pub key-there : (j : ℕ) → f ≡ At j → At j ≡ keyKnown ks ts bytes earlier at
-  key-there j q = ap (λ (x : Found). orGiven x (keyGiven bytes earlier (textOf bytes at))) (sym q ∙ key-scanned)
+  key-there j q = ap (λ (x : Found). orGiven x (keyGiven bytes earlier (placedText bytes at))) (sym q ∙ key-scanned)
 
   pub key-told : f ≡ Nothing → (g : Bool) → g ≡ keyGiven bytes earlier (lentText bytes (at .start) (at .len)) → (r : Found) → r ≡ ifGiven g → r ≡ keyKnown ks ts bytes earlier at
   key-told q g ge r re =
-      re ∙ ap ifGiven (ge ∙ ap (λ (l : List ℕ). keyGiven bytes earlier l) (lent-is bytes at)) ∙ ap (λ (x : Found). orGiven x (keyGiven bytes earlier (textOf bytes at))) (sym q ∙ key-scanned)
+      re ∙ ap ifGiven (ge ∙ ap (λ (l : List ℕ). keyGiven bytes earlier l) (lent-is bytes at)) ∙ ap (λ (x : Found). orGiven x (keyGiven bytes earlier (placedText bytes at))) (sym q ∙ key-scanned)
 
 module _ (bytes vs ts vx earlier : List ℕ) (v : Value) (room : ℕ) (at : Text) (K : ValuesLooked vx room vs ts) (h : ℕ) (he : h ≡ hashValue v (lentText bytes (at .start) (at .len))) (f : Found) (fe : f ≡ valueBy vx room vs ts v (lentText bytes (at .start) (at .len)) h) where
-  value-scanned : f ≡ findValue 0 vs ts v (textOf bytes at)
+  value-scanned : f ≡ findValue 0 vs ts v (placedText bytes at)
   value-scanned = fe ∙ ap (λ (n : ℕ). valueBy vx room vs ts v (lentText bytes (at .start) (at .len)) n) he ∙ K .looked v (lentText bytes (at .start) (at .len)) ∙ ap (λ (l : List ℕ). findValue 0 vs ts v l) (lent-is bytes at)
 
   pub value-there : (j : ℕ) → f ≡ At j → At j ≡ valueKnown vs ts bytes earlier v at
-  value-there j q = ap (λ (x : Found). orGiven x (valueAmong bytes earlier v (textOf bytes at))) (sym q ∙ value-scanned)
+  value-there j q = ap (λ (x : Found). orGiven x (valueAmong bytes earlier v (placedText bytes at))) (sym q ∙ value-scanned)
 
   pub value-told : f ≡ Nothing → (g : Bool) → g ≡ valueAmong bytes earlier v (lentText bytes (at .start) (at .len)) → (r : Found) → r ≡ ifGiven g → r ≡ valueKnown vs ts bytes earlier v at
   value-told q g ge r re =
-      re ∙ ap ifGiven (ge ∙ ap (λ (l : List ℕ). valueAmong bytes earlier v l) (lent-is bytes at)) ∙ ap (λ (x : Found). orGiven x (valueAmong bytes earlier v (textOf bytes at))) (sym q ∙ value-scanned)
+      re ∙ ap ifGiven (ge ∙ ap (λ (l : List ℕ). valueAmong bytes earlier v l) (lent-is bytes at)) ∙ ap (λ (x : Found). orGiven x (valueAmong bytes earlier v (placedText bytes at))) (sym q ∙ value-scanned)
 
 module _ (w : Figures) (ws : List ℕ) (i : ℕ) (bytes : List ℕ) (room : Figures) (ks vs ts kx vx : List ℕ) (N : NeedAsked w ws i bytes room ks vs ts kx vx) (p : Place) (e : p ≡ placeAt ws i) where
   pub key-asked : KeyAsked (p .key .start) (p .key .len) (length bytes) kx (room .keys) ks ts

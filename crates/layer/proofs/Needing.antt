@@ -12,21 +12,22 @@ use borrow.Author.Tests.{le-leb, leb-true}
 use Rattle.table.specs.declared.Found.{Found}
 use Rattle.table.specs.declared.Found.the-variants.{At, Nothing}
 use Rattle.table.specs.declared.Value.{Value}
-use Rattle.table.specs.Texts.{inside, sameText}
+use Rattle.table.specs.Texts.{inside, sameText, textOf}
 use Rattle.table.specs.Keys.{findKey, keysIn}
 use Rattle.table.specs.Values.{sameValue, findValue, valueOk, valuesIn}
 use Rattle.records.specs.Records.{isFound}
-use Rattle.index.proofs.Alike.{both as cond-both}
+use Rattle.table.proofs.Growing.{both as cond-both}
 use Rattle.layer.specs.declared.Figures.{Figures}
 use Rattle.layer.specs.declared.Open.the-variants.{Shut}
 use Rattle.layer.specs.Held.{Seen}
 use Rattle.layer.specs.Calls.{withFeatures, Tag, isValue, moreOf, putOf, grownBy, heldWith, tagPutBy, keyFound, valueFound, tagPut}
-use Rattle.layer.specs.TagLists.{tagOk, tagsOk, textAt, valueGiven, textPlace, tagOf, tagsOf}
+use Rattle.layer.specs.TagLists.{tagOk, tagsOk, valueGiven, textPlace, tagOf, tagsOf}
 use Rattle.layer.specs.Whole.{featureOpened, tagsPut}
 use Rattle.layer.specs.NeedSteps.{keyGiven, valueAmong, orGiven, keyKnown, valueKnown, needOf, mostOf, walked}
 use Rattle.layer.proofs.Fitting.{never, both, Within}
 use Rattle.layer.proofs.Entries.{length-put}
 use Rattle.layer.proofs.Keeping.{Sound, opened-sound, tag-sound}
+use Rattle.layer.proofs.Filled.{value-given}
 use Rattle.layer.proofs.Finding.{key-old, key-new, value-old, value-new}
 
 -- ---- tests
@@ -81,10 +82,6 @@ tables-put o t v kf vf T g =
       records = refl;
       lengths = record { keys = S .lengths .keys; values = S .lengths .values; texts = S .lengths .texts; features = refl };
     }
-
-value-given : (bytes kind low high : ℕ) (t : Bool) → eqb kind 1 ≡ t → valueOk bytes kind low high ≡ true → isValue (valueGiven kind low high) ≡ true
-value-given bytes kind low high true q e = rw q
-value-given bytes kind low high false q e = rw (q, q) (rw q at e)
 
 -- ---- a list of tags with one more
 key-last : (n : ℕ) (bytes ws key : List ℕ) (a b c d e : ℕ) → tagsOk n ws ≡ true → keyGiven bytes (ws ++ (a ∷ b ∷ c ∷ d ∷ e ∷ [])) key ≡ cond (keyGiven bytes ws key) true (sameText bytes a b key)
@@ -182,7 +179,7 @@ module _ (bytes ks vs ts : List ℕ) (o : Figures) where
 
     figures-on : tagPut o tag n .layer .used ≡ needOf ks vs ts bytes earlier a b c d e (n .layer .used)
     figures-on =
-        let k : length (textAt bytes a b) ≡ b = length-take-le b (drop a bytes) (omega (arith, key-in, length-drop a bytes)) in
+        let k : length (textOf bytes a b) ≡ b = length-take-le b (drop a bytes) (omega (arith, key-in, length-drop a bytes)) in
         let kf = findKey 0 ks ts (tag .key) in
         let vf = findValue 0 vs ts (tag .value) (tag .text) in
         let x = keyKnown ks ts bytes earlier (record { start = a; len = b }) in

@@ -14,7 +14,10 @@ use Rattle.layer.specs.declared.Counted.{Counted}
 use Rattle.layer.specs.declared.Counted.the-variants.{Is, Refused as CountedRefused}
 use Rattle.layer.specs.declared.Named.{Named}
 use Rattle.layer.specs.declared.Named.the-variants.{At as Stands, Refused as NamedRefused}
+use Rattle.layer.specs.declared.many.Added.{Added}
+use Rattle.layer.specs.declared.many.Added.the-variants.{Done as AddedDone, Refused as AddedRefused}
 use Rattle.layer.specs.Answers.{saidChanged, saidCreated, Told, saidCounted, saidNamed}
+use Rattle.layer.specs.Many.{Many, saidAdded}
 
 -- a list of one holds what it holds
 one : {X : Type 0} (a b : X) → a ∷ [] ≡ b ∷ [] → a ≡ b
@@ -52,3 +55,13 @@ one-named (NamedRefused r s) (NamedRefused r′ t) e =
     let i : r ≡ r′ = one-refusal r r′ e in
     let j : s ≡ t = one s t (ap (λ (x : Said (Told (List Text))). x .values .given) e) in
     λ k. NamedRefused (i k) (j k)
+
+pub one-added : (r r′ : Added) → saidAdded r ≡ saidAdded r′ → r ≡ r′
+one-added (AddedDone s m) (AddedDone t n) e = ap (λ (x : Said Many). AddedDone (x .values .layer) (x .values .count)) e
+one-added (AddedDone s m) (AddedRefused r t n) e = absurd (never-both r e)
+one-added (AddedRefused r s m) (AddedDone t n) e = absurd (never-both r (sym e))
+one-added (AddedRefused r s m) (AddedRefused r′ t n) e =
+    let i : r ≡ r′ = one-refusal r r′ e in
+    let j : s ≡ t = ap (λ (x : Said Many). x .values .layer) e in
+    let c : m ≡ n = ap (λ (x : Said Many). x .values .count) e in
+    λ k. AddedRefused (i k) (j k) (c k)

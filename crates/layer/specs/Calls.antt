@@ -14,6 +14,7 @@ use Rattle.table.specs.declared.Found.the-variants.{At, Nothing}
 use Rattle.table.specs.declared.Value.{Value}
 use Rattle.table.specs.Texts.{shortText}
 use Rattle.table.specs.Keys.{findKey}
+pub use Rattle.table.specs.Keys.{indexOf}
 use Rattle.table.specs.Values.{findValue, valueOk}
 use Rattle.words.specs.Geometries.{isKind, maxWords}
 use Rattle.table.specs.declared.Text.{Text}
@@ -90,11 +91,6 @@ pub record Tag : Type 0 where
 -- a value as the seven tag calls make it: a text, or a content of its kind
 abbrev pub isValue : Value → Bool
 isValue v = cond (eqb (v .kind) 1) true (valueOk 0 (v .kind) (v .low) (v .high))
-
--- the index of what was found, or of what goes last
-abbrev pub indexOf : Found → ℕ → ℕ
-indexOf (At j) next = j
-indexOf Nothing next = next
 
 -- how much is put, of n
 abbrev pub moreOf : Found → ℕ → ℕ

@@ -10,6 +10,7 @@ use Rattle.promise.specs.Answers.{Written, kept}
 use Rattle.refusal.specs.declared.Refusal.{Refusal}
 use Rattle.refusal.specs.declared.Refusal.the-variants.{Turn}
 use Rattle.refusal.specs.Said.{Said, accepted, refused}
+pub use Rattle.table.specs.Least.{smaller}
 use Rattle.layer.specs.declared.Figures.{Figures}
 use Rattle.layer.specs.declared.Open.{Open}
 use Rattle.layer.specs.declared.Open.the-variants.{Shut, Since}
@@ -37,9 +38,6 @@ maxTexts = 4294967295
 
 abbrev pub maxFeatureWords : ℕ
 maxFeatureWords = 4294967295
-
-abbrev pub smaller : ℕ → ℕ → ℕ
-smaller a b = cond (leb a b) a b
 
 -- the room in lists of these lengths, in what the figures count
 abbrev pub roomOf : ℕ → ℕ → ℕ → ℕ → Figures

@@ -1,5 +1,5 @@
 -- Many whole features in one call. Each has a head of six words: its kind, its id mark (0 or 1), the low and the high half of its id, how many geometry words
--- it has and how many tag words. The geometry words of all stand one behind the other in one lent list, their tag words in another, and the texts of all in one.
+-- it has and how many tag words. The geometry words of all stand one behind the other in one lent list, their tag words in another, and their texts in one.
 use Prim.Native.Nat.{ℕ, suc, _+_, _-_}
 use mathlib.Core.Bool.{Bool, false, cond, _&&_}
 use mathlib.Core.List.{List, [], _∷_}
@@ -89,6 +89,9 @@ alongIndex w x =
       answer = w .answer;
       memory = withIndex (w .memory) (cond (eqb (w .answer .values .count) 0) x (indexed (seen (w .answer .values .layer) (w .memory)) x));
     }
+
+abbrev pub allIndexed : List ℕ → List ℕ → List ℕ → List ℕ → Layer → Memory → Index → Written (Said Many) Lists
+allIndexed heads words ws bytes s m x = alongIndex (addAll 0 heads words ws bytes s m) x
 
 abbrev pub addIndexed : List ℕ → List ℕ → List ℕ → List ℕ → Layer → Memory → Index → Written (Said Many) Lists
 addIndexed heads words ws bytes s m x = alongIndex (addFeatures heads words ws bytes s m) x

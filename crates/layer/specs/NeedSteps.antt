@@ -8,14 +8,14 @@ use Rattle.table.specs.declared.Found.{Found}
 use Rattle.table.specs.declared.Found.the-variants.{At, Nothing}
 use Rattle.table.specs.declared.Text.{Text}
 use Rattle.table.specs.declared.Value.{Value}
-use Rattle.table.specs.Texts.{sameText}
+use Rattle.table.specs.Texts.{sameText, textOf}
 use Rattle.table.specs.Keys.{findKey}
 use Rattle.table.specs.Values.{sameValue, findValue}
 use Rattle.index.specs.Hashes.{hashText, hashValue}
 use Rattle.layer.specs.declared.Figures.{Figures}
 use Rattle.layer.specs.Held.{maxKeys, maxValues, maxTexts, maxFeatureWords}
 use Rattle.layer.specs.Calls.{grownBy}
-use Rattle.layer.specs.TagLists.{textAt, valueGiven, textPlace, tagsShort, shortAt, tagsOk}
+use Rattle.layer.specs.TagLists.{valueGiven, textPlace, tagsShort, shortAt, tagsOk}
 use Rattle.layer.specs.Lookup.{keyBy, valueBy}
 use Rattle.layer.specs.WholeSteps.{TagThere}
 
@@ -47,15 +47,15 @@ orGiven (At j) given = At j
 orGiven Nothing given = ifGiven given
 
 -- the text at a place
-abbrev pub textOf : List ℕ → Text → List ℕ
-textOf bytes at = textAt bytes (at .start) (at .len)
+abbrev pub placedText : List ℕ → Text → List ℕ
+placedText bytes at = textOf bytes (at .start) (at .len)
 
 -- a key, and a value with its text, each at its place
 abbrev pub keyKnown : List ℕ → List ℕ → List ℕ → List ℕ → Text → Found
-keyKnown ks ts bytes earlier at = orGiven (findKey 0 ks ts (textOf bytes at)) (keyGiven bytes earlier (textOf bytes at))
+keyKnown ks ts bytes earlier at = orGiven (findKey 0 ks ts (placedText bytes at)) (keyGiven bytes earlier (placedText bytes at))
 
 abbrev pub valueKnown : List ℕ → List ℕ → List ℕ → List ℕ → Value → Text → Found
-valueKnown vs ts bytes earlier v at = orGiven (findValue 0 vs ts v (textOf bytes at)) (valueAmong bytes earlier v (textOf bytes at))
+valueKnown vs ts bytes earlier v at = orGiven (findValue 0 vs ts v (placedText bytes at)) (valueAmong bytes earlier v (placedText bytes at))
 
 -- ---- the figures, tag by tag
 -- what a tag of five words makes of the figures; the first list is the tags before it

@@ -52,6 +52,10 @@ pub record TagRoom (u o : Figures) (kf vf : Found) (key text : ℕ) (m : Memory)
   pub pair : PairRoom (o .features) (u .features) (indexOf kf (u .keys)) (indexOf vf (u .values)) (m .features)
   pub small : Small u key text
 
+-- the two words of a tag at end, counted by the record at index at
+abbrev pub pairLaid : ℕ → ℕ → ℕ → ℕ → List ℕ → List ℕ
+pairLaid at end k v fs = set (lay end (k ∷ v ∷ []) fs) (at + 4) (getD fs (at + 4) 0 + 2)
+
 -- the four lists after a tag
 abbrev pub laidTag : Figures → Figures → Found → Found → Tag → Memory → Memory
 laidTag u o kf vf t m =
@@ -59,7 +63,7 @@ laidTag u o kf vf t m =
       keys = lay (u .keys * 2) (putOf kf (keyWords (u .texts) (t .key))) (m .keys);
       values = lay (u .values * 3) (putOf vf (valueWords (u .texts + moreOf kf (length (t .key))) (t .value) (t .text))) (m .values);
       texts = lay (u .texts) (putOf kf (t .key) ++ putOf vf (t .text)) (m .texts);
-      features = set (lay (u .features) (indexOf kf (u .keys) ∷ indexOf vf (u .values) ∷ []) (m .features)) (o .features + 4) (getD (m .features) (o .features + 4) 0 + 2);
+      features = pairLaid (o .features) (u .features) (indexOf kf (u .keys)) (indexOf vf (u .values)) (m .features);
     }
 
 -- a tag may be put: nothing but ROOM can refuse it

@@ -3,11 +3,11 @@
 use Prim.Native.Nat.{ℕ, _+_}
 use mathlib.Core.Bool.{Bool, true, false, cond, _&&_}
 use mathlib.Core.List.{List, [], _∷_}
-use lib.ListN.{getD, take, drop}
+use lib.ListN.{getD}
 use lib.Dec.{eqb}
 use Rattle.table.specs.declared.Text.{Text}
 use Rattle.table.specs.declared.Value.{Value}
-use Rattle.table.specs.Texts.{inside, shortText}
+use Rattle.table.specs.Texts.{inside, shortText, textOf}
 use Rattle.table.specs.Values.{valueOk}
 use Rattle.layer.specs.Calls.{Tag}
 
@@ -24,10 +24,6 @@ tagsOk bytes (start ∷ len ∷ kind ∷ []) = false
 tagsOk bytes (start ∷ len ∷ kind ∷ low ∷ []) = false
 tagsOk bytes (start ∷ len ∷ kind ∷ low ∷ high ∷ ws) = cond (tagOk bytes start len kind low high) (tagsOk bytes ws) false
 
--- the text of len bytes at start
-abbrev pub textAt : List ℕ → ℕ → ℕ → List ℕ
-textAt bytes start len = take len (drop start bytes)
-
 -- the value of three words as its tag call makes it: of a text the place is found when it is stored
 abbrev pub valueGiven : ℕ → ℕ → ℕ → Value
 valueGiven kind low high = cond (eqb kind 1) (record { kind = 1; low = 0; high = 0 }) (record { kind = kind; low = low; high = high })
@@ -40,9 +36,9 @@ textPlace kind low high = cond (eqb kind 1) (record { start = low; len = high })
 abbrev pub tagOf : List ℕ → ℕ → ℕ → ℕ → ℕ → ℕ → Tag
 tagOf bytes start len kind low high =
     record {
-      key = textAt bytes start len;
+      key = textOf bytes start len;
       value = valueGiven kind low high;
-      text = textAt bytes (textPlace kind low high .start) (textPlace kind low high .len);
+      text = textOf bytes (textPlace kind low high .start) (textPlace kind low high .len);
     }
 
 -- the test and the tag of the five words at index i of a list

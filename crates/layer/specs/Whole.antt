@@ -1,5 +1,5 @@
--- A whole feature in one call: opened, its id set, tagged and closed. Its checks come first, in the table's order and of all that it was given: JOB, KIND, STATE,
--- TEXT, TURN, and ROOM last, of the result reckoned without a limit on room; only then is anything written.
+-- A whole feature in one call: opened, its id set, tagged and closed. Its checks come first, in the table's order and of all that it was given: JOB, KIND,
+-- STATE, TEXT, TURN, and ROOM last, of the result reckoned without a limit on room; only then is anything written.
 use Prim.Native.Nat.{ℕ, _+_}
 use mathlib.Core.Bool.{cond}
 use mathlib.Core.List.{List, [], _∷_, _++_}

@@ -1,7 +1,7 @@
 // What a layer can be asked.
 ghost use mathlib.Core.Path.{_≡_};
 ghost use Rattle.layer.specs.Answers.{saidCounted, saidNamed};
-ghost use Rattle.layer.specs.Calls.{indexOf, complete, numFeatures, numTags, nameOf};
+ghost use Rattle.layer.specs.Calls.{complete, numFeatures, numTags, nameOf};
 ghost use Rattle.layer.specs.Lending.{sees};
 use crate::Counted;
 use crate::Figures;
@@ -10,18 +10,8 @@ use crate::Named;
 use crate::Open;
 use crate::state::is_valid;
 use refusal::Refusal;
-use table::Found;
 use table::Text;
-
-// The index of what was found, or of what goes last.
-pub(crate) fn index_of(f: Found, next: usize) -> usize
-    ensures { λ r. ⌜ r ≡ indexOf f next ⌝ }
-{
-    match f {
-        Found::At(j) => j,
-        Found::Nothing => next,
-    }
-}
+use table::index_of;
 
 fn completed(f: Open, u: Figures) -> usize
     ensures { λ r. ⌜ r ≡ complete f u ⌝ }

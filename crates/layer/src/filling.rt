@@ -1,13 +1,10 @@
-// The tags of a list put one after the other, each looked up by the indexes that serve. Nothing is asked here: they are known to be tags, short, and to have room.
-ghost use mathlib.Core.List.{List};
-ghost use lib.ListN.{length};
-ghost use Rattle.layer.specs.Held.{mem};
+// The tags of a list put one after the other, each looked up by the indexes that serve. Nothing is asked here: they are tags, short, and have room.
 ghost use Rattle.layer.specs.Calls.{tagPut};
 ghost use Rattle.layer.specs.TagLists.{tagAt, tagsOf};
 ghost use Rattle.layer.specs.Whole.{tagsPut};
 ghost use Rattle.layer.specs.Lookup.{idx};
-ghost use Rattle.layer.specs.WholeSteps.{TagThere, Leaves, MayTag, MayFill};
-ghost use Rattle.layer.specs.Lending.{entered, left, sees, given, enteredIndex, leftIndex};
+ghost use Rattle.layer.specs.WholeSteps.{TagThere, MayTag, MayFill};
+ghost use Rattle.layer.specs.Lending.{lists, given, lent, Fills};
 use crate::Figures;
 use crate::Layer;
 use crate::lookup::find_key;
@@ -32,8 +29,8 @@ fn put_by_index(
     ki: &mut [u32],
     vi: &mut [u32],
 ) -> Layer
-    requires { ⌜ MayTag s o (record { key = now key; value = v; text = now text }) (mem (now keys) (now values) (now texts) (now features)) (idx (now ki) (now vi)) ⌝ }
-    ensures { λ r. ⌜ Leaves (tagPut o (given key v text) (sees s keys values texts features)) r (entered keys values texts features) (left keys values texts features) (enteredIndex ki vi) (leftIndex ki vi) ⌝ }
+    requires { ⌜ MayTag s o (lent key v text) (lists keys values texts features) (idx (now ki) (now vi)) ⌝ }
+    ensures { λ r. ⌜ Fills (tagPut o (given key v text)) s r keys values texts features ki vi ⌝ }
 {
     let u = s.used;
     let k = u.keys * 2;
@@ -72,8 +69,8 @@ fn put_tag_at(
     vi: &mut [u32],
 ) -> Layer
     requires { ⌜ TagThere (now bytes) (now tags) i ⌝ }
-    requires { ⌜ MayTag s o (tagAt (now bytes) (now tags) i) (mem (now keys) (now values) (now texts) (now features)) (idx (now ki) (now vi)) ⌝ }
-    ensures { λ r. ⌜ Leaves (tagPut o (tagAt (now (bytes .entry)) (now (tags .entry)) i) (sees s keys values texts features)) r (entered keys values texts features) (left keys values texts features) (enteredIndex ki vi) (leftIndex ki vi) ⌝ }
+    requires { ⌜ MayTag s o (tagAt (now bytes) (now tags) i) (lists keys values texts features) (idx (now ki) (now vi)) ⌝ }
+    ensures { λ r. ⌜ Fills (tagPut o (tagAt (now (bytes .entry)) (now (tags .entry)) i)) s r keys values texts features ki vi ⌝ }
 {
     let p = place_at(tags, i);
     let key = p.key;
@@ -111,8 +108,8 @@ pub(crate) fn put_tags(
     ki: &mut [u32],
     vi: &mut [u32],
 ) -> Layer
-    requires { ⌜ MayFill s o (now tags) (now bytes) (mem (now keys) (now values) (now texts) (now features)) (idx (now ki) (now vi)) ⌝ }
-    ensures { λ r. ⌜ Leaves (tagsPut o (tagsOf (now (bytes .entry)) (now (tags .entry))) (sees s keys values texts features)) r (entered keys values texts features) (left keys values texts features) (enteredIndex ki vi) (leftIndex ki vi) ⌝ }
+    requires { ⌜ MayFill s o (now tags) (now bytes) (lists keys values texts features) (idx (now ki) (now vi)) ⌝ }
+    ensures { λ r. ⌜ Fills (tagsPut o (tagsOf (now (bytes .entry)) (now (tags .entry)))) s r keys values texts features ki vi ⌝ }
 {
     let mut t = s;
     let mut i = 0;

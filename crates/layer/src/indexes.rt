@@ -1,17 +1,15 @@
 // The indexes of what a layer holds, built where they serve.
 ghost use mathlib.Core.Path.{_≡_};
 ghost use mathlib.Core.Bool.{true, cond};
-ghost use lib.ListN.{length};
-ghost use Rattle.index.specs.Chains.{serves};
 ghost use Rattle.index.specs.Entries.{builtKeys, builtValues};
-ghost use Rattle.layer.specs.Held.{mem, seen};
+ghost use Rattle.layer.specs.Held.{seen};
 ghost use Rattle.layer.specs.State.{valid};
 ghost use Rattle.layer.specs.Lookup.{indexed};
-ghost use Rattle.layer.specs.Lending.{sees, enteredIndex, leftIndex};
+ghost use Rattle.layer.specs.Lending.{lists, sees, enteredIndex, leftIndex, Builds};
 use crate::Layer;
 
 fn index_keys(room: usize, keys: &[u32], texts: &[u8], list: &mut [u32])
-    ensures { λ _. ⌜ now (list .exit) ≡ cond (serves (length (now (list .entry))) room) (builtKeys (now (list .entry)) (now (keys .entry)) (now (texts .entry))) (now (list .entry)) ⌝ }
+    ensures { λ _. ⌜ Builds builtKeys room keys texts list ⌝ }
 {
     if !index::serves(list.len(), room) {
         return;
@@ -20,7 +18,7 @@ fn index_keys(room: usize, keys: &[u32], texts: &[u8], list: &mut [u32])
 }
 
 fn index_values(room: usize, values: &[u32], texts: &[u8], list: &mut [u32])
-    ensures { λ _. ⌜ now (list .exit) ≡ cond (serves (length (now (list .entry))) room) (builtValues (now (list .entry)) (now (values .entry)) (now (texts .entry))) (now (list .entry)) ⌝ }
+    ensures { λ _. ⌜ Builds builtValues room values texts list ⌝ }
 {
     if !index::serves(list.len(), room) {
         return;
@@ -39,7 +37,7 @@ pub(crate) fn build_index(
     ki: &mut [u32],
     vi: &mut [u32],
 )
-    requires { ⌜ valid (seen s (mem (now keys) (now values) (now texts) (now features))) ≡ true ⌝ }
+    requires { ⌜ valid (seen s (lists keys values texts features)) ≡ true ⌝ }
     ensures { λ _. ⌜ leftIndex ki vi ≡ cond built (enteredIndex ki vi) (indexed (sees s keys values texts features) (enteredIndex ki vi)) ⌝ }
 {
     if built {

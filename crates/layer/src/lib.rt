@@ -18,11 +18,12 @@ mod need; // whether a whole feature has room
 
 ghost use mathlib.Core.Path.{_≡_};
 ghost use Rattle.promise.specs.Answers.{Gives};
-ghost use Rattle.layer.specs.Held.{smaller, roomOf, fits};
+ghost use Rattle.layer.specs.Held.{roomOf, fits};
 ghost use Rattle.layer.specs.Answers.{saidCreated};
 ghost use Rattle.layer.specs.Calls.{isShut, created};
 use refusal::Refusal;
 use table::Text;
+use table::smaller;
 
 // How much of each list is used: keys and values in entries, texts in bytes, features in words.
 pub struct Figures {
@@ -92,7 +93,7 @@ impl Layer {
     pub const MAX_FEATURE_WORDS: usize = 4294967295;
 
     // The room in lists of these lengths: the smaller of the length and the cap, in what the figures count.
-    pub fn room(keys: usize, values: usize, texts: usize, features: usize) -> Figures
+    pub(crate) fn room(keys: usize, values: usize, texts: usize, features: usize) -> Figures
         ensures { λ r. ⌜ r ≡ roomOf keys values texts features ⌝ }
     {
         Figures {
@@ -104,7 +105,7 @@ impl Layer {
     }
 
     // Whether figures fit into lists of these lengths, caps and all.
-    pub fn has_room_for(
+    pub(crate) fn has_room_for(
         u: Figures,
         keys: usize,
         values: usize,
@@ -144,17 +145,8 @@ impl Layer {
     }
 }
 
-fn smaller(a: usize, b: usize) -> usize
-    ensures { λ r. ⌜ r ≡ smaller a b ⌝ }
-{
-    if a <= b {
-        return a;
-    }
-    b
-}
-
 // Whether no figure exceeds the other's.
-pub fn fits_in(a: Figures, b: Figures) -> bool
+pub(crate) fn fits_in(a: Figures, b: Figures) -> bool
     ensures { λ r. ⌜ r ≡ fits a b ⌝ }
 {
     (a.keys <= b.keys)

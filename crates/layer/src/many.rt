@@ -3,11 +3,10 @@ ghost use mathlib.Core.Path.{_≡_};
 ghost use mathlib.Core.Bool.{true};
 ghost use Prim.Native.Nat.{_+_, _≤_};
 ghost use lib.ListN.{length};
-ghost use Rattle.promise.specs.Answers.{Gives};
-ghost use Rattle.layer.specs.Held.{mem, seen};
+ghost use Rattle.layer.specs.Held.{seen};
 ghost use Rattle.layer.specs.State.{valid};
-ghost use Rattle.layer.specs.Many.{headAt, headsOk, saidAdded, addAll, alongIndex, addIndexed};
-ghost use Rattle.layer.specs.Lending.{entered, enteredIndex, leftLists};
+ghost use Rattle.layer.specs.Many.{headAt, headsOk, allIndexed, addIndexed};
+ghost use Rattle.layer.specs.Lending.{lists, Adds};
 use crate::Changed;
 use crate::Layer;
 use crate::state::is_valid;
@@ -72,8 +71,8 @@ fn add_each(
     vi: &mut [u32],
 ) -> Added
     requires { ⌜ headsOk (length (now words)) (length (now tags)) (now heads) ≡ true ⌝ }
-    requires { ⌜ stands ≡ valid (seen s (mem (now keys) (now values) (now texts) (now features))) ⌝ }
-    ensures { λ r. ⌜ Gives (alongIndex (addAll 0 (now (heads .entry)) (now (words .entry)) (now (tags .entry)) (now (bytes .entry)) s (entered keys values texts features)) (enteredIndex ki vi)) (saidAdded r) (leftLists keys values texts features ki vi) ⌝ }
+    requires { ⌜ stands ≡ valid (seen s (lists keys values texts features)) ⌝ }
+    ensures { λ r. ⌜ Adds (allIndexed (now (heads .entry)) (now (words .entry)) (now (tags .entry)) (now (bytes .entry)) s) r keys values texts features ki vi ⌝ }
 {
     let mut t = s;
     let mut i = 0;
@@ -130,7 +129,7 @@ pub fn add_features(
     ki: &mut [u32],
     vi: &mut [u32],
 ) -> Added
-    ensures { λ r. ⌜ Gives (addIndexed (now (heads .entry)) (now (words .entry)) (now (tags .entry)) (now (bytes .entry)) s (entered keys values texts features) (enteredIndex ki vi)) (saidAdded r) (leftLists keys values texts features ki vi) ⌝ }
+    ensures { λ r. ⌜ Adds (addIndexed (now (heads .entry)) (now (words .entry)) (now (tags .entry)) (now (bytes .entry)) s) r keys values texts features ki vi ⌝ }
 {
     if !is_head_list(heads, words.len(), tags.len()) {
         return Added::Refused(Refusal::Job, s, 0);

@@ -3,8 +3,8 @@
 ghost use mathlib.Core.Path.{_≡_};
 ghost use mathlib.Core.List.{[]};
 ghost use lib.ListN.{length};
-ghost use Rattle.layer.specs.Held.{mem, fits};
-ghost use Rattle.layer.specs.Lending.{sees};
+ghost use Rattle.layer.specs.Held.{fits};
+ghost use Rattle.layer.specs.Lending.{sees, lists};
 ghost use Rattle.layer.specs.TagLists.{tagsOf};
 ghost use Rattle.layer.specs.Lookup.{idx};
 ghost use Rattle.layer.specs.WholeSteps.{Asking, Decides};
@@ -219,7 +219,7 @@ pub(crate) fn has_room(
     key_index: &[u32],
     value_index: &[u32],
 ) -> bool
-    requires { ⌜ Asking s words (now tags) (now bytes) (mem (now keys) (now values) (now texts) (now features)) (idx (now «key_index») (now «value_index»)) ⌝ }
+    requires { ⌜ Asking s words (now tags) (now bytes) (lists keys values texts features) (idx (now «key_index») (now «value_index»)) ⌝ }
     ensures { λ r. ⌜ Decides r words (tagsOf (now (bytes .entry)) (now (tags .entry))) (sees s keys values texts features) ⌝ }
 {
     let room = Layer::room(keys.len(), values.len(), texts.len(), features.len());

@@ -1,20 +1,18 @@
 // The steps of a tag that was looked up: the figures after it, and then the key, the value and the two words of the tag.
 ghost use mathlib.Core.Path.{_≡_};
-ghost use mathlib.Core.List.{[], _∷_};
-ghost use Prim.Native.Nat.{_+_, _≤_};
-ghost use lib.ListN.{length, getD, set};
-ghost use Rattle.promise.specs.Laid.{lay};
+ghost use Prim.Native.Nat.{_≤_};
+ghost use lib.ListN.{length};
 ghost use Rattle.table.specs.Texts.{maxBytes};
-ghost use Rattle.layer.specs.Held.{maxTexts, mem};
+ghost use Rattle.layer.specs.Held.{maxTexts};
 ghost use Rattle.layer.specs.Calls.{grownBy, keyWords, storedAs, valueWords};
-ghost use Rattle.layer.specs.Steps.{Grows, Small, EntryRoom, PairRoom, TagRoom, laidTag};
-ghost use Rattle.layer.specs.Lending.{entered, left, given, Lays};
+ghost use Rattle.layer.specs.Steps.{Grows, Small, EntryRoom, PairRoom, TagRoom, pairLaid, laidTag};
+ghost use Rattle.layer.specs.Lending.{entered, left, given, Lays, lists};
 use crate::Figures;
-use crate::asking::index_of;
 use runs::lay_bytes;
 use runs::lay_words;
 use table::Found;
 use table::Value;
+use table::index_of;
 
 fn more_of(f: Found, n: usize) -> usize
     ensures { λ r. ⌜ Grows f n r ⌝ }
@@ -95,7 +93,7 @@ fn put_value(
 // The two words of a tag go last, and the record at index at counts them.
 fn put_pair(at: usize, end: usize, k: usize, v: usize, features: &mut [u32])
     requires { ⌜ PairRoom at end k v (now features) ⌝ }
-    ensures { λ _. ⌜ now (features .exit) ≡ set (lay end (k ∷ v ∷ []) (now (features .entry))) (at + 4) (getD (now (features .entry)) (at + 4) 0 + 2) ⌝ }
+    ensures { λ _. ⌜ now (features .exit) ≡ pairLaid at end k v (now (features .entry)) ⌝ }
 {
     let count = features[at + 4];
     let words = [k as u32, v as u32];
@@ -117,7 +115,7 @@ pub(crate) fn put_tag(
     texts: &mut [u8],
     features: &mut [u32],
 )
-    requires { ⌜ TagRoom u o kf vf (length (now key)) (length (now text)) (mem (now keys) (now values) (now texts) (now features)) ⌝ }
+    requires { ⌜ TagRoom u o kf vf (length (now key)) (length (now text)) (lists keys values texts features) ⌝ }
     ensures { λ _. ⌜ left keys values texts features ≡ laidTag u o kf vf (given key v text) (entered keys values texts features) ⌝ }
 {
     let k = u.keys * 2;

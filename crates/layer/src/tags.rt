@@ -2,10 +2,9 @@
 // given by their bits, since values are equal by bits. Each call costs its STATE check, which reads the used part of every list once, and a scan of the
 // keys and of the values.
 ghost use lib.ListN.{length};
-ghost use Rattle.layer.specs.Held.{mem};
 ghost use Rattle.layer.specs.Calls.{tagged, addTag, bitsOf, bitOf, tagString, tagBits};
 ghost use Rattle.layer.specs.Steps.{Ready};
-ghost use Rattle.layer.specs.Lending.{Does, given};
+ghost use Rattle.layer.specs.Lending.{Does, given, lists};
 use crate::Changed;
 use crate::Figures;
 use crate::Layer;
@@ -32,7 +31,7 @@ fn tag(
     texts: &mut [u8],
     features: &mut [u32],
 ) -> Changed
-    requires { ⌜ Ready s o (length (now key)) (length (now text)) (mem (now keys) (now values) (now texts) (now features)) ⌝ }
+    requires { ⌜ Ready s o (length (now key)) (length (now text)) (lists keys values texts features) ⌝ }
     ensures { λ r. ⌜ Does (λ w. tagged (given key v text) w o) s r keys values texts features ⌝ }
 {
     let u = s.used;

@@ -1,14 +1,13 @@
-// A whole feature in one call (in the Rust: a feature opened, tagged and closed). Everything that it was given is asked first, ROOM last; then it is written. The
+// A whole feature in one call (in the Rust: a feature opened, tagged and closed). All that it was given is asked first, ROOM last; then it is written. The
 // single calls check the layer's STATE each; this one checks it once, so a feature costs what the layer holds and no more.
 ghost use mathlib.Core.Path.{_≡_};
 ghost use mathlib.Core.Bool.{cond};
 ghost use lib.ListN.{length};
-ghost use Rattle.layer.specs.Held.{mem};
 ghost use Rattle.layer.specs.TagLists.{tagsOf};
 ghost use Rattle.layer.specs.Whole.{markOf, idOf, featurePut, addFeature};
 ghost use Rattle.layer.specs.Lookup.{idx};
-ghost use Rattle.layer.specs.WholeSteps.{asks, Leaves, MayPut, Known, Given, LeavesFeature};
-ghost use Rattle.layer.specs.Lending.{Does, entered, left, sees, enteredIndex, leftIndex};
+ghost use Rattle.layer.specs.WholeSteps.{asks, MayPut, Known, Given};
+ghost use Rattle.layer.specs.Lending.{Does, DoesIndexed, Fills, lists};
 use crate::Changed;
 use crate::Figures;
 use crate::Layer;
@@ -101,8 +100,8 @@ fn put_feature(
     ki: &mut [u32],
     vi: &mut [u32],
 ) -> Layer
-    requires { ⌜ MayPut s f (now words) (now tags) (now bytes) (mem (now keys) (now values) (now texts) (now features)) (idx (now ki) (now vi)) ⌝ }
-    ensures { λ r. ⌜ Leaves (featurePut f (now (words .entry)) (tagsOf (now (bytes .entry)) (now (tags .entry))) (sees s keys values texts features)) r (entered keys values texts features) (left keys values texts features) (enteredIndex ki vi) (leftIndex ki vi) ⌝ }
+    requires { ⌜ MayPut s f (now words) (now tags) (now bytes) (lists keys values texts features) (idx (now ki) (now vi)) ⌝ }
+    ensures { λ r. ⌜ Fills (featurePut f (now (words .entry)) (tagsOf (now (bytes .entry)) (now (tags .entry)))) s r keys values texts features ki vi ⌝ }
 {
     let o = s.used;
     let mark = mark_of(f);
@@ -166,8 +165,8 @@ fn add_welcome(
     ki: &mut [u32],
     vi: &mut [u32],
 ) -> Changed
-    requires { ⌜ Given s built f (now words) (now tags) (now bytes) (mem (now keys) (now values) (now texts) (now features)) (idx (now ki) (now vi)) ⌝ }
-    ensures { λ r. ⌜ LeavesFeature (addFeature f (now (words .entry)) (now (tags .entry)) (now (bytes .entry)) (sees s keys values texts features)) s r (entered keys values texts features) (left keys values texts features) (enteredIndex ki vi) (leftIndex ki vi) ⌝ }
+    requires { ⌜ Given s built f (now words) (now tags) (now bytes) (lists keys values texts features) (idx (now ki) (now vi)) ⌝ }
+    ensures { λ r. ⌜ DoesIndexed (addFeature f (now (words .entry)) (now (tags .entry)) (now (bytes .entry))) s r keys values texts features ki vi ⌝ }
 {
     let a = reach(built, ki.len());
     let b = reach(built, vi.len());
@@ -226,8 +225,8 @@ pub(crate) fn add_known(
     ki: &mut [u32],
     vi: &mut [u32],
 ) -> Changed
-    requires { ⌜ Known s stands built (mem (now keys) (now values) (now texts) (now features)) (idx (now ki) (now vi)) ⌝ }
-    ensures { λ r. ⌜ LeavesFeature (addFeature f (now (words .entry)) (now (tags .entry)) (now (bytes .entry)) (sees s keys values texts features)) s r (entered keys values texts features) (left keys values texts features) (enteredIndex ki vi) (leftIndex ki vi) ⌝ }
+    requires { ⌜ Known s stands built (lists keys values texts features) (idx (now ki) (now vi)) ⌝ }
+    ensures { λ r. ⌜ DoesIndexed (addFeature f (now (words .entry)) (now (tags .entry)) (now (bytes .entry))) s r keys values texts features ki vi ⌝ }
 {
     let q = s.feature;
     match first_refusal(q, stands, f.kind, words.len(), tags, bytes.len()) {
@@ -249,8 +248,8 @@ pub(crate) fn add_known(
     }
 }
 
-// A whole feature of this head, with these geometry words and tags. The tags are five words each: where the key starts and how long it is, the value's kind, and
-// then where its text starts and how long it is, or the low and the high half of its content; the texts stand in bytes.
+// A whole feature of this head, with these geometry words and tags. The tags are five words each: where the key starts and how long it is, the value's kind,
+// and then where its text starts and how long it is, or the low and the high half of its content; the texts stand in bytes.
 pub fn add_feature(
     s: Layer,
     f: Head,

@@ -10,10 +10,10 @@ use Rattle.table.specs.Texts.{inside}
 use Rattle.table.specs.Keys.{keysIn}
 use Rattle.table.specs.Values.{valueOk, valuesIn}
 
-never : {X : Type 0} → false ≡ true → X
+pub never : {X : Type 0} → false ≡ true → X
 never p = absurd (let z : _≡_ {A = ℕ} 0 1 = cc in omega arith)
 
-both : (a b : Bool) → cond a b false ≡ true → (a ≡ true) × (b ≡ true)
+pub both : (a b : Bool) → cond a b false ≡ true → (a ≡ true) × (b ≡ true)
 both true b e = (refl, e)
 both false b e = never e
 

@@ -5,3 +5,4 @@ pub mod Keys
 pub mod Values
 pub mod Bounds
 pub mod Growing
+pub mod Least

@@ -13,6 +13,11 @@ findKey j [] texts key = Nothing
 findKey j (w ∷ []) texts key = Nothing
 findKey j (start ∷ len ∷ keys) texts key = cond (sameText texts start len key) (At j) (findKey (suc j) keys texts key)
 
+-- the index of what was found, or of what goes last
+abbrev pub indexOf : Found → ℕ → ℕ
+indexOf (At j) next = j
+indexOf Nothing next = next
+
 -- every key's text lies within so many bytes
 abbrev pub keysIn : ℕ → List ℕ → Bool
 keysIn bytes [] = true

@@ -1,3 +1,4 @@
 pub mod Texts
+pub mod Least
 pub mod Keys
 pub mod Values

@@ -3,7 +3,7 @@ use Prim.Native.Nat.{ℕ, _+_, _<_}
 use mathlib.Core.Path.{_≡_}
 use mathlib.Core.Bool.{Bool, true, false, cond}
 use mathlib.Core.List.{List, [], _∷_}
-use lib.ListN.{length, drop}
+use lib.ListN.{length, take, drop}
 use lib.Dec.{leb, eqb}
 
 -- r is the word x
@@ -21,6 +21,10 @@ shortText len = leb len maxBytes
 -- a text of len bytes at start lies within so many bytes
 abbrev pub inside : ℕ → ℕ → ℕ → Bool
 inside bytes start len = leb (start + len) bytes
+
+-- the text of len bytes at start, or what there is of it
+abbrev pub textOf : List ℕ → ℕ → ℕ → List ℕ
+textOf texts start len = take len (drop start texts)
 
 -- the list has key at its front
 abbrev pub begins : List ℕ → List ℕ → Bool

@@ -3,7 +3,8 @@
 // a list alone, so what stands beyond it cannot matter. Looking an entry up reads the entries before it, and the texts of those of its length.
 ghost use mathlib.Core.Path.{_≡_};
 ghost use Rattle.table.specs.Texts.{Wide, shortText, sameText};
-ghost use Rattle.table.specs.Keys.{findKey, keysIn};
+ghost use Rattle.table.specs.Least.{smaller};
+ghost use Rattle.table.specs.Keys.{findKey, indexOf, keysIn};
 ghost use Rattle.table.specs.Values.{isZero, sameContent, sameValue, findValue, valueOk, valuesIn};
 use runs::has_room;
 
@@ -59,6 +60,26 @@ pub fn wide(x: u32) -> usize
     ensures { λ r. ⌜ Wide x r ⌝ }
 {
     x as usize
+}
+
+// The smaller of two numbers.
+pub fn smaller(a: usize, b: usize) -> usize
+    ensures { λ r. ⌜ r ≡ smaller a b ⌝ }
+{
+    if a <= b {
+        return a;
+    }
+    b
+}
+
+// The index of what was found, or of what goes last.
+pub fn index_of(f: Found, next: usize) -> usize
+    ensures { λ r. ⌜ r ≡ indexOf f next ⌝ }
+{
+    match f {
+        Found::At(j) => j,
+        Found::Nothing => next,
+    }
 }
 
 // Whether the text of len bytes at start is key.

@@ -136,37 +136,37 @@ loop-holds : tie.Need-loop-holds Inv-loop μ-loop
 loop-holds c = let s = start-before-slice-known2 (c .before .before .before .before) in let g = s .args in begin (g .heads .now) (g .words .now) (g .tags .now) (g .bytes .now) (g .stands) (g .s) (mem (g .keys .now) (g .values .now) (g .texts .now) (g .features .now)) (idx (g .ki .now) (g .vi .now)) (s .pre .0) (s .pre .1)
 
 head-at-requires : tie.Need-head-at-requires Inv-loop μ-loop
-head-at-requires c κs = head-there _ _ _ _ _ _ _ _ _ _ _ _ _ _ _ (c .before .loop .inv) (omega (arith, c .loop-test))
+head-at-requires c κs = head-there _ _ _ _ _ _ _ _ _ _ _ _ _ _ _ (c .before .loop .inv) (c .loop-test .taken)
 
 add-wide : tie.Need-add-wide Inv-loop μ-loop
-add-wide c = let k = head-there _ _ _ _ _ _ _ _ _ _ _ _ _ _ _ (c .before .before .loop .inv) (omega (arith, c .before .loop-test)) in search needs
+add-wide c = let k = head-there _ _ _ _ _ _ _ _ _ _ _ _ _ _ _ (c .before .before .loop .inv) (c .before .loop-test .taken) in search needs
 
 mul-wide : tie.Need-mul-wide Inv-loop μ-loop
-mul-wide c = let k = head-there _ _ _ _ _ _ _ _ _ _ _ _ _ _ _ (c .before .before .loop .inv) (omega (arith, c .before .loop-test)) in search needs
+mul-wide c = let k = head-there _ _ _ _ _ _ _ _ _ _ _ _ _ _ _ (c .before .before .loop .inv) (c .before .loop-test .taken) in search needs
 
 shared-slice-read-wide : tie.Need-shared-slice-read-wide Inv-loop μ-loop
-shared-slice-read-wide c = let k = head-there _ _ _ _ _ _ _ _ _ _ _ _ _ _ _ (c .before .before .before .loop .inv) (omega (arith, c .before .before .loop-test)) in search needs
+shared-slice-read-wide c = let k = head-there _ _ _ _ _ _ _ _ _ _ _ _ _ _ _ (c .before .before .before .loop .inv) (c .before .before .loop-test .taken) in search needs
 
 wide-requires : tie.Need-wide-requires Inv-loop μ-loop
 wide-requires c κs = search needs
 
 add-a : tie.Need-add-a Inv-loop μ-loop
-add-a c = record { fits = omega (arith, shared-slice-known2-before-shared-slice-known5 (c .before), words-there _ _ _ _ _ _ _ _ _ _ _ _ _ _ _ (c .before .before .before .before .loop .inv) (omega (arith, c .before .before .before .loop-test)) _ (c .wide .ensures .same)) }
+add-a c = record { fits = omega (arith, shared-slice-known2-before-shared-slice-known5 (c .before), words-there _ _ _ _ _ _ _ _ _ _ _ _ _ _ _ (c .before .before .before .before .loop .inv) (c .before .before .before .loop-test .taken) _ (c .wide .ensures .same)) }
 
 add-wide-2 : tie.Need-add-wide-2 Inv-loop μ-loop
-add-wide-2 c = let k = head-there _ _ _ _ _ _ _ _ _ _ _ _ _ _ _ (c .before .before .before .before .loop .inv) (omega (arith, c .before .before .before .loop-test)) in search needs
+add-wide-2 c = let k = head-there _ _ _ _ _ _ _ _ _ _ _ _ _ _ _ (c .before .before .before .before .loop .inv) (c .before .before .before .loop-test .taken) in search needs
 
 mul-wide-2 : tie.Need-mul-wide-2 Inv-loop μ-loop
-mul-wide-2 c = let k = head-there _ _ _ _ _ _ _ _ _ _ _ _ _ _ _ (c .before .before .before .before .loop .inv) (omega (arith, c .before .before .before .loop-test)) in search needs
+mul-wide-2 c = let k = head-there _ _ _ _ _ _ _ _ _ _ _ _ _ _ _ (c .before .before .before .before .loop .inv) (c .before .before .before .loop-test .taken) in search needs
 
 shared-slice-read-wide-2 : tie.Need-shared-slice-read-wide-2 Inv-loop μ-loop
-shared-slice-read-wide-2 c = let k = head-there _ _ _ _ _ _ _ _ _ _ _ _ _ _ _ (c .before .before .before .before .before .loop .inv) (omega (arith, c .before .before .before .before .loop-test)) in search needs
+shared-slice-read-wide-2 c = let k = head-there _ _ _ _ _ _ _ _ _ _ _ _ _ _ _ (c .before .before .before .before .before .loop .inv) (c .before .before .before .before .loop-test .taken) in search needs
 
 wide-requires-2 : tie.Need-wide-requires-2 Inv-loop μ-loop
 wide-requires-2 c κs = search needs
 
 add-b : tie.Need-add-b Inv-loop μ-loop
-add-b c = record { fits = omega (arith, shared-slice-known3-before-wide (c .before .before), tags-there _ _ _ _ _ _ _ _ _ _ _ _ _ _ _ (c .before .before .before .before .before .before .loop .inv) (omega (arith, c .before .before .before .before .before .loop-test)) _ (c .wide2 .ensures .same)) }
+add-b c = record { fits = omega (arith, shared-slice-known3-before-wide (c .before .before), tags-there _ _ _ _ _ _ _ _ _ _ _ _ _ _ _ (c .before .before .before .before .before .before .loop .inv) (c .before .before .before .before .before .loop-test .taken) _ (c .wide2 .ensures .same)) }
 
 mul-add-known : tie.Need-mul-add-known Inv-loop μ-loop
 mul-add-known c = search needs
@@ -178,7 +178,7 @@ part-add-known-start : tie.Need-part-add-known-start Inv-loop μ-loop
 part-add-known-start c = search needs
 
 part-add-known-end : tie.Need-part-add-known-end Inv-loop μ-loop
-part-add-known-end c = omega (arith, words-there _ _ _ _ _ _ _ _ _ _ _ _ _ _ _ (c .before .before .before .before .before .before .loop .inv) (omega (arith, c .before .before .before .before .before .loop-test)) _ (c .before .before .wide .ensures .same))
+part-add-known-end c = omega (arith, words-there _ _ _ _ _ _ _ _ _ _ _ _ _ _ _ (c .before .before .before .before .before .before .loop .inv) (c .before .before .before .before .before .loop-test .taken) _ (c .before .before .wide .ensures .same))
 
 mul-add-known-2 : tie.Need-mul-add-known-2 Inv-loop μ-loop
 mul-add-known-2 c = search needs
@@ -190,10 +190,10 @@ part-add-known-start-2 : tie.Need-part-add-known-start-2 Inv-loop μ-loop
 part-add-known-start-2 c = search needs
 
 part-add-known-end-2 : tie.Need-part-add-known-end-2 Inv-loop μ-loop
-part-add-known-end-2 c = omega (arith, tags-there _ _ _ _ _ _ _ _ _ _ _ _ _ _ _ (at-loop-before-wide2 (c .before) .loop .inv) (omega (arith, c .before .before .before .before .before .before .loop-test)) _ (c .before .wide2 .ensures .same))
+part-add-known-end-2 c = omega (arith, tags-there _ _ _ _ _ _ _ _ _ _ _ _ _ _ _ (at-loop-before-wide2 (c .before) .loop .inv) (c .before .before .before .before .before .before .loop-test .taken) _ (c .before .wide2 .ensures .same))
 
 add-known-requires : tie.Need-add-known-requires Inv-loop μ-loop
-add-known-requires c κs = known _ _ _ _ _ _ _ _ _ _ _ _ _ _ _ (at-loop-before-add-known-arg6 (c .before .before) .loop .inv) (omega (arith, in-loop-before-add-known-arg7 (c .before) .loop-test)) _ refl
+add-known-requires c κs = known _ _ _ _ _ _ _ _ _ _ _ _ _ _ _ (at-loop-before-add-known-arg6 (c .before .before) .loop .inv) (in-loop-before-add-known-arg7 (c .before) .loop-test .taken) _ refl
 
 enum-known-u : tie.Need-enum-known-u Inv-loop μ-loop
 enum-known-u c = search needs
@@ -222,10 +222,10 @@ same-length-6 c = let h = at-loop-before-ki (c .before .before .before .before .
 returns : tie.Need-returns Inv-loop μ-loop
 returns c =
     let a = as-refused _ _ _ _ _ _ _ (add-known-before-slice-known12 (c .before .before .before) .add-known .ensures) _ _ (c .before .r .given .1) in
-    stops _ _ _ _ _ _ _ _ _ _ _ _ _ _ _ (at-loop-before-ki (c .before .before .before .before .before .before) .loop .inv) (omega (arith, in-loop-before-slice-known11 (c .before .before .before .before .before) .loop-test)) _ _ _ (head-at-before-vi (c .before .before .before .before) .head-at .ensures) (wide-before-at-match-keys2 (c .before .before) .wide .ensures .same) (wide2-before-ki (c .before .before .before .before .before .before) .wide2 .ensures .same) _ _ _ _ a
+    stops _ _ _ _ _ _ _ _ _ _ _ _ _ _ _ (at-loop-before-ki (c .before .before .before .before .before .before) .loop .inv) (in-loop-before-slice-known11 (c .before .before .before .before .before) .loop-test .taken) _ _ _ (head-at-before-vi (c .before .before .before .before) .head-at .ensures) (wide-before-at-match-keys2 (c .before .before) .wide .ensures .same) (wide2-before-ki (c .before .before .before .before .before .before) .wide2 .ensures .same) _ _ _ _ a
 
 add-i : tie.Need-add-i Inv-loop μ-loop
-add-i c = record { fits = omega (arith, shared-slice-known-before-vi (c .before .before .before .before), head-there _ _ _ _ _ _ _ _ _ _ _ _ _ _ _ (at-loop-before-ki (c .before .before .before .before .before .before) .loop .inv) (omega (arith, in-loop-before-slice-known11 (c .before .before .before .before .before) .loop-test))) }
+add-i c = record { fits = omega (arith, shared-slice-known-before-vi (c .before .before .before .before), head-there _ _ _ _ _ _ _ _ _ _ _ _ _ _ _ (at-loop-before-ki (c .before .before .before .before .before .before) .loop .inv) (in-loop-before-slice-known11 (c .before .before .before .before .before) .loop-test .taken)) }
 
 add-n : tie.Need-add-n Inv-loop μ-loop
 add-n c = let F = at-loop-before-ki (c .before .before .before .before .before .before) .loop .inv in record { fits = omega (arith, shared-slice-known-before-vi (c .before .before .before .before), F .few, F .at) }
@@ -236,7 +236,7 @@ loop-less c = omega (arith, in-loop-before-slice-known11 (c .before .before .bef
 loop-again : tie.Need-loop-again Inv-loop μ-loop
 loop-again c =
     let a = as-done _ _ _ _ _ _ _ (add-known-before-slice-known12 (c .before .before .before) .add-known .ensures) _ (c .before .u .given .1) in
-    turn _ _ _ _ _ _ _ _ _ _ _ _ _ _ _ (at-loop-before-ki (c .before .before .before .before .before .before) .loop .inv) (omega (arith, in-loop-before-slice-known11 (c .before .before .before .before .before) .loop-test)) _ _ _ (head-at-before-vi (c .before .before .before .before) .head-at .ensures) (wide-before-at-match-keys1 (c .before .before) .wide .ensures .same) (wide2-before-ki (c .before .before .before .before .before .before) .wide2 .ensures .same) _ _ _ a
+    turn _ _ _ _ _ _ _ _ _ _ _ _ _ _ _ (at-loop-before-ki (c .before .before .before .before .before .before) .loop .inv) (in-loop-before-slice-known11 (c .before .before .before .before .before) .loop-test .taken) _ _ _ (head-at-before-vi (c .before .before .before .before) .head-at .ensures) (wide-before-at-match-keys1 (c .before .before) .wide .ensures .same) (wide2-before-ki (c .before .before .before .before .before .before) .wide2 .ensures .same) _ _ _ a
 
 same-length-7 : tie.Need-same-length-7 Inv-loop μ-loop
 same-length-7 c = c .before .before .loop .inv .long .keys
@@ -257,7 +257,7 @@ same-length-12 : tie.Need-same-length-12 Inv-loop μ-loop
 same-length-12 c = c .before .before .loop .inv .kept .values-long
 
 returns-2 : tie.Need-returns-2 Inv-loop μ-loop
-returns-2 c = ends-not _ _ _ _ _ _ _ _ _ _ _ _ _ _ _ (c .before .before .loop .inv) (omega (arith, c .before .loop-test)) (c .if1 .taken)
+returns-2 c = ends-not _ _ _ _ _ _ _ _ _ _ _ _ _ _ _ (c .before .before .loop .inv) (c .before .loop-test .left) (c .if1 .taken)
 
 same-length-13 : tie.Need-same-length-13 Inv-loop μ-loop
 same-length-13 c = c .before .before .loop .inv .long .keys
@@ -278,7 +278,7 @@ same-length-18 : tie.Need-same-length-18 Inv-loop μ-loop
 same-length-18 c = c .before .before .loop .inv .kept .values-long
 
 returns-3 : tie.Need-returns-3 Inv-loop μ-loop
-returns-3 c = ends _ _ _ _ _ _ _ _ _ _ _ _ _ _ _ (c .before .before .loop .inv) (omega (arith, c .before .loop-test)) (c .if1 .left)
+returns-3 c = ends _ _ _ _ _ _ _ _ _ _ _ _ _ _ _ (c .before .before .loop .inv) (c .before .loop-test .left) (c .if1 .left)
 
 pub add-each-spec : {M : Type 1} → statement M
 add-each-spec =

@@ -1,8 +1,8 @@
 -- Both returns are the definition's case.
 use Rattle.promise.proofs.Cases.{tests}
-use Rattle.layer.proofs.smaller.Statement.{statement}
-use Rattle.layer.proofs.smaller.Tie as tie
 use borrow.Author.Needs.{needs}
+use Rattle.table.proofs.smaller.Statement.{statement}
+use Rattle.table.proofs.smaller.Tie as tie
 
 returns : tie.Need-returns
 returns c = search (needs, tests)
