@@ -117,12 +117,11 @@ Lead keys values (t ∷ ts) =
 
 met-lead : (keys : List (List ℕ)) (values : List Content) (ts : List Tag) → Met keys values ts → Lead keys values ts
 met-lead keys values [] M = tt
-met-lead keys values (t ∷ ts) M =
-    (
-      bytes-are (getD keys (placeOf sameBytes (t .key) keys) []) (t .key) (place-leads sameBytes (t .key) [] keys (M .0)),
-      place-leads same (t .value) (text []) values (M .1),
-      met-lead keys values ts (M .2),
-    )
+met-lead keys values (t ∷ ts) M = (
+  bytes-are (getD keys (placeOf sameBytes (t .key) keys) []) (t .key) (place-leads sameBytes (t .key) [] keys (M .0)),
+  place-leads same (t .value) (text []) values (M .1),
+  met-lead keys values ts (M .2),
+)
 
 pub tags-lead : (fs : List Feature) → Lead (keysOf fs) (valuesOf fs) (allTags fs)
 tags-lead fs = met-lead (keysOf fs) (valuesOf fs) (allTags fs) (all-met [] [] (allTags fs))

@@ -141,16 +141,16 @@ begun-stands p e =
     record {
       extent-is = refl;
       parts = rw t
-      (record {
-        key-count = refl;
-        value-count = refl;
-        text-count = refl;
-        word-count = refl;
-        title = record { within = omega arith; there = take-length (p .name) };
-        keys-stand = no-keys;
-        values-stand = no-values;
-        records-are = refl;
-      });
+          (record {
+            key-count = refl;
+            value-count = refl;
+            text-count = refl;
+            word-count = refl;
+            title = record { within = omega arith; there = take-length (p .name) };
+            keys-stand = no-keys;
+            values-stand = no-values;
+            records-are = refl;
+          });
     }
 
 pub page-stands : (p : Plan) → Sound p → PageStands (pageOf p)

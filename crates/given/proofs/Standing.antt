@@ -97,8 +97,7 @@ module _ (v : Seen) (d : Drawing) (S : Stands v d) (o : Figures) (s : v .layer .
 
     id-parts : (n : ℕ) → OpenAs (v .layer .used) (v .layer .name) (withFeatures (v .held) (lay (o .features + 1) (1 ∷ n % 4294967296 ∷ n / 4294967296 ∷ []) (v .held .features))) (d .name) (d .features) (Since o) (some (identified n f))
     id-parts n =
-        let t : allTags (d .features ++ (identified n f ∷ [])) ≡ allTags (d .features ++ (f ∷ [])) = tags-last (d .features) (identified n f) ∙ sym (tags-last (d .features) f) in
-        (
+        let t : allTags (d .features ++ (identified n f ∷ [])) ≡ allTags (d .features ++ (f ∷ [])) = tags-last (d .features) (identified n f) ∙ sym (tags-last (d .features) f) in (
           rw t (id-held (v .layer .used) (v .layer .name) (v .held) (d .name) keys values (d .features) f A (o .features) starts n),
           rw (cut-marked o (v .layer .name) (v .held) (d .name) (d .features) B (1 ∷ n % 4294967296 ∷ n / 4294967296 ∷ []) four) B,
         )
@@ -115,8 +114,7 @@ module _ (v : Seen) (d : Drawing) (S : Stands v d) (o : Figures) (s : v .layer .
         values-found (v .held .texts) (v .held .values) values (A .values-stand) 0 key c g in
         let a : allTags (fs ++ (tagged t f ∷ [])) ≡ allTags (fs ++ (f ∷ [])) ++ (t ∷ []) =
         tags-last fs (tagged t f) ∙ sym (append-assoc (allTags fs) (f .tags) (t ∷ [])) ∙ ap (λ (l : List Tag). l ++ (t ∷ [])) (sym (tags-last fs f)) in
-        let H = tag-held u n (v .held) (d .name) keys values fs f A (o .features) starts (met-left keys values (allTags fs) (f .tags) met) (met-right keys values (allTags fs) (f .tags) met) key c g o refl in
-        (
+        let H = tag-held u n (v .held) (d .name) keys values fs f A (o .features) starts (met-left keys values (allTags fs) (f .tags) met) (met-right keys values (allTags fs) (f .tags) met) key c g o refl in (
           rw (k, w, a, keys-one-more (allTags (fs ++ (f ∷ []))) t, values-one-more (allTags (fs ++ (f ∷ []))) t) H,
           rw (cut-tagged o n (v .held) (d .name) fs B u (tagOf key c) (keyFound (tagOf key c) v) (valueFound (tagOf key c) v)) B,
         )
