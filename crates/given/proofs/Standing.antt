@@ -1,7 +1,7 @@
 -- A drawing stands in a layer's lists, and one law a call: after an accepted call the drawing after it stands there.
-use Prim.Native.Nat.{ℕ, _+_, _*_, _%_, _/_, _≤_}
+use Prim.Native.Nat.{ℕ, _+_, _%_, _/_, _≤_}
 use mathlib.Core.Path.{_≡_, refl, sym, ap, _∙_, subst}
-use mathlib.Core.Bool.{Bool, true, false, cond}
+use mathlib.Core.Bool.{true}
 use mathlib.Core.List.{List, [], _∷_, _++_, append-assoc, append-nil}
 use mathlib.Core.Option.{Option, none, some}
 use native.Mathlib.Omega.{arith}
@@ -9,22 +9,20 @@ use lib.ListN.{length, length-append}
 use lib.Dec.{leb}
 use Rattle.promise.specs.Laid.{lay}
 use Rattle.refusal.specs.declared.Refusal.the-variants.{Kind, State, Room, Text as TextRefusal, Turn}
-use Rattle.table.specs.declared.Found.{Found}
 use Rattle.table.specs.Texts.{shortText}
 use Rattle.table.specs.Keys.{findKey}
 use Rattle.words.specs.Geometries.{isKind, maxWords}
 use Rattle.layer.specs.declared.Figures.{Figures}
-use Rattle.layer.specs.declared.Layer.{Layer}
 use Rattle.layer.specs.declared.Open.{Open}
 use Rattle.layer.specs.declared.Open.the-variants.{Shut, Since}
 use Rattle.layer.specs.Held.{Memory, Seen, Change, holds, fits, heldBy, next}
 use Rattle.layer.specs.State.{valid}
-use Rattle.layer.specs.Calls.{Tag as Stored, isShut, moreWords, withUsed, withFeatures, recordWith, keyFound, valueFound, tagPut, tagPutBy}
+use Rattle.layer.specs.Calls.{Tag as Stored, isShut, moreWords, withUsed, withFeatures, recordWith, keyFound, valueFound, tagPut}
 use Rattle.layer.proofs.Standing.{parts as valid-parts}
 use Rattle.layer.proofs.Keeping.{Lengths, All, sound, by-check, by-open, is-shut, opening-in}
 use Rattle.layer.proofs.Growth.{fits-before}
 use Rattle.tile.specs.Holding.{sameBytes}
-use Rattle.given.specs.Given.{Content, Tag, Feature, Drawing, Call, opens, identifies, tags, closes, abandons, same, among, placeOf, allTags, keysOf, valuesOf, drawn, fresh, identified, tagged, onOpen, completed, after}
+use Rattle.given.specs.Given.{Content, Tag, Feature, Drawing, Call, opens, identifies, tags, closes, abandons, same, among, placeOf, allTags, keysOf, valuesOf, drawn, identified, tagged, after}
 use Rattle.given.specs.Messages.{each, tagIndices}
 use Rattle.given.specs.Asked.{tagOf, asks, Fine, FineCall}
 use Rattle.given.specs.Layout.{markOf, numberOf, recordOf, HeldAs, OpenAs, Stands}
