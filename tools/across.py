@@ -38,14 +38,14 @@ def without_functions(name, crates):
 def above(edited, name, uses):
     """The crates under NAME that are edited, or use such a one: those that go in as source."""
     found = set(edited)
-    while more := {c for c in under(name, uses) if c not in found and found & set(uses[c])}:
+    while more := {c for c in under(name, uses) if c not in found and found & set(uses.get(c, []))}:
         found |= more
     return [c for c in uses if c in found]
 
 
 def under(name, uses):
-    found = set()
-    new = [c for c in uses.get(name, [])]
+    """The crates that NAME uses, at first hand or through others."""
+    found, new = set(), list(uses.get(name, []))
     while new:
         crate = new.pop()
         if crate not in found:
