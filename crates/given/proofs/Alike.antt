@@ -1,5 +1,5 @@
 -- A stored value is found exactly where it is the same content.
-use Prim.Native.Nat.{ℕ, _+_, _*_, _%_, _/_, _<_}
+use Prim.Native.Nat.{ℕ, _%_, _/_, _<_}
 use mathlib.Core.Path.{_≡_, refl, sym, ap, _∙_}
 use mathlib.Core.Bool.{Bool, true, false, cond, _&&_}
 use mathlib.Core.List.{List, [], _∷_}
@@ -8,10 +8,10 @@ use native.Mathlib.Nat.{zero-mod}
 use lib.Dec.{eqb}
 use borrow.Author.Tests.{eq-eqb, ne-eqb, eqb-true, eqb-false}
 use Rattle.table.specs.Texts.{sameText}
-use Rattle.table.specs.Values.{isZero, sameContent, sameValue}
+use Rattle.table.specs.Values.{sameContent, sameValue}
 use Rattle.layer.specs.Calls.{bitOf, bitsOf}
 use Rattle.tile.specs.Holding.{sameBytes}
-use Rattle.given.specs.Given.{Content, text, float, double, int, uint, sint, bool, unsigned, mark, same}
+use Rattle.given.specs.Given.{Content, text, float, double, int, uint, sint, bool, unsigned, mark}
 use Rattle.given.specs.Asked.{tagOf, Fine}
 use Rattle.given.proofs.Numbers.{bits-are}
 

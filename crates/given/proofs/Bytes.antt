@@ -1,7 +1,5 @@
 -- The bytes of a layer, as crate `tile` reads them out of the lists, are MVT's message of the drawing that stands there.
-use mathlib.Core.Path.{_≡_, refl}
-use mathlib.Core.List.{[]}
-use Rattle.wire.specs.Fields.{delimited, varintField}
+use mathlib.Core.Path.{_≡_}
 use Rattle.layer.specs.declared.Open.the-variants.{Shut}
 use Rattle.layer.specs.Held.{Seen}
 use Rattle.tile.specs.Texts.{textField}

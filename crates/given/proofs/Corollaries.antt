@@ -5,7 +5,7 @@
 --     none-before            and no key, and no value, before is that one: the first of equal ones is meant
 --     same-mark same-int     the same contents: equal marks, and of ints and sints equal numbers
 --     zeros-share            0.0 and -0.0 share the first
-use Prim.Native.Nat.{ℕ, zero, suc, _+_, _<_}
+use Prim.Native.Nat.{ℕ, zero, suc, _<_}
 use mathlib.Core.Path.{_≡_, refl, sym, ap, _∙_}
 use mathlib.Core.Bool.{Bool, true, false, cond, _&&_}
 use mathlib.Core.List.{List, [], _∷_, _++_, append-assoc, append-nil}
@@ -20,7 +20,6 @@ use Rattle.layer.proofs.Fitting.{both, never}
 use Rattle.tile.specs.Holding.{sameBytes}
 use Rattle.given.specs.Given.{Content, text, float, double, Tag, Feature, Drawing, mark, bits64, same, among, placeOf, allTags, keysOf, valuesOf}
 use Rattle.given.specs.Given.{Call, opens, identifies, tags, closes, abandons, drawn, fresh, identified, tagged, after, added}
-use Rattle.given.specs.Messages.{tagIndices}
 use Rattle.given.specs.Asked.{Int64}
 use Rattle.given.proofs.FirstUse.{Met, all-met}
 use Rattle.given.proofs.Numbers.{signed-back}
@@ -117,12 +116,11 @@ Lead keys values (t ∷ ts) =
 
 met-lead : (keys : List (List ℕ)) (values : List Content) (ts : List Tag) → Met keys values ts → Lead keys values ts
 met-lead keys values [] M = tt
-met-lead keys values (t ∷ ts) M =
-    (
-      bytes-are (getD keys (placeOf sameBytes (t .key) keys) []) (t .key) (place-leads sameBytes (t .key) [] keys (M .0)),
-      place-leads same (t .value) (text []) values (M .1),
-      met-lead keys values ts (M .2),
-    )
+met-lead keys values (t ∷ ts) M = (
+  bytes-are (getD keys (placeOf sameBytes (t .key) keys) []) (t .key) (place-leads sameBytes (t .key) [] keys (M .0)),
+  place-leads same (t .value) (text []) values (M .1),
+  met-lead keys values ts (M .2),
+)
 
 pub tags-lead : (fs : List Feature) → Lead (keysOf fs) (valuesOf fs) (allTags fs)
 tags-lead fs = met-lead (keysOf fs) (valuesOf fs) (allTags fs) (all-met [] [] (allTags fs))

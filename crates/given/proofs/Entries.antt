@@ -1,21 +1,19 @@
 -- How keys and values stand in a layer's lists, entry by entry, and what follows of them: how many words they are, that they still stand where texts grow, where each
 -- is found, and which fields they make.
-use Prim.Native.Nat.{ℕ, suc, _+_, _*_, _%_, _/_, _≤_}
+use Prim.Native.Nat.{ℕ, suc, _+_, _*_, _≤_}
 use mathlib.Core.Path.{_≡_, refl, sym, ap, _∙_}
 use mathlib.Core.Bool.{Bool, true, false, cond}
-use mathlib.Core.List.{List, [], _∷_, _++_, append-assoc}
+use mathlib.Core.List.{List, [], _∷_, _++_}
 use native.Mathlib.Omega.{arith}
-use lib.ListN.{length, take, drop, length-append, length-drop}
+use lib.ListN.{length, drop, length-append, length-drop}
 use lib.Seq.{take-append-le, drop-append-le, take-append-seam, drop-append-seam}
 use borrow.Author.Tests.{le-leb}
 use Rattle.table.specs.declared.Found.{Found}
 use Rattle.table.specs.declared.Found.the-variants.{At, Nothing}
-use Rattle.table.specs.Texts.{inside, sameText}
+use Rattle.table.specs.Texts.{sameText}
 use Rattle.table.specs.Keys.{findKey, keysIn}
 use Rattle.records.specs.Records.{isFound}
 use Rattle.layer.proofs.Fitting.{never}
-use Rattle.wire.specs.declared.field.Field.the-variants.{LayerKey}
-use Rattle.wire.specs.Fields.{delimited}
 use Rattle.tile.specs.Texts.{textField}
 use Rattle.tile.specs.Entries.{keyFields}
 use Rattle.tile.specs.Holding.{sameBytes}

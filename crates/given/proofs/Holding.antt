@@ -1,12 +1,12 @@
 -- What a layer's lists hold of a drawing, and what each step makes of it, whatever the room: opening, an id, a tag, and cutting back.
-use Prim.Native.Nat.{ℕ, _+_, _*_, _%_, _/_, _≤_, min}
+use Prim.Native.Nat.{ℕ, _+_, _*_, _%_, _/_, _≤_}
 use mathlib.Core.Path.{_≡_, refl, sym, ap, _∙_, subst}
-use mathlib.Core.Bool.{Bool, true, false, cond}
-use mathlib.Core.List.{List, [], _∷_, _++_, append-assoc, append-nil, map}
-use mathlib.Core.Option.{Option, none, some}
+use mathlib.Core.Bool.{Bool, true, false}
+use mathlib.Core.List.{List, [], _∷_, _++_, append-assoc, append-nil}
+use mathlib.Core.Option.{Option}
 use native.Mathlib.Omega.{arith}
-use lib.ListN.{length, getD, take, length-append, length-take, length-set}
-use lib.Seq.{take-all, take-at, take-append-le, take-set-le, length-take-le}
+use lib.ListN.{length, getD, length-append, length-take, length-set}
+use lib.Seq.{take-all, take-at, take-append-le, take-set-le}
 use Rattle.promise.specs.Laid.{lay}
 use Rattle.table.specs.declared.Found.{Found}
 use Rattle.table.specs.declared.Value.{Value}
@@ -20,7 +20,7 @@ use Rattle.given.specs.Given.{Content, text, float, double, int, uint, s
 use Rattle.given.specs.Messages.{each, tagIndices}
 use Rattle.given.specs.Asked.{tagOf, Fine}
 use Rattle.given.specs.Layout.{KeysStand, no-keys, one-key, ValuesStand, no-values, one-value, markOf, numberOf, recordFrom, recordOf, Holds, HeldAs}
-use Rattle.given.proofs.FirstUse.{new, place-new, joins, bytes-same, content-same, Met, met-left, met-right, indices-more, indices-append}
+use Rattle.given.proofs.FirstUse.{new, place-new, joins, bytes-same, content-same, Met, indices-more, indices-append}
 use Rattle.given.proofs.Entries.{text-more, text-new, keys-count, keys-more, keys-append, foundAt}
 use Rattle.given.proofs.Values.{value-new, values-count, values-more, values-append}
 use Rattle.given.proofs.Records.{each-last, records-more, id-laid, tag-laid}

@@ -1,6 +1,6 @@
 -- Numbers go out as they were given: the halves of 64 bits are those bits, and two's complement at 64 bits is undone by reading it so.
-use Prim.Native.Nat.{ℕ, suc, _+_, _*_, _-_, _%_, _/_, _<_}
-use mathlib.Core.Path.{_≡_, refl, sym, ap, _∙_}
+use Prim.Native.Nat.{ℕ, suc, _-_, _%_, _/_, _<_}
+use mathlib.Core.Path.{_≡_, refl, ap, _∙_}
 use native.Mathlib.Omega.{arith}
 use lib.IntN.{ℤ, pos, negsuc}
 use borrow.Author.Tests.{lt-ltb}

@@ -1,22 +1,20 @@
 -- Features as a layer's records, and what becomes of them: the open one with its id set, and with a tag more; and the fields that they make.
-use Prim.Native.Nat.{ℕ, zero, suc, _+_, _*_, _%_, _/_, _≤_}
+use Prim.Native.Nat.{ℕ, zero, suc, _+_, _%_, _/_, _≤_}
 use mathlib.Core.Path.{_≡_, refl, sym, ap, _∙_}
 use mathlib.Core.List.{List, [], _∷_, _++_, append-assoc, append-nil}
 use mathlib.Core.Option.{Option, none, some}
 use native.Mathlib.Omega.{arith}
-use lib.ListN.{length, getD, set, take, drop, length-append, take-append-drop}
+use lib.ListN.{length, getD, set, drop, length-append, take-append-drop}
 use lib.Seq.{take-at, drop-at, take-append-seam, drop-append-seam, take-set-le, drop-set-add, getD-append-add}
 use Rattle.promise.specs.Laid.{lay}
-use Rattle.wire.specs.declared.field.Field.the-variants.{LayerFeature}
-use Rattle.wire.specs.Fields.{delimited}
 use Rattle.layer.specs.Calls.{withTag}
 use Rattle.layer.proofs.Keeping.{take-lay-before, drop-lay-add}
 use Rattle.tile.specs.Features.{recordMessage, featureMessage as storedMessage}
 use Rattle.tile.specs.Entries.{featureFields}
-use Rattle.given.specs.Given.{Content, Tag, Feature, allTags, identified, tagged}
+use Rattle.given.specs.Given.{Content, Tag, Feature, allTags}
 use Rattle.given.specs.Messages.{each, tagIndices, featureMessage, featureField}
 use Rattle.given.specs.Layout.{markOf, numberOf, recordFrom, recordOf}
-use Rattle.given.proofs.FirstUse.{Met, met-left, met-right, indices-more, indices-append}
+use Rattle.given.proofs.FirstUse.{Met, met-left, met-right, indices-more}
 use Rattle.given.proofs.Numbers.{halves}
 
 pub each-append : {A : Type 0} (field : A → List ℕ) (xs ys : List A) → each field (xs ++ ys) ≡ each field xs ++ each field ys

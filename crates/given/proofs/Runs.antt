@@ -1,10 +1,10 @@
 -- One theorem for a whole run: the used bytes of a fresh tile after any layers made by any calls are MVT's message of what was given.
 use Prim.Native.Nat.{ℕ, zero, suc, _+_, _≤_}
-use mathlib.Core.Path.{_≡_, refl, sym, ap, _∙_}
+use mathlib.Core.Path.{_≡_, refl, ap, _∙_, subst}
 use mathlib.Core.Bool.{Bool, true, false, cond}
 use mathlib.Core.List.{List, [], _∷_, map}
 use native.Mathlib.Omega.{arith}
-use lib.ListN.{length, take, drop}
+use lib.ListN.{length, take, drop, replicate}
 use lib.Seq.{take-at, take-length}
 use lib.Dec.{leb, eqb}
 use borrow.Author.Tests.{ne-eqb, leb-true}
@@ -17,7 +17,7 @@ use Rattle.refusal.proofs.Laws.{numbered}
 use Rattle.table.specs.Texts.{shortText}
 use Rattle.layer.specs.declared.Layer.{Layer}
 use Rattle.layer.specs.declared.Open.the-variants.{Shut}
-use Rattle.layer.specs.Held.{Memory, Seen, seen, Change, refuses, holds, smaller, maxTexts, written, onto}
+use Rattle.layer.specs.Held.{Memory, mem, Seen, seen, Change, refuses, holds, next, smaller, maxTexts, written, onto}
 use Rattle.layer.specs.State.{valid}
 use Rattle.layer.specs.Calls.{isShut, created}
 use Rattle.layer.specs.Whole.{addFeature}
@@ -27,11 +27,11 @@ use Rattle.layer.proofs.Keeping.{is-shut}
 use Rattle.layer.proofs.After.{seen-after}
 use Rattle.tile.specs.Tiles.{TileMemory, lists, usedBytes, validTile, freshTile}
 use Rattle.tile.specs.declared.Tile.{Tile}
-use Rattle.tile.specs.Adding.{addLayer}
+use Rattle.tile.specs.Adding.{addLayer, one-layer}
 use Rattle.tile.specs.Holding.{tileBytes, At, call, after, afterAll, taken}
 use Rattle.tile.proofs.Holding.{run-holds}
 use Rattle.given.specs.Given.{Feature, Drawing, added}
-use Rattle.given.specs.Messages.{tileMessage}
+use Rattle.given.specs.Messages.{tileMessage, p-tile}
 use Rattle.given.specs.Asked.{Made, calls, whole, asked, gives, featureGiven, featuresGiven, addedAll, FineMade, Words}
 use Rattle.given.specs.Layout.{no-keys, no-values, Stands}
 use Rattle.given.specs.Runs.{Page, turned, Step, one, many, stepped, steppedAll, Plan, begun, pageOf, FineStep, AllFine, Sound, AllSound, layerOf, drawings}
@@ -43,6 +43,9 @@ use Rattle.given.proofs.Bytes.{layer-bytes}
 pub made-stands : (c : Made) → FineMade c → (v : Seen) (d : Drawing) → Stands v d → Kept (gives c d) v (asked c v)
 made-stands (calls c) g v d S = call-stands v d S c g
 made-stands (whole f words ws bytes) g v d S = whole-stands f words ws bytes g v d S
+
+pub accepted-stands : (c : Made) → FineMade c → (v : Seen) (d : Drawing) → Stands v d → (t : Layer) (h : Memory) → asked c v ≡ holds t h → Stands (next (holds t h) v) (gives c d)
+accepted-stands c g v d S t h e = let K : Kept (gives c d) v (holds t h) = subst (Kept (gives c d) v) e (made-stands c g v d S) in K .stands
 
 -- ---- in memory
 abbrev pub PageStands : Page → Type 0
@@ -134,6 +137,15 @@ room-for name extent ts e = by (shortText (length name)) (leb (length name) (sma
     by true false p q = absurd (let z : _≡_ {A = ℕ} 7 0 = rw (p, q) at e in omega arith)
     by false b p q = absurd (let z : _≡_ {A = ℕ} 11 0 = rw p at e in omega arith)
 
+-- what is begun with is what creating answered and left
+pub begun-is : (p : Plan) → created (p .name) (p .extent) (p .lent .texts) .answer .number ≡ 0 → created (p .name) (p .extent) (p .lent .texts) ≡ record { answer = accepted (begun p .layer ∷ []); memory = begun p .memory .texts }
+begun-is p e = by (shortText (length (p .name))) (leb (length (p .name)) (smaller (length (p .lent .texts)) maxTexts)) refl refl
+  where
+    by : (a b : Bool) → shortText (length (p .name)) ≡ a → leb (length (p .name)) (smaller (length (p .lent .texts)) maxTexts) ≡ b → created (p .name) (p .extent) (p .lent .texts) ≡ record { answer = accepted (begun p .layer ∷ []); memory = begun p .memory .texts }
+    by true true x y = rw (x, y)
+    by true false x y = absurd (let z : _≡_ {A = ℕ} 7 0 = rw (x, y) at e in omega arith)
+    by false b x y = absurd (let z : _≡_ {A = ℕ} 11 0 = rw x at e in omega arith)
+
 pub begun-stands : (p : Plan) → created (p .name) (p .extent) (p .lent .texts) .answer .number ≡ 0 → PageStands (begun p)
 begun-stands p e =
     let h = room-for (p .name) (p .extent) (p .lent .texts) e in
@@ -141,16 +153,16 @@ begun-stands p e =
     record {
       extent-is = refl;
       parts = rw t
-      (record {
-        key-count = refl;
-        value-count = refl;
-        text-count = refl;
-        word-count = refl;
-        title = record { within = omega arith; there = take-length (p .name) };
-        keys-stand = no-keys;
-        values-stand = no-values;
-        records-are = refl;
-      });
+          (record {
+            key-count = refl;
+            value-count = refl;
+            text-count = refl;
+            word-count = refl;
+            title = record { within = omega arith; there = take-length (p .name) };
+            keys-stand = no-keys;
+            values-stand = no-values;
+            records-are = refl;
+          });
     }
 
 pub page-stands : (p : Plan) → Sound p → PageStands (pageOf p)
@@ -188,3 +200,12 @@ pub what-was-given : (extent : ℕ) (ns bs : List ℕ) (ps : List Plan) → AllS
 what-was-given extent ns bs ps s =
     let a : At = record { tile = freshTile extent; memory = lists ns bs } in
     run-holds extent ns bs (map layerOf (map pageOf ps)) .bytes ∙ taken-message (map pageOf ps) (sound-pages ps s) a
+
+-- ---- document 01's tile: extent 4096, layer "a" without features
+abbrev pub plainPlan : Plan
+plainPlan = record { name = 97 ∷ []; extent = 4096; lent = mem [] [] (0 ∷ []) []; calls = [] }
+
+pub p-run : let a : At = record { tile = freshTile 4096; memory = lists (0 ∷ 0 ∷ []) (replicate 11 0) } in let b = afterAll (map layerOf (map pageOf (plainPlan ∷ []))) a in usedBytes (b .tile) (b .memory) ≡ 26 ∷ 8 ∷ 10 ∷ 1 ∷ 97 ∷ 40 ∷ 128 ∷ 32 ∷ 120 ∷ 2 ∷ []
+p-run =
+    what-was-given 4096 (0 ∷ 0 ∷ []) (replicate 11 0) (plainPlan ∷ []) (record { creates = refl; fine = tt }, tt)
+    ∙ ap (λ (w : Written (Said Tile) TileMemory). tileMessage (cond (eqb (w .answer .number) 0) (pageOf plainPlan .drawing ∷ []) [])) one-layer ∙ p-tile

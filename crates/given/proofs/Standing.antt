@@ -1,7 +1,7 @@
 -- A drawing stands in a layer's lists, and one law a call: after an accepted call the drawing after it stands there.
-use Prim.Native.Nat.{ℕ, _+_, _*_, _%_, _/_, _≤_}
+use Prim.Native.Nat.{ℕ, _+_, _%_, _/_, _≤_}
 use mathlib.Core.Path.{_≡_, refl, sym, ap, _∙_, subst}
-use mathlib.Core.Bool.{Bool, true, false, cond}
+use mathlib.Core.Bool.{true}
 use mathlib.Core.List.{List, [], _∷_, _++_, append-assoc, append-nil}
 use mathlib.Core.Option.{Option, none, some}
 use native.Mathlib.Omega.{arith}
@@ -9,22 +9,20 @@ use lib.ListN.{length, length-append}
 use lib.Dec.{leb}
 use Rattle.promise.specs.Laid.{lay}
 use Rattle.refusal.specs.declared.Refusal.the-variants.{Kind, State, Room, Text as TextRefusal, Turn}
-use Rattle.table.specs.declared.Found.{Found}
 use Rattle.table.specs.Texts.{shortText}
 use Rattle.table.specs.Keys.{findKey}
 use Rattle.words.specs.Geometries.{isKind, maxWords}
 use Rattle.layer.specs.declared.Figures.{Figures}
-use Rattle.layer.specs.declared.Layer.{Layer}
 use Rattle.layer.specs.declared.Open.{Open}
 use Rattle.layer.specs.declared.Open.the-variants.{Shut, Since}
 use Rattle.layer.specs.Held.{Memory, Seen, Change, holds, fits, heldBy, next}
 use Rattle.layer.specs.State.{valid}
-use Rattle.layer.specs.Calls.{Tag as Stored, isShut, moreWords, withUsed, withFeatures, recordWith, keyFound, valueFound, tagPut, tagPutBy}
+use Rattle.layer.specs.Calls.{Tag as Stored, isShut, moreWords, withUsed, withFeatures, recordWith, keyFound, valueFound, tagPut}
 use Rattle.layer.proofs.Standing.{parts as valid-parts}
 use Rattle.layer.proofs.Keeping.{Lengths, All, sound, by-check, by-open, is-shut, opening-in}
 use Rattle.layer.proofs.Growth.{fits-before}
 use Rattle.tile.specs.Holding.{sameBytes}
-use Rattle.given.specs.Given.{Content, Tag, Feature, Drawing, Call, opens, identifies, tags, closes, abandons, same, among, placeOf, allTags, keysOf, valuesOf, drawn, fresh, identified, tagged, onOpen, completed, after}
+use Rattle.given.specs.Given.{Content, Tag, Feature, Drawing, Call, opens, identifies, tags, closes, abandons, same, among, placeOf, allTags, keysOf, valuesOf, drawn, identified, tagged, after}
 use Rattle.given.specs.Messages.{each, tagIndices}
 use Rattle.given.specs.Asked.{tagOf, asks, Fine, FineCall}
 use Rattle.given.specs.Layout.{markOf, numberOf, recordOf, HeldAs, OpenAs, Stands}
@@ -97,8 +95,7 @@ module _ (v : Seen) (d : Drawing) (S : Stands v d) (o : Figures) (s : v .layer .
 
     id-parts : (n : ℕ) → OpenAs (v .layer .used) (v .layer .name) (withFeatures (v .held) (lay (o .features + 1) (1 ∷ n % 4294967296 ∷ n / 4294967296 ∷ []) (v .held .features))) (d .name) (d .features) (Since o) (some (identified n f))
     id-parts n =
-        let t : allTags (d .features ++ (identified n f ∷ [])) ≡ allTags (d .features ++ (f ∷ [])) = tags-last (d .features) (identified n f) ∙ sym (tags-last (d .features) f) in
-        (
+        let t : allTags (d .features ++ (identified n f ∷ [])) ≡ allTags (d .features ++ (f ∷ [])) = tags-last (d .features) (identified n f) ∙ sym (tags-last (d .features) f) in (
           rw t (id-held (v .layer .used) (v .layer .name) (v .held) (d .name) keys values (d .features) f A (o .features) starts n),
           rw (cut-marked o (v .layer .name) (v .held) (d .name) (d .features) B (1 ∷ n % 4294967296 ∷ n / 4294967296 ∷ []) four) B,
         )
@@ -115,8 +112,7 @@ module _ (v : Seen) (d : Drawing) (S : Stands v d) (o : Figures) (s : v .layer .
         values-found (v .held .texts) (v .held .values) values (A .values-stand) 0 key c g in
         let a : allTags (fs ++ (tagged t f ∷ [])) ≡ allTags (fs ++ (f ∷ [])) ++ (t ∷ []) =
         tags-last fs (tagged t f) ∙ sym (append-assoc (allTags fs) (f .tags) (t ∷ [])) ∙ ap (λ (l : List Tag). l ++ (t ∷ [])) (sym (tags-last fs f)) in
-        let H = tag-held u n (v .held) (d .name) keys values fs f A (o .features) starts (met-left keys values (allTags fs) (f .tags) met) (met-right keys values (allTags fs) (f .tags) met) key c g o refl in
-        (
+        let H = tag-held u n (v .held) (d .name) keys values fs f A (o .features) starts (met-left keys values (allTags fs) (f .tags) met) (met-right keys values (allTags fs) (f .tags) met) key c g o refl in (
           rw (k, w, a, keys-one-more (allTags (fs ++ (f ∷ []))) t, values-one-more (allTags (fs ++ (f ∷ []))) t) H,
           rw (cut-tagged o n (v .held) (d .name) fs B u (tagOf key c) (keyFound (tagOf key c) v) (valueFound (tagOf key c) v)) B,
         )

@@ -1,26 +1,20 @@
 -- How values stand in a layer's list, three words each, and what follows of them: as for keys (proofs/Entries).
-use Prim.Native.Nat.{ℕ, suc, _*_, _%_, _/_}
-use mathlib.Core.Path.{_≡_, refl, sym, ap, _∙_}
-use mathlib.Core.Bool.{Bool, true, false, cond}
-use mathlib.Core.List.{List, [], _∷_, _++_, append-nil}
+use Prim.Native.Nat.{ℕ, suc, _*_, _%_}
+use mathlib.Core.Path.{_≡_, refl, ap}
+use mathlib.Core.Bool.{true, false}
+use mathlib.Core.List.{List, [], _++_, append-nil}
 use native.Mathlib.Omega.{arith}
 use lib.ListN.{length}
-use lib.Dec.{eqb}
 use Rattle.table.specs.declared.Value.{Value}
 use Rattle.table.specs.Values.{sameValue, findValue}
-use Rattle.words.specs.Params.{param}
-use Rattle.wire.specs.declared.field.ValueKind.the-variants.{Text, Float}
-use Rattle.wire.specs.declared.field.Field.the-variants.{LayerValue, Value as ValueField}
-use Rattle.wire.specs.Fields.{delimited, fixed32Field}
 use Rattle.layer.specs.Calls.{bitOf, storedAs}
 use Rattle.tile.specs.Texts.{textField}
 use Rattle.tile.specs.Values.{valueMessage as storedMessage}
 use Rattle.tile.specs.Entries.{valueFields}
-use Rattle.tile.specs.Holding.{sameBytes}
 use Rattle.given.specs.Given.{Content, text, float, double, int, uint, sint, bool, bits64, same, among, placeOf}
 use Rattle.given.specs.Messages.{each, valueMessage, valueField}
 use Rattle.given.specs.Asked.{tagOf, Fine}
-use Rattle.given.specs.Layout.{TextStands, BitsStand, ValueStands, ValuesStand, no-values, one-value}
+use Rattle.given.specs.Layout.{TextStands, ValueStands, ValuesStand, no-values, one-value}
 use Rattle.given.proofs.Numbers.{halves, bits-are, zigzag-is}
 use Rattle.given.proofs.Alike.{number-found}
 use Rattle.given.proofs.Entries.{text-more, text-new, text-found, foundAt, found-next}

@@ -1,14 +1,13 @@
 -- A whole feature: the tags of a lent list are those that its words give, and after an accepted call the drawing has the feature more.
-use Prim.Native.Nat.{ℕ, _+_, _*_, _-_, _%_, _/_, _≤_, _<_}
-use mathlib.Core.Path.{_≡_, refl, sym, ap, _∙_, subst}
-use mathlib.Core.Bool.{Bool, true, false, cond, _&&_}
+use Prim.Native.Nat.{ℕ, _%_, _/_, _≤_, _<_}
+use mathlib.Core.Path.{_≡_, refl, sym, subst}
+use mathlib.Core.Bool.{Bool, true, false, cond}
 use mathlib.Core.List.{List, [], _∷_, _++_, append-assoc, append-nil}
 use mathlib.Core.Option.{Option, none, some}
 use native.Mathlib.Omega.{arith}
 use lib.ListN.{length}
-use lib.IntN.{ℤ, pos, negsuc}
 use lib.Dec.{leb, eqb, ltb}
-use borrow.Author.Tests.{eqb-true, eqb-false, eq-eqb, leb-true, ltb-true, ltb-false, lt-ltb}
+use borrow.Author.Tests.{eqb-true, eqb-false, leb-true, ltb-true, ltb-false}
 use Rattle.refusal.specs.declared.Refusal.the-variants.{Job, Kind, State, Room, Text as TextRefusal, Turn}
 use Rattle.table.specs.Texts.{inside}
 use Rattle.table.specs.Values.{valueOk}
@@ -18,7 +17,7 @@ use Rattle.whole.proofs.Twos.{twos-high}
 use Rattle.layer.specs.declared.Figures.{Figures}
 use Rattle.layer.specs.declared.Open.the-variants.{Shut, Since}
 use Rattle.layer.specs.declared.whole_feature.Head.{Head}
-use Rattle.layer.specs.Held.{Seen, Change, fits}
+use Rattle.layer.specs.Held.{Seen, fits}
 use Rattle.layer.specs.State.{valid}
 use Rattle.layer.specs.Calls.{Tag as Stored, isShut, bitsOf, bitOf, tagPut}
 use Rattle.layer.specs.TagLists.{tagOk, tagsOk, tagsShort, textAt, tagOf as tagStored, tagsOf}
@@ -28,7 +27,7 @@ use Rattle.layer.proofs.Listing.{yes}
 use Rattle.layer.proofs.Growth.{same-feature}
 use Rattle.layer.proofs.Keeping.{by-check, is-shut}
 use Rattle.layer.proofs.Features.{feature-room}
-use Rattle.given.specs.Given.{Content, Tag, Feature, Drawing, drawn, onOpen, tagged, completed, after, tags, closes, added}
+use Rattle.given.specs.Given.{Content, Tag, Feature, Drawing, drawn, onOpen, tagged, after, tags, added}
 use Rattle.given.specs.Asked.{tagOf, contentAt, tagsGiven, idGiven, featureGiven, Int64, Fine, Words}
 use Rattle.given.specs.Layout.{markOf, numberOf, Stands}
 use Rattle.given.proofs.Numbers.{low-half, high-half}

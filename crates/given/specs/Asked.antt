@@ -1,4 +1,5 @@
--- Which definition of crate `layer` each call asks for, and what it gives: a single call gives itself, a call with a whole feature gives the feature that the lent lists say.
+-- Which definition of crate `layer` each call asks for, as its contract names it, and what it gives: a single call gives itself, one with a whole feature gives
+-- the feature that the lent lists say.
 use Prim.Native.Nat.{ℕ, _%_, _/_, _<_}
 use mathlib.Core.Bool.{Bool, true, false, cond}
 use mathlib.Core.List.{List, [], _∷_}
@@ -13,7 +14,8 @@ use Rattle.layer.specs.Calls.{Tag as Stored, intoFeature, setId, addTag, intoLa
 use Rattle.layer.specs.TagLists.{textAt}
 use Rattle.layer.specs.Whole.{addFeature}
 use Rattle.layer.specs.Many.{headOf}
-use Rattle.given.specs.Given.{Content, text, float, double, int, uint, sint, bool, Tag, Feature, Drawing, Call, opens, identifies, tags, closes, abandons, after, added}
+use Rattle.given.specs.Given.{Content, text, float, double, int, uint, sint, bool, Tag, Feature, Drawing}
+use Rattle.given.specs.Given.{Call, opens, identifies, tags, closes, abandons, after, added}
 
 -- the seven tag calls
 abbrev pub tagOf : List ℕ → Content → Stored
@@ -25,8 +27,8 @@ tagOf key (uint n) = tagBits 5 key n
 tagOf key (sint n) = tagBits 6 key (bitsOf n)
 tagOf key (bool b) = tagBits 7 key (bitOf b)
 
--- the tags of a lent list, five words a tag: where its key starts and how long it is, the kind of its value, and then where its text starts and how long it is, or the halves of
--- its content
+-- the tags of a lent list, five words a tag: where its key starts and how long it is, the kind of its value, and then where its text starts and how long it
+-- is, or the halves of its content
 abbrev pub contentAt : List ℕ → ℕ → ℕ → ℕ → Content
 contentAt bytes kind low high =
     cond (eqb kind 1) (text (textAt bytes low high))

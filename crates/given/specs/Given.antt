@@ -1,5 +1,5 @@
--- What is given to a layer, in the words of MVT and of document 01, and what each accepted call does to it. No list of words, no figure and no half of a number:
--- that the lists of crate `layer` hold just this is proved, and so is that the bytes are its message (specs/Messages).
+-- What is given to a layer, in the words of MVT and of document 01, and what each accepted call does to it. No list of words, no figure and no half of a
+-- number: that the lists of crate `layer` hold just this is proved (specs/Layout), and so is that the bytes are its message (specs/Messages).
 use Prim.Native.Nat.{ℕ, suc, _%_, _-_}
 use mathlib.Core.Bool.{Bool, true, false, cond}
 use mathlib.Core.List.{List, [], _∷_, _++_, map}
@@ -36,7 +36,8 @@ pub record Drawing : Type 0 where
   pub features : List Feature
   pub pending : Option Feature
 
--- ---- which contents are the same: of one kind and equal, and of floats and doubles also 0.0 and -0.0, whose bits are 0 but for the sign. A NaN is what its bits are
+-- ---- which contents are the same: of one kind and equal, and of floats and doubles also 0.0 and -0.0, whose bits are 0 but for the sign. A NaN is what its
+-- bits are
 abbrev pub unsigned : ℕ → ℕ → ℕ
 unsigned sign bits = cond (eqb (bits % sign) 0) 0 bits
 

@@ -1,6 +1,7 @@
--- How a layer's four lists hold what was given, in document 01's words ("Tags and rollback"): a key's two words are the start and the length of its text; a value's three its kind, then the start
--- and the length of its text or the low and the high half of its content; a feature's six its kind, its id mark, the halves of its id, how many tag words and how many geometry words it
--- has, and then its geometry and its tag words. What the calls leave in the lists is held to this, and so is what the bytes are read from. (The theorem about bytes does not rest on it.)
+-- How a layer's four lists hold what was given, in document 01's words ("Tags and rollback"): a key's two words are the start and the length of its text; a
+-- value's three its kind, then the start and the length of its text or the low and the high half of its content; a feature's six its kind, its id mark, the
+-- halves of its id, how many tag words and how many geometry words it has, and then its geometry and its tag words. What the calls leave in the lists is held
+-- to this, and so is what the bytes are read from. The theorem about bytes does not rest on it.
 use Prim.Native.Nat.{ℕ, _+_, _%_, _/_, _≤_}
 use mathlib.Core.Path.{_≡_}
 use mathlib.Core.Bool.{cond}
@@ -22,7 +23,8 @@ pub record TextStands (texts : List ℕ) (start len : ℕ) (t : List ℕ) : Type
 
 pub data KeysStand (texts : List ℕ) : List ℕ → List (List ℕ) → Type 0 where
   no-keys : KeysStand texts [] []
-  one-key : (start len : ℕ) (key ws : List ℕ) (keys : List (List ℕ)) → TextStands texts start len key → KeysStand texts ws keys → KeysStand texts (start ∷ len ∷ ws) (key ∷ keys)
+  one-key : (start len : ℕ) (key ws : List ℕ) (keys : List (List ℕ)) → TextStands texts start len key → KeysStand texts ws keys
+      → KeysStand texts (start ∷ len ∷ ws) (key ∷ keys)
 
 -- of what is no text: its kind k, and the halves of its bits
 pub record BitsStand (kind low high k bits : ℕ) : Type 0 where
@@ -41,7 +43,8 @@ ValueStands texts kind low high (bool b) = BitsStand kind low high 7 (cond b 1 0
 
 pub data ValuesStand (texts : List ℕ) : List ℕ → List Content → Type 0 where
   no-values : ValuesStand texts [] []
-  one-value : (kind low high : ℕ) (c : Content) (ws : List ℕ) (cs : List Content) → ValueStands texts kind low high c → Fine c → ValuesStand texts ws cs → ValuesStand texts (kind ∷ low ∷ high ∷ ws) (c ∷ cs)
+  one-value : (kind low high : ℕ) (c : Content) (ws : List ℕ) (cs : List Content) → ValueStands texts kind low high c → Fine c → ValuesStand texts ws cs
+      → ValuesStand texts (kind ∷ low ∷ high ∷ ws) (c ∷ cs)
 
 -- ---- features
 abbrev pub markOf : Option ℕ → ℕ

@@ -1,8 +1,9 @@
--- A whole run: layers that are made, each of any calls in any lists lent to it, and a fresh tile to which they are added; beside them what was given, by the calls that were accepted.
+-- A whole run: layers that are made, each of any calls in any lists lent to it, and a fresh tile to which they are added; beside them what was given, by the
+-- calls that were accepted.
 use Prim.Native.Nat.{ℕ}
 use mathlib.Core.Path.{_≡_}
 use mathlib.Core.Bool.{cond}
-use mathlib.Core.List.{List, [], _∷_, map}
+use mathlib.Core.List.{List, [], _∷_}
 use lib.Dec.{eqb}
 use lib.ListN.{take}
 use Rattle.promise.specs.Answers.{Written}
