@@ -1,4 +1,4 @@
-// The program: takes one job file from standard input and prints its words, or its refusal.
+// The program: takes one job file from standard input and prints its words, or its refusal (RULES 11).
 ghost use Prim.Native.Nat.{_*_, _+_, _≤_};
 ghost use lib.ListN.{length};
 ghost use Rattle.job.specs.Program.{Told, printed};

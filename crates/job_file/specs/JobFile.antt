@@ -1,4 +1,5 @@
--- Document 01, "Job file": "the contents table comes first: kind, x_min, x_max, y_min, y_max, part count, each part's end (in points, from the start). Then the bodies".
+-- RULES 11. Document 01, "Job file": "the contents table comes first: kind, x_min, x_max, y_min, y_max, part count, each part's end (in points,
+-- from the start). Then the bodies".
 use Prim.Native.Nat.{ℕ, _+_, _-_, _/_}
 use mathlib.Core.Bool.{cond}
 use mathlib.Core.List.{List, map}

@@ -1,4 +1,4 @@
-// A job file's numbers to words (document 01, "Job file"): the contents table is taken apart, and the job encoded.
+// A job file's numbers to words (RULES 11): the contents table is taken apart, and the job encoded.
 ghost use mathlib.Core.Path.{_≡_};
 ghost use mathlib.Core.List.{map};
 ghost use Prim.Native.Nat.{_≤_};

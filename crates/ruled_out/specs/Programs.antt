@@ -1,4 +1,4 @@
--- Crates `stretch`, `lines`, `script`, `hand` and `tile_script`, on which the programs stand: wrong stretches, texts and operations.
+-- Crates `encoder` (its stretches), `lines`, `script` and `tile_run`, on which the programs stand: wrong stretches, texts and operations.
 use Prim.Native.Nat.{ℕ, suc, _+_, _/_, _%_}
 use mathlib.Core.Path.{_≡_, ap}
 use mathlib.Core.Bool.{true, cond, _&&_}

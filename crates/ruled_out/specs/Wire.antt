@@ -299,7 +299,8 @@ value-not-nested h = let e : _≡_ {A = ℕ} 34 40 = ap (item 0) (h [] [] 5 1 0)
 
 -- a feature whose length is that of its words
 pub length-of-the-words : ((kind mark low high tags geometry : ℕ) (ws : List ℕ) → featureFields zero (kind ∷ mark ∷ low ∷ high ∷ tags ∷ geometry ∷ ws)
-    ≡ varintField LayerFeature (6 + geometry + tags) ++ recordMessage (kind ∷ mark ∷ low ∷ high ∷ tags ∷ geometry ∷ ws) ++ featureFields (geometry + tags) ws) → ⊥
+    ≡ varintField LayerFeature (6 + geometry + tags) ++ recordMessage (kind ∷ mark ∷ low ∷ high ∷ tags ∷ geometry ∷ ws)
+    ++ featureFields (geometry + tags) ws) → ⊥
 unfolding recordMessage featureMessage delimited varintField head varint
 length-of-the-words h = let e : _≡_ {A = ℕ} 2 6 = ap (item 1) (h 1 0 0 0 0 0 []) in omega arith
 

@@ -91,27 +91,37 @@ samples =
     -- the same, then a second part
     record {
       asked = job 2 (box 10) (pos 2 ∷ pos 2 ∷ pos 2 ∷ pos 10 ∷ pos 10 ∷ pos 10 ∷ pos 1 ∷ pos 1 ∷ pos 3 ∷ pos 5 ∷ []) (3 ∷ 5 ∷ []);
-      expected = words 0 (9 ∷ 4 ∷ 4 ∷ 18 ∷ 0 ∷ 16 ∷ 16 ∷ 0 ∷ 9 ∷ 17 ∷ 17 ∷ 10 ∷ 4 ∷ 8 ∷ []) (pos 1 ∷ pos 2 ∷ pos 2 ∷ pos 2 ∷ pos 2 ∷ pos 10 ∷ pos 2 ∷ pos 10 ∷ pos 10 ∷ pos 1 ∷ pos 1 ∷ pos 1 ∷ pos 2 ∷ pos 3 ∷ pos 5 ∷ []);
+      expected =
+          words 0 (9 ∷ 4 ∷ 4 ∷ 18 ∷ 0 ∷ 16 ∷ 16 ∷ 0 ∷ 9 ∷ 17 ∷ 17 ∷ 10 ∷ 4 ∷ 8 ∷ [])
+          (pos 1 ∷ pos 2 ∷ pos 2 ∷ pos 2 ∷ pos 2 ∷ pos 10 ∷ pos 2 ∷ pos 10 ∷ pos 10 ∷ pos 1 ∷ pos 1 ∷ pos 1 ∷ pos 2 ∷ pos 3 ∷ pos 5 ∷ []);
     } ∷
     -- a polygon
     record {
       asked = job 3 (box 100) (pos 3 ∷ pos 6 ∷ pos 8 ∷ pos 12 ∷ pos 20 ∷ pos 34 ∷ []) (3 ∷ []);
-      expected = words 0 (9 ∷ 6 ∷ 12 ∷ 18 ∷ 10 ∷ 12 ∷ 24 ∷ 44 ∷ 15 ∷ []) (pos 1 ∷ pos 3 ∷ pos 6 ∷ pos 2 ∷ pos 8 ∷ pos 12 ∷ pos 2 ∷ pos 20 ∷ pos 34 ∷ pos 7 ∷ pos 20 ∷ pos 34 ∷ []);
+      expected =
+          words 0 (9 ∷ 6 ∷ 12 ∷ 18 ∷ 10 ∷ 12 ∷ 24 ∷ 44 ∷ 15 ∷ [])
+          (pos 1 ∷ pos 3 ∷ pos 6 ∷ pos 2 ∷ pos 8 ∷ pos 12 ∷ pos 2 ∷ pos 20 ∷ pos 34 ∷ pos 7 ∷ pos 20 ∷ pos 34 ∷ []);
     } ∷
     -- a point taken out
     record {
       asked = job 3 (box 10) (pos 0 ∷ pos 0 ∷ pos 4 ∷ pos 0 ∷ pos 9 ∷ pos 0 ∷ pos 9 ∷ pos 9 ∷ []) (4 ∷ []);
-      expected = words 0 (9 ∷ 0 ∷ 0 ∷ 18 ∷ 18 ∷ 0 ∷ 0 ∷ 18 ∷ 15 ∷ []) (pos 1 ∷ pos 0 ∷ pos 0 ∷ pos 2 ∷ pos 9 ∷ pos 0 ∷ pos 2 ∷ pos 9 ∷ pos 9 ∷ pos 7 ∷ pos 9 ∷ pos 9 ∷ []);
+      expected =
+          words 0 (9 ∷ 0 ∷ 0 ∷ 18 ∷ 18 ∷ 0 ∷ 0 ∷ 18 ∷ 15 ∷ [])
+          (pos 1 ∷ pos 0 ∷ pos 0 ∷ pos 2 ∷ pos 9 ∷ pos 0 ∷ pos 2 ∷ pos 9 ∷ pos 9 ∷ pos 7 ∷ pos 9 ∷ pos 9 ∷ []);
     } ∷
     -- a part that starts on the last point
     record {
       asked = job 3 (box 10) (pos 0 ∷ pos 0 ∷ pos 4 ∷ pos 0 ∷ pos 4 ∷ pos 4 ∷ pos 4 ∷ pos 4 ∷ pos 8 ∷ pos 4 ∷ pos 8 ∷ pos 8 ∷ []) (3 ∷ 6 ∷ []);
-      expected = words 0 (9 ∷ 0 ∷ 0 ∷ 18 ∷ 8 ∷ 0 ∷ 0 ∷ 8 ∷ 15 ∷ 18 ∷ 8 ∷ 0 ∷ 0 ∷ 8 ∷ 15 ∷ []) (pos 1 ∷ pos 0 ∷ pos 0 ∷ pos 2 ∷ pos 4 ∷ pos 0 ∷ pos 2 ∷ pos 4 ∷ pos 4 ∷ pos 7 ∷ pos 4 ∷ pos 4 ∷ pos 2 ∷ pos 8 ∷ pos 4 ∷ pos 2 ∷ pos 8 ∷ pos 8 ∷ pos 7 ∷ pos 8 ∷ pos 8 ∷ []);
+      expected =
+          words 0 (9 ∷ 0 ∷ 0 ∷ 18 ∷ 8 ∷ 0 ∷ 0 ∷ 8 ∷ 15 ∷ 18 ∷ 8 ∷ 0 ∷ 0 ∷ 8 ∷ 15 ∷ [])
+          (pos 1 ∷ pos 0 ∷ pos 0 ∷ pos 2 ∷ pos 4 ∷ pos 0 ∷ pos 2 ∷ pos 4 ∷ pos 4 ∷ pos 7 ∷ pos 4 ∷ pos 4 ∷ pos 2 ∷ pos 8 ∷ pos 4 ∷ pos 2 ∷ pos 8 ∷ pos 8 ∷ pos 7 ∷ pos 8 ∷ pos 8 ∷ []);
     } ∷
     -- a line that crosses the box
     record {
       asked = job 2 (box 10) (negsuc 4 ∷ pos 3 ∷ pos 15 ∷ pos 8 ∷ []) (2 ∷ []);
-      expected = words 0 (9 ∷ 0 ∷ 6 ∷ 26 ∷ 0 ∷ 2 ∷ 20 ∷ 6 ∷ 0 ∷ 2 ∷ []) (pos 1 ∷ pos 0 ∷ pos 3 ∷ pos 2 ∷ pos 0 ∷ pos 4 ∷ pos 2 ∷ pos 10 ∷ pos 7 ∷ pos 2 ∷ pos 10 ∷ pos 8 ∷ []);
+      expected =
+          words 0 (9 ∷ 0 ∷ 6 ∷ 26 ∷ 0 ∷ 2 ∷ 20 ∷ 6 ∷ 0 ∷ 2 ∷ [])
+          (pos 1 ∷ pos 0 ∷ pos 3 ∷ pos 2 ∷ pos 0 ∷ pos 4 ∷ pos 2 ∷ pos 10 ∷ pos 7 ∷ pos 2 ∷ pos 10 ∷ pos 8 ∷ []);
     } ∷
     -- a clip: cut at both sides
     record {

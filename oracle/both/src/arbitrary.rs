@@ -1,6 +1,7 @@
-//! Arbitrary states, lists and job files through our library: no crash, only answers of the table, every guard unharmed.
+//! Arbitrary states, lists and job files through our library: no crash, only answers of the table, every guard unharmed. Clips and readings are held to their exact answers.
 
 use crate::cases;
+use crate::clips;
 use crate::judge::{Job, LIMIT};
 use crate::lent::Lent;
 use crate::random::Random;
@@ -139,9 +140,10 @@ struct Said {
 }
 
 fn clip(random: &mut Random) -> Said {
-    let segment = [0; 4].map(|_| signed(random));
-    let given = ours::clip(segment, edges(random));
-    let sound = given.refusal == 0 || [given.x0, given.y0, given.x1, given.y1] == [0; 4];
+    let [x0, y0, x1, y1] = [0; 4].map(|_| signed(random));
+    let [left, right, bottom, top] = edges(random);
+    let given = ours::clip([x0, y0, x1, y1], [left, right, bottom, top]);
+    let sound = clips::differs(&[x0, y0, x1, y1, left, right, bottom, top]).is_none();
     Said {
         call: "clips",
         refusal: given.refusal,
@@ -273,6 +275,19 @@ pub fn run(seed: u64, count: usize, tally: &mut Tally) -> Option<Difference> {
         tally.add(said.call, 1);
         if said.refusal == 0 {
             tally.add("accepted", 1);
+        }
+        if at % 8 == 0 {
+            tally.add(
+                [
+                    "clips accepted",
+                    "",
+                    "",
+                    "clips refused as BOX",
+                    "",
+                    "clips refused as COORD",
+                ][said.refusal as usize],
+                1,
+            );
         }
     }
     None

@@ -25,7 +25,8 @@ fn refusal(case: &Case) -> u32 {
     }
 }
 
-fn differs(case: &Case) -> Option<String> {
+/// What differs: the refusal by document 01, or the four numbers by the Rust.
+pub fn differs(case: &Case) -> Option<String> {
     let (segment, edges) = parts(case);
     let given = ours::clip(segment, edges);
     let said = (given.refusal, [given.x0, given.y0, given.x1, given.y1]);

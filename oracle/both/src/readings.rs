@@ -57,7 +57,10 @@ pub fn differs(words: &[u32], room: usize, spoiled: bool) -> Option<String> {
         Err(refusal) => (*refusal, 0),
     };
     if (given.refusal, given.vertices) != (refusal, count) {
-        return Some(format!("refusal, vertices: ours {} {}, expected {refusal} {count}", given.refusal, given.vertices));
+        return Some(format!(
+            "refusal, vertices: ours {} {}, expected {refusal} {count}",
+            given.refusal, given.vertices
+        ));
     }
     let numbers = expected.unwrap_or_default();
     out.differs(numbers.iter().map(|n| *n as u32))
@@ -68,12 +71,24 @@ fn random_words(random: &mut Random) -> Vec<u32> {
     let mut words = Vec::new();
     let steady = random.chance(2);
     for _ in 0..random.below(6) {
-        let count = if random.chance(20) { random.next() as u32 >> 3 } else { random.below(5) as u32 };
-        let id = if random.chance(16) { random.below(8) as u32 } else { random.pick(&[1, 1, 2, 2, 2, 7]) };
+        let count = if random.chance(20) {
+            random.next() as u32 >> 3
+        } else {
+            random.below(5) as u32
+        };
+        let id = if random.chance(16) {
+            random.below(8) as u32
+        } else {
+            random.pick(&[1, 1, 2, 2, 2, 7])
+        };
         words.push(id + 8 * count);
         if id != 7 {
             for _ in 0..2 * count.min(6) {
-                words.push(if steady { random.below(64) as u32 } else { random.pick(&[0, 1, 2, 0x7FFF_FFFE, 0x8000_0001, u32::MAX - 1, u32::MAX]) });
+                words.push(if steady {
+                    random.below(64) as u32
+                } else {
+                    random.pick(&[0, 1, 2, 0x7FFF_FFFE, 0x8000_0001, u32::MAX - 1, u32::MAX])
+                });
             }
         }
     }
@@ -130,7 +145,10 @@ pub fn compare(seed: u64, count: usize, spoiled: bool, tally: &mut Tally) -> Opt
         let (words, room) = if at < fixed {
             std::mem::take(&mut lists[at])
         } else {
-            let mut random = Random::new(seed.wrapping_add(at as u64).wrapping_mul(0xD134_2543_DE82_EF95));
+            let mut random = Random::new(
+                seed.wrapping_add(at as u64)
+                    .wrapping_mul(0xD134_2543_DE82_EF95),
+            );
             let words = random_words(&mut random);
             (words, random.below(60))
         };
@@ -140,7 +158,10 @@ pub fn compare(seed: u64, count: usize, spoiled: bool, tally: &mut Tally) -> Opt
                 return Some(Difference { what, input });
             }
             let (words, what) = smallest(words, &|w| differs(w, room, spoiled), &shorter);
-            return Some(Difference { what, input: format!("words {words:?}, room {room}") });
+            return Some(Difference {
+                what,
+                input: format!("words {words:?}, room {room}"),
+            });
         }
         tally.add("lists of words", 1);
         tally.add(name(vertices(&words, room).err().unwrap_or(0)), 1);
