@@ -1,4 +1,5 @@
--- A whole job's answer as three numbers: the refusal's number, the accepted points, the words used. An accepted job has accepted all n points; a refused one says no words.
+-- A whole job's answer as three numbers: the refusal's number, the accepted points, the words used. An accepted job has accepted all n points; a refused
+-- one says no words.
 use Prim.Native.Nat.{ℕ}
 use mathlib.Core.Bool.{cond}
 use lib.Dec.{eqb}

@@ -1,4 +1,5 @@
--- A layer and a tile as C carries them, and what they stand for. An open feature is a flag of 1 and the figures at its opening; 0 is none, and then the figures mean nothing.
+-- A layer and a tile as C carries them, and what they stand for. An open feature is a flag of 1 and the figures at its opening; 0 is none, and then the
+-- figures mean nothing.
 use Prim.Native.Nat.{ℕ}
 use mathlib.Core.Bool.{cond}
 use lib.Dec.{ltb, eqb}
@@ -52,9 +53,10 @@ layerTo s =
       since = sinceTo (s .feature);
     }
 
--- every number 0: where there is no layer to give
+-- where there is no layer to give: `broken` as C carries it, so that every call refuses it as STATE (proofs/NoLayer has the law of each). Every number but
+-- the name's length is 0; all 0 would be a layer that breaks no rule, with an empty name
 abbrev pub noLayer : BpLayer
-noLayer = record { extent = 0; «is_open» = 0; name = 0; used = noFigures; since = noFigures }
+noLayer = record { extent = 0; «is_open» = 0; name = 1; used = noFigures; since = noFigures }
 
 abbrev pub tileOf : BpTile → Tile
 tileOf t = record { extent = t .extent; used = t .used; layers = t .layers }

@@ -1,5 +1,6 @@
-// A layer and a tile as C carries them: the numbers of `Layer` and `Tile`. Whether a feature is open is a flag, and the figures at its opening stand behind it; what lies behind a
-// flag of 0 is not looked at. A flag that is neither 0 nor 1 stands for a layer that breaks a rule, so every call refuses it as STATE, in the place that STATE has among its checks.
+// A layer and a tile as C carries them: the numbers of `Layer` and `Tile`. Whether a feature is open is a flag, and the figures at its opening stand behind
+// it; what lies behind a flag of 0 is not looked at. A flag that is neither 0 nor 1 stands for a layer that breaks a rule, so every call refuses it as STATE,
+// in the place that STATE has among its checks.
 ghost use mathlib.Core.Path.{_≡_};
 ghost use Rattle.brinepost_tiles.specs.Carried.{figuresOf, figuresTo, openOf, flagTo, sinceTo, layerOf, layerTo, noLayer, tileOf, tileTo};
 use layer::Figures;
@@ -134,7 +135,7 @@ pub(crate) fn layer_to(s: Layer) -> BpLayer
     }
 }
 
-// What a refused `new` gives in place of a layer: every number 0.
+// What a refused `new` gives in place of a layer: its name runs past its texts, so every call refuses it as STATE.
 pub(crate) fn no_layer() -> BpLayer
     ensures { λ r. ⌜ r ≡ noLayer ⌝ }
 {
@@ -147,7 +148,7 @@ pub(crate) fn no_layer() -> BpLayer
     BpLayer {
         extent: 0,
         is_open: 0,
-        name: 0,
+        name: 1,
         used: none,
         since: none,
     }
