@@ -43,7 +43,8 @@ fn refused(k: Refusal) -> BpClipped
 }
 
 // The segment from (x0, y0) to (x1, y1), cut at the box: BOX, then COORD, else the clipped segment.
-// A segment with both ends in a good box stays as given, and is answered at once. Each answer returns by itself, so that the compiler keeps the numbers where they came in.
+// A segment with both ends in a good box stays as given, and is answered at once. Each answer returns by itself, so that the compiler keeps the numbers
+// where they came in.
 #[no_mangle]
 pub extern "C" fn bp_clip(
     x0: i32,
@@ -57,13 +58,12 @@ pub extern "C" fn bp_clip(
 ) -> BpClipped
     ensures { λ r. ⌜ r ≡ flatClip (clipped (segAt x0 y0 x1 y1) (boxAt left right bottom top)) ⌝ }
 {
-    if !clip::are_edges(left, right, bottom, top) {
-        return refused(Refusal::Box);
-    }
-    let in0 = clip::is_inside(x0, y0, left, right, bottom, top);
-    let in1 = clip::is_inside(x1, y1, left, right, bottom, top);
-    if in0 & in1 {
-        return accepted(x0, y0, x1, y1);
+    if clip::are_edges(left, right, bottom, top) {
+        let in0 = clip::is_inside(x0, y0, left, right, bottom, top);
+        let in1 = clip::is_inside(x1, y1, left, right, bottom, top);
+        if in0 & in1 {
+            return accepted(x0, y0, x1, y1);
+        }
     }
     match clip::clip_at(x0, y0, x1, y1, left, right, bottom, top) {
         Clipped::Done(c) => {
