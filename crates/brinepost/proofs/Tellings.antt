@@ -7,7 +7,7 @@ use borrow.Author.Tests.{not-true, not-false}
 use lib.IntN.{ℤ}
 use Rattle.promise.specs.Answers.{Written, Gives}
 use Rattle.refusal.specs.declared.Refusal.{Refusal}
-use Rattle.refusal.specs.declared.Refusal.the-variants.{State}
+use Rattle.refusal.specs.declared.Refusal.the-variants.{Box, State}
 use Rattle.refusal.specs.Refusals.{numberOf}
 use Rattle.refusal.specs.Said.{Said}
 use Rattle.telling.proofs.Tellings.{told-gives}
@@ -19,7 +19,7 @@ use Rattle.clip.specs.declared.Clipped.the-variants.{Done as Cut, Refused as No
 use Rattle.clip.specs.Domain.{isGood, isInside}
 use Rattle.clip.specs.Answer.{saidClipped, clipped}
 use Rattle.clip.proofs.Tests.{both}
-use Rattle.clip.proofs.Callers.{kept-inside}
+use Rattle.clip.proofs.Callers.{box-refused, kept-inside}
 use Rattle.encoder.specs.declared.GeomEncoder.{GeomEncoder}
 use Rattle.encoder.specs.declared.Started.{Started}
 use Rattle.encoder.specs.declared.Drawn.{Drawn}
@@ -34,11 +34,15 @@ use Rattle.brinepost.specs.Segments.{ends, flatClip}
 use Rattle.brinepost.specs.Carried.{areFlags, stateOf}
 use Rattle.brinepost.specs.Drawing.{flatStarted, flatDrawn, flagged, unlessFlagged}
 
--- both ends in a good box, as the code's tests tell it
-module _ (s : Seg) (b : BBox) (g u v : Bool) (eg : g ≡ isGood b) (eu : u ≡ isInside b (s .p0)) (ev : v ≡ isInside b (s .p1)) (r : BpClipped) where
-  pub clip-kept : g ≡ true → (u && v) ≡ true → r ≡ ends 0 (record { seg = s } ∷ []) → r ≡ flatClip (clipped s b)
+-- a box that is not good, and both ends in one that is, as the code's tests tell it
+module _ (s : Seg) (b : BBox) (g : Bool) (eg : g ≡ isGood b) (r : BpClipped) where
+  pub clip-box : not g ≡ true → r ≡ ends (numberOf Box) [] → r ≡ flatClip (clipped s b)
   unfolding flatClip
-  clip-kept t i e = let h = both u v i in e ∙ sym (ap flatClip (kept-inside s b (sym eg ∙ t) (sym eu ∙ h .0) (sym ev ∙ h .1)))
+  clip-box n e = e ∙ sym (ap flatClip (box-refused s b (sym eg ∙ not-true g n)))
+
+  pub clip-kept : not g ≡ false → (u v : Bool) → u ≡ isInside b (s .p0) → v ≡ isInside b (s .p1) → (u && v) ≡ true → r ≡ ends 0 (record { seg = s } ∷ []) → r ≡ flatClip (clipped s b)
+  unfolding flatClip
+  clip-kept n u v eu ev t e = let h = both u v t in e ∙ sym (ap flatClip (kept-inside s b (sym eg ∙ not-false g n) (sym eu ∙ h .0) (sym ev ∙ h .1)))
 
 -- what the clip said, by its two cases
 module _ (a : Clipped) (s : Seg) (b : BBox) (e : saidClipped a ≡ clipped s b) (r : BpClipped) where

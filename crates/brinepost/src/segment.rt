@@ -58,12 +58,13 @@ pub extern "C" fn bp_clip(
 ) -> BpClipped
     ensures { λ r. ⌜ r ≡ flatClip (clipped (segAt x0 y0 x1 y1) (boxAt left right bottom top)) ⌝ }
 {
-    if clip::are_edges(left, right, bottom, top) {
-        let in0 = clip::is_inside(x0, y0, left, right, bottom, top);
-        let in1 = clip::is_inside(x1, y1, left, right, bottom, top);
-        if in0 & in1 {
-            return accepted(x0, y0, x1, y1);
-        }
+    if !clip::are_edges(left, right, bottom, top) {
+        return refused(Refusal::Box);
+    }
+    let in0 = clip::is_inside(x0, y0, left, right, bottom, top);
+    let in1 = clip::is_inside(x1, y1, left, right, bottom, top);
+    if in0 & in1 {
+        return accepted(x0, y0, x1, y1);
     }
     match clip::clip_at(x0, y0, x1, y1, left, right, bottom, top) {
         Clipped::Done(c) => {

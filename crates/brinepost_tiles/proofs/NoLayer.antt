@@ -28,7 +28,7 @@ use Rattle.brinepost_tiles.specs.declared.answers.BpMany.{BpMany}
 use Rattle.brinepost_tiles.specs.declared.answers.BpCounted.{BpCounted}
 use Rattle.brinepost_tiles.specs.declared.answers.BpNamed.{BpNamed}
 use Rattle.brinepost_tiles.specs.declared.answers.BpAdded.{BpAdded}
-use Rattle.brinepost_tiles.specs.Carried.{noLayer, broken, layerOf, tileOf, tileTo}
+use Rattle.brinepost_tiles.specs.Carried.{noLayer, broken, layerOf, layerTo, tileOf, tileTo}
 use Rattle.brinepost_tiles.specs.Answers.{flatChanged, layerAfter, flatMany, flatCounted, flatNamed, flatTile, flatTileCounted}
 use Rattle.brinepost_tiles.specs.Calls.{seenFrom, calledFrom, featuresFrom, addedFrom}
 use Rattle.brinepost_tiles.proofs.Carrying.{stands-broken}
@@ -51,7 +51,7 @@ notAdded t = record { refusal = 4; tile = tileTo (tileOf t) }
 
 module _ (m : Memory) where
   pub no-layer : valid (seenFrom noLayer m) ≡ false
-  unfolding layerOf valid
+  unfolding layerOf layerTo valid
   no-layer = stands-broken (fits (broken .used) (seen broken m .room))
 
   -- a call that refuses it as STATE says so to C

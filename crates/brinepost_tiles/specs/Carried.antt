@@ -53,10 +53,10 @@ layerTo s =
       since = sinceTo (s .feature);
     }
 
--- where there is no layer to give: `broken` as C carries it, so that every call refuses it as STATE (proofs/NoLayer has the law of each). Every number but
--- the name's length is 0; all 0 would be a layer that breaks no rule, with an empty name
+-- where there is no layer to give: the broken one, so that every call refuses it as STATE (proofs/NoLayer has the law of each). Every number but the name's
+-- length is 0; with that 0 too it would be a layer without a name, which breaks no rule
 abbrev pub noLayer : BpLayer
-noLayer = record { extent = 0; «is_open» = 0; name = 1; used = noFigures; since = noFigures }
+noLayer = layerTo broken
 
 abbrev pub tileOf : BpTile → Tile
 tileOf t = record { extent = t .extent; used = t .used; layers = t .layers }

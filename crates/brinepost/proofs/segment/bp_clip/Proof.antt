@@ -1,4 +1,4 @@
--- A segment with both ends in a good box stays as given; every other is answered as the clip said, by its two cases.
+-- A box that is not good is refused, and a segment with both ends in a good one stays as given; else what the clip said, by its two cases.
 use mathlib.Core.Path.{_≡_}
 use mir.Syntax.{w32}
 use Rattle.whole.proofs.Machine.{Back, back}
@@ -8,7 +8,7 @@ use Rattle.clip.specs.declared.ClippedSeg.{ClippedSeg}
 use Rattle.clip.specs.Domain.{isGood}
 use Rattle.clip.specs.Answer.{saidClipped, clipped}
 use Rattle.clip.specs.Numbers.{segAt, boxAt}
-use Rattle.brinepost.proofs.Tellings.{clip-kept, clip-done, clip-not}
+use Rattle.brinepost.proofs.Tellings.{clip-box, clip-kept, clip-done, clip-not}
 use borrow.Author.Needs.{needs}
 use Rattle.brinepost.proofs.segment.bp_clip.Statement.{statement}
 use Rattle.brinepost.proofs.segment.bp_clip.Tie as tie
@@ -48,7 +48,7 @@ module _ (s : tie.Start) where
 ruleset read = (x0, y0, x1, y1, left, right, bottom, top)
 
 abbrev start : tie.After-clip-at → tie.Start
-start c = c .before .before .before
+start c = c .before .before .before .before .before .before
 
 said : (c : tie.After-clip-at) → saidClipped (c .clip-at .result) ≡ clipped (seg (start c)) (box (start c))
 said c = simp read at (c .clip-at .ensures)
@@ -78,6 +78,15 @@ are-edges-requires c κs = search needs
 boxed : (c : tie.After-are-edges) → c .are-edges .result ≡ isGood (box (c .before))
 boxed c = simp read at (c .are-edges .ensures)
 
+refused-requires : tie.Need-refused-requires
+refused-requires c κs = search needs
+
+returns : tie.Need-returns
+returns c =
+    let g = c .before .before in
+    let s = g .before in
+    clip-box (seg s) (box s) _ (boxed g) _ (c .before .if1 .taken) (c .refused .ensures)
+
 is-inside-requires : tie.Need-is-inside-requires
 is-inside-requires c κs = search needs
 
@@ -87,17 +96,13 @@ is-inside-requires-2 c κs = search needs
 accepted-requires : tie.Need-accepted-requires
 accepted-requires c κs = search needs
 
-returns : tie.Need-returns
-returns c =
+returns-2 : tie.Need-returns-2
+returns-2 c =
     let t = c .before in
     let i = t .before in
-    let g = i .before .before in
-    let e = g .before in
-    let s = e .before in
-    clip-kept (seg s) (box s) _ _ _ (boxed e) (simp read at (i .before .is-inside .ensures)) (simp read at (i .is-inside2 .ensures)) _
-    (g .if1 .taken)
-    (t .if2 .taken)
-    (simp read at (c .accepted .ensures))
+    let e = i .before .before in
+    let s = e .before .before in
+    clip-kept (seg s) (box s) _ (boxed (e .before)) _ (e .if1 .left) _ _ (simp read at (i .before .is-inside .ensures)) (simp read at (i .is-inside2 .ensures)) (t .if2 .taken) (simp read at (c .accepted .ensures))
 
 clip-at-requires : tie.Need-clip-at-requires
 clip-at-requires c κs = search needs
@@ -112,8 +117,8 @@ accepted-requires-2 c κs = search needs
 abbrev apart : tie.After-accepted2 → tie.After-p1
 apart c = c .before .before .before .before .before
 
-returns-2 : tie.Need-returns-2
-returns-2 c =
+returns-3 : tie.Need-returns-3
+returns-3 c =
     let k : tie.After-known-told = apart c .before .before .before in
     let m = k .before in
     let a = m .before .before in
@@ -122,28 +127,30 @@ returns-2 c =
 enum-known-k : tie.Need-enum-known-k
 enum-known-k c = search needs
 
-refused-requires : tie.Need-refused-requires
-refused-requires c κs = search needs
+refused-requires-2 : tie.Need-refused-requires-2
+refused-requires-2 c κs = search needs
 
-returns-3 : tie.Need-returns-3
-returns-3 c =
+returns-4 : tie.Need-returns-4
+returns-4 c =
     let m = c .before .before in
     let a = m .before .before in
-    clip-not _ (seg (start a)) (box (start a)) (said a) _ (m .k .given .0 .0) (m .k .given .1) (c .refused .ensures)
+    clip-not _ (seg (start a)) (box (start a)) (said a) _ (m .k .given .0 .0) (m .k .given .1) (c .refused2 .ensures)
 
 pub bp-clip-spec : {M : Type 1} → statement M
 bp-clip-spec =
     tie.close
     (tie.spec
     are-edges-requires
+    refused-requires
+    returns
     is-inside-requires
     is-inside-requires-2
     accepted-requires
-    returns
+    returns-2
     clip-at-requires
     enum-known-c
     accepted-requires-2
-    returns-2
+    returns-3
     enum-known-k
-    refused-requires
-    returns-3)
+    refused-requires-2
+    returns-4)
