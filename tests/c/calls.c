@@ -228,8 +228,66 @@ static void calls(void)
     UNTOUCHED();
 }
 
+/* What a list needs at most: it is enough, and is taken up. */
+static void sizes(void)
+{
+    static const bp_box box = {0, 10, 0, 10};
+    static const int32_t across[] = {-5, 3, 15, 8}; /* both ends are cut, and the point itself is a third */
+    static const uint32_t two[] = {2}, three[] = {3}, closed[] = {15, 15, 15};
+    static const int32_t apart[] = {1, 2, 3, 4, 5, 6};
+    int32_t out[BP_READ_NUMBERS(3)];
+    bp_geometry g = {BP_LINE, box, across, 4, two, 1};
+    SAME(BP_LINE_WORDS(2), bp_encode_in(&g, words, BP_LINE_WORDS(2)).words);
+    SAME(BP_ROOM, bp_encode_in(&g, words, BP_LINE_WORDS(2) - 1).refusal);
+    g.kind = BP_POLYGON;
+    SAME(BP_POLYGON_WORDS(2), bp_encode_in(&g, words, BP_POLYGON_WORDS(2)).words);
+    SAME(BP_ROOM, bp_encode_in(&g, words, BP_POLYGON_WORDS(2) - 1).refusal);
+    g = (bp_geometry){BP_POINT, box, apart, 6, three, 1};
+    SAME(BP_POINT_WORDS(3), bp_encode_in(&g, words, BP_POINT_WORDS(3)).words);
+    SAME(BP_ROOM, bp_encode_in(&g, words, BP_POINT_WORDS(3) - 1).refusal);
+    SAME(3, bp_decode(closed, 3, out, COUNT(out)).vertices);
+    SAME(BP_ROOM, bp_decode(closed, 3, out, COUNT(out) - 1).refusal);
+}
+
+/* The inline functions of this library, with lists and boxes of four different numbers, and null for what is empty. */
+static void inlines(void)
+{
+    static const bp_box box = {-3, 40, 5, 17};
+    bp_clipped c = bp_clip_in(-20, 1, 60, 30, box);
+    SAME(0, c.refusal), SAME(-3, c.x0), SAME(7, c.y0), SAME(24, c.x1), SAME(17, c.y1);
+    bp_encoder s = bp_encoder_new_in(BP_LINE, box).state;
+    SAME(BP_LINE, s.kind), SAME(-3, s.x_min), SAME(40, s.x_max), SAME(5, s.y_min), SAME(17, s.y_max);
+    bp_geometry g = {BP_LINE, box, points, COUNT(points), ends, COUNT(ends)};
+    fill();
+    bp_job j = bp_encode_in(&g, words, ROOM);
+    SAME(0, j.refusal), SAME(5, j.points), SAME(20, j.words), WRITTEN(line);
+    const uint32_t none[] = {0};
+    g = (bp_geometry){BP_LINE, box, NULL, 0, none, 1};
+    j = bp_encode_in(&g, NULL, 0);
+    SAME(0, j.refusal), SAME(0, j.words);
+    g.ends = NULL, g.ends_len = 0;
+    SAME(BP_JOB, bp_encode_in(&g, NULL, 0).refusal);
+    SAME(0, bp_decode_in(NULL, 0, NULL, 0).refusal);
+    SAME(BP_ROOM, bp_decode_in(line, COUNT(line), NULL, 0).refusal);
+}
+
+/* What a refused new state gives is refused in its turn. */
+static void refused_new(void)
+{
+    bp_started n = bp_encoder_new(4, 0, 1, 0, 1);
+    SAME(BP_KIND, n.refusal);
+    fill();
+    GIVEN_BACK(n.state, bp_encoder_add_point(n.state, 0, 0, words, ROOM), BP_STATE);
+    GIVEN_BACK(n.state, bp_encoder_complete_geom(n.state, words, ROOM), BP_STATE);
+    UNTOUCHED();
+}
+
 int main(void)
 {
+    SAME(BP_VERSION, bp_version());
+    sizes();
+    inlines();
+    refused_new();
     clips();
     jobs();
     readings();

@@ -79,7 +79,7 @@ static void given_back(int line, bp_layer s, bp_changed c, uint32_t refusal)
 }
 #define GIVEN_BACK(s, c, refusal) given_back(__LINE__, s, c, refusal)
 
-static const bp_layer none;
+static const bp_layer none = {.name = 1}; /* what a refused new layer gives: its name runs past its texts */
 static const uint32_t words[] = {9, 2, 4};
 
 static bp_layer made(void)
@@ -345,6 +345,19 @@ static void refused(bp_layer s)
     SAME(BP_STATE, bp_num_features(s, LISTS).refusal), SAME(BP_STATE, bp_num_tags(s, LISTS).refusal), SAME(BP_STATE, bp_name(s, LISTS).refusal);
     bp_tile t = {.extent = s.extent};
     SAME(BP_STATE, bp_add_layer(t, s, LISTS, TILE).refusal), HELD();
+    SAME(BP_STATE, bp_layer_size(t, s, LISTS).refusal), SAME(0, bp_layer_size(t, s, LISTS).count);
+}
+
+/* A new layer that is refused: no call takes what it gives, whatever the lists hold. */
+static void refused_new(void)
+{
+    fill();
+    bp_changed c = bp_layer_new(m.bytes, BP_MAX_TEXT + 1, 7, m.texts, COUNT(m.texts));
+    GIVEN_BACK(none, c, BP_TEXT), refused(c.layer);
+    c = bp_create_layer(bp_tile_new(7), TEXT("ab"), m.texts, 1);
+    GIVEN_BACK(none, c, BP_ROOM), refused(c.layer);
+    memset(&m, 0, sizeof m), memset(&should, 0, sizeof should);
+    refused(c.layer);
 }
 
 static void states(bp_layer open)
@@ -393,6 +406,9 @@ static void tiles(bp_layer open, bp_layer s)
     bp_tile t = bp_tile_new(0x80000001u);
     SAME(0x80000001u, t.extent), SAME(0, t.used), SAME(0, t.layers);
     TILE_BACK(t, bp_add_layer(t, open, LISTS, TILE), BP_TURN);
+    SAME(0, bp_layer_size(t, s, LISTS).refusal), SAME(COUNT(bytes), bp_layer_size(t, s, LISTS).count);
+    SAME(COUNT(bytes) - 25, bp_layer_size(t, open, LISTS).count); /* less the second feature, and a byte of the length; TURN is of adding */
+    SAME(COUNT(bytes), bp_layer_size((bp_tile){1, SIZE_MAX, SIZE_MAX}, s, LISTS).count); /* nothing of the tile is looked at */
     TILE_BACK(t, bp_add_layer(t, s, LISTS, m.names, 1, m.bytes, COUNT(m.bytes)), BP_ROOM);
     TILE_BACK(t, bp_add_layer(t, s, LISTS, m.names, 2, m.bytes, COUNT(bytes) - 1), BP_ROOM);
     t.extent = 1;
@@ -423,6 +439,7 @@ static void empty_layer(void)
     SAME(BP_ROOM, bp_create_layer(t, TEXT("a"), m.texts, 0).refusal);
     bp_changed c = bp_create_layer(t, TEXT("a"), m.texts, 1);
     SAME(0, c.refusal), SAME(4096, c.layer.extent), SAME(1, c.layer.name), FIGURES(c.layer.used, 0, 0, 1, 0);
+    SAME(sizeof tile, bp_layer_size(t, c.layer, LISTS).count);
     bp_added a = bp_add_layer(t, c.layer, LISTS, TILE);
     should.texts[0] = 'a', LAID(names, 0, 4, 1), memcpy(should.bytes, tile, sizeof tile);
     SAME(0, a.refusal), SAME(sizeof tile, bp_to_bytes(a.tile, TILE).count), HELD();
@@ -440,5 +457,7 @@ int main(void)
     second();
     widest();
     empty_layer();
+    refused_new();
+    SAME(BP_VERSION, bp_tiles_version());
     return ended("layers and tiles");
 }

@@ -1,8 +1,16 @@
--- A whole job's answer as three numbers: the refusal's number, the accepted points, the words used. An accepted job has accepted all n points; a refused one says no words.
-use Prim.Native.Nat.{ℕ}
+-- A whole job's answer as three numbers: the refusal's number, the accepted points, the words used. An accepted job has accepted all n points; a refused
+-- one says no words.
+use Prim.Native.Nat.{ℕ, _/_}
 use mathlib.Core.Bool.{cond}
+use mathlib.Core.List.{List}
 use lib.Dec.{eqb}
+use lib.IntN.{ℤ}
+use lib.ListN.{length}
+use Rattle.promise.specs.Answers.{Written}
 use Rattle.refusal.specs.Said.{Said}
+use Rattle.clip.specs.declared.BBox.{BBox}
+use Rattle.encoder.specs.Jobs.{encodedJob}
+use Rattle.telling.specs.Telling.{told}
 use Rattle.brinepost.specs.declared.work.BpJob.{BpJob}
 
 unfoldable pub flatJob : ℕ → Said ℕ → BpJob
@@ -10,3 +18,7 @@ flatJob n a =
     cond (eqb (a .number) 0)
     (record { refusal = 0; points = n; words = a .values })
     (record { refusal = a .number; points = a .values; words = 0 })
+
+-- the whole job of these points and part ends, told to C
+abbrev pub jobFrom : ℕ → BBox → List ℤ → List ℕ → List ℕ → Written BpJob (List ℕ)
+jobFrom kind box points ends out = told (flatJob (length points / 2)) (encodedJob kind box points ends out)

@@ -43,7 +43,8 @@ fn refused(k: Refusal) -> BpClipped
 }
 
 // The segment from (x0, y0) to (x1, y1), cut at the box: BOX, then COORD, else the clipped segment.
-// A segment with both ends in a good box stays as given, and is answered at once. Each answer returns by itself, so that the compiler keeps the numbers where they came in.
+// A segment with both ends in a good box stays as given, and is answered at once. Each answer returns by itself, so that the compiler keeps the numbers
+// where they came in.
 #[no_mangle]
 pub extern "C" fn bp_clip(
     x0: i32,

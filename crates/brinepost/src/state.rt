@@ -1,5 +1,5 @@
-// An encoder's state as C carries it: the numbers of `GeomEncoder`, each point that may be missing with a flag before it. What lies behind a flag of 0 is not looked at;
-// a flag that is neither 0 nor 1 is refused as STATE.
+// An encoder's state as C carries it: the numbers of `GeomEncoder`, each point that may be missing with a flag before it. What lies behind a flag of 0 is
+// not looked at; a flag that is neither 0 nor 1 is refused as STATE.
 ghost use mathlib.Core.Path.{_≡_};
 ghost use Rattle.brinepost.specs.Carried.{pointOf, pointTo, areFlags, stateOf, stateTo, nothing};
 use clip::BBox;

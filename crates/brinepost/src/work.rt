@@ -1,12 +1,9 @@
 // A whole job, from C: a kind, a box, points and part ends go in, the words are laid in the lent list.
 ghost use mathlib.Core.Path.{_≡_};
-ghost use Prim.Native.Nat.{_/_};
-ghost use lib.ListN.{length};
 ghost use Rattle.promise.specs.Answers.{Gives};
-ghost use Rattle.encoder.specs.Jobs.{encodedJob, saidEncoded};
-ghost use Rattle.telling.specs.Telling.{told};
+ghost use Rattle.encoder.specs.Jobs.{saidEncoded};
 ghost use Rattle.clip.specs.Numbers.{boxAt};
-ghost use Rattle.brinepost.specs.Works.{flatJob};
+ghost use Rattle.brinepost.specs.Works.{flatJob, jobFrom};
 use clip::BBox;
 use encoder::whole_job::Encoded;
 
@@ -47,7 +44,7 @@ pub extern "C" fn bp_encode_job(
     ends: &[u32],
     words: &mut [u32],
 ) -> BpJob
-    ensures { λ r. ⌜ Gives (told (flatJob (length (now (points .entry)) / 2)) (encodedJob kind (boxAt left right bottom top) (now (points .entry)) (now (ends .entry)) (now (words .entry)))) r (now (words .exit)) ⌝ }
+    ensures { λ r. ⌜ Gives (jobFrom kind (boxAt left right bottom top) (now (points .entry)) (now (ends .entry)) (now (words .entry))) r (now (words .exit)) ⌝ }
 {
     let bbox = BBox {
         x_min: left,

@@ -24,7 +24,7 @@ unfolding layerTo
 layer-made s n a b e f g = rw (e, f, g)
 
 -- whatever lists are lent
-stands-broken : (a : Bool) → a && false ≡ false
+pub stands-broken : (a : Bool) → a && false ≡ false
 stands-broken true = refl
 stands-broken false = refl
 

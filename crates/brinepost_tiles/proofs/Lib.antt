@@ -1,3 +1,4 @@
 pub mod Carrying
 pub mod Structs
 pub mod Calling
+pub mod NoLayer

@@ -18,7 +18,7 @@ use Rattle.brinepost_tiles.specs.declared.answers.BpNamed.{BpNamed}
 use Rattle.brinepost_tiles.specs.declared.answers.BpAdded.{BpAdded}
 use Rattle.brinepost_tiles.specs.Carried.{layerTo, noLayer, tileTo}
 
--- the new layer, or every number 0 where there is none
+-- the new layer, or where there is none what every call refuses as STATE
 abbrev pub firstLayer : List Layer → BpLayer
 firstLayer [] = noLayer
 firstLayer (s ∷ ss) = layerTo s

@@ -1,4 +1,5 @@
--- A layer and a tile as C carries them, and what they stand for. An open feature is a flag of 1 and the figures at its opening; 0 is none, and then the figures mean nothing.
+-- A layer and a tile as C carries them, and what they stand for. An open feature is a flag of 1 and the figures at its opening; 0 is none, and then the
+-- figures mean nothing.
 use Prim.Native.Nat.{ℕ}
 use mathlib.Core.Bool.{cond}
 use lib.Dec.{ltb, eqb}
@@ -52,9 +53,10 @@ layerTo s =
       since = sinceTo (s .feature);
     }
 
--- every number 0: where there is no layer to give
+-- where there is no layer to give: the broken one, so that every call refuses it as STATE (proofs/NoLayer has the law of each). Every number but the name's
+-- length is 0; with that 0 too it would be a layer without a name, which breaks no rule
 abbrev pub noLayer : BpLayer
-noLayer = record { extent = 0; «is_open» = 0; name = 0; used = noFigures; since = noFigures }
+noLayer = layerTo broken
 
 abbrev pub tileOf : BpTile → Tile
 tileOf t = record { extent = t .extent; used = t .used; layers = t .layers }

@@ -1,7 +1,8 @@
-// A layer and a tile as C carries them: the numbers of `Layer` and `Tile`. Whether a feature is open is a flag, and the figures at its opening stand behind it; what lies behind a
-// flag of 0 is not looked at. A flag that is neither 0 nor 1 stands for a layer that breaks a rule, so every call refuses it as STATE, in the place that STATE has among its checks.
+// A layer and a tile as C carries them: the numbers of `Layer` and `Tile`. Whether a feature is open is a flag, and the figures at its opening stand behind
+// it; what lies behind a flag of 0 is not looked at. A flag that is neither 0 nor 1 stands for a layer that breaks a rule, so every call refuses it as STATE,
+// in the place that STATE has among its checks.
 ghost use mathlib.Core.Path.{_≡_};
-ghost use Rattle.brinepost_tiles.specs.Carried.{figuresOf, figuresTo, openOf, flagTo, sinceTo, layerOf, layerTo, noLayer, tileOf, tileTo};
+ghost use Rattle.brinepost_tiles.specs.Carried.{figuresOf, figuresTo, openOf, flagTo, sinceTo, broken, layerOf, layerTo, noLayer, tileOf, tileTo};
 use layer::Figures;
 use layer::Layer;
 use layer::Open;
@@ -85,24 +86,31 @@ fn since_to(f: Open) -> BpFigures
     }
 }
 
-// The layer that C carries. Of a bad flag it is one whose name runs past its texts.
+// A layer that breaks a rule of STATE, whatever lists are lent: its name runs past its texts.
+fn broken_layer() -> Layer
+    ensures { λ r. ⌜ r ≡ broken ⌝ }
+{
+    let none = Figures {
+        keys: 0,
+        values: 0,
+        texts: 0,
+        features: 0,
+    };
+    Layer {
+        extent: 0,
+        name: 1,
+        used: none,
+        feature: Open::Shut,
+    }
+}
+
+// The layer that C carries; of a bad flag it is the broken one.
 pub(crate) fn layer_of(s: BpLayer) -> Layer
     ensures { λ r. ⌜ r ≡ layerOf s ⌝ }
 {
     let flag = s.is_open;
     if 1 < flag {
-        let none = Figures {
-            keys: 0,
-            values: 0,
-            texts: 0,
-            features: 0,
-        };
-        return Layer {
-            extent: 0,
-            name: 1,
-            used: none,
-            feature: Open::Shut,
-        };
+        return broken_layer();
     }
     let u = s.used;
     let o = s.since;
@@ -134,23 +142,12 @@ pub(crate) fn layer_to(s: Layer) -> BpLayer
     }
 }
 
-// What a refused `new` gives in place of a layer: every number 0.
+// What a refused `new` gives in place of a layer: every call refuses it as STATE.
 pub(crate) fn no_layer() -> BpLayer
     ensures { λ r. ⌜ r ≡ noLayer ⌝ }
 {
-    let none = BpFigures {
-        keys: 0,
-        values: 0,
-        texts: 0,
-        features: 0,
-    };
-    BpLayer {
-        extent: 0,
-        is_open: 0,
-        name: 0,
-        used: none,
-        since: none,
-    }
+    let s = broken_layer();
+    layer_to(s)
 }
 
 pub(crate) fn tile_of(t: BpTile) -> Tile

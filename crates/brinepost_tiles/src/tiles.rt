@@ -4,11 +4,11 @@ ghost use Rattle.promise.specs.Answers.{Gives};
 ghost use Rattle.layer.specs.Lending.{entered};
 ghost use Rattle.layer.specs.Calls.{created};
 ghost use Rattle.tile.specs.Tiles.{tileEntered, tileLeft, freshTile};
-ghost use Rattle.tile.specs.Asking.{numLayers, computeSize, toBytes};
+ghost use Rattle.tile.specs.Asking.{layerSize, numLayers, computeSize, toBytes};
 ghost use Rattle.telling.specs.Telling.{told};
 ghost use Rattle.brinepost_tiles.specs.Carried.{tileOf, tileTo};
 ghost use Rattle.brinepost_tiles.specs.Answers.{flatCreated, flatTileCounted};
-ghost use Rattle.brinepost_tiles.specs.Calls.{addedFrom};
+ghost use Rattle.brinepost_tiles.specs.Calls.{seenFrom, addedFrom};
 use crate::answers::BpAdded;
 use crate::answers::BpChanged;
 use crate::answers::BpCounted;
@@ -58,6 +58,24 @@ pub extern "C" fn bp_add_layer(
     let s = layer_of(given);
     let r = t.add_layer(s, keys, values, texts, features, names, bytes);
     added(r)
+}
+
+// STATE, of the layer alone, else by how many bytes adding it lets the tile grow.
+#[no_mangle]
+pub extern "C" fn bp_layer_size(
+    tile: BpTile,
+    given: BpLayer,
+    keys: &[u32],
+    values: &[u32],
+    texts: &[u8],
+    features: &[u32],
+) -> BpCounted
+    ensures { λ r. ⌜ r ≡ flatTileCounted (layerSize (tileOf tile) (seenFrom given (entered keys values texts features))) ⌝ }
+{
+    let t = tile_of(tile);
+    let s = layer_of(given);
+    let r = t.layer_size(s, keys, values, texts, features);
+    tile_counted(r)
 }
 
 // STATE, else how many layers the tile has.

@@ -499,7 +499,7 @@ fn create(random: &mut Random, held: &Held, memory: &mut Memory) -> Said {
         0
     };
     let mut said = changed(held, "layers created", given, first, &[], "t");
-    said.back = given.layer == Layer::default();
+    said.back = given.layer == Layer::refused();
     said
 }
 

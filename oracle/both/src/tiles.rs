@@ -154,7 +154,7 @@ impl Run {
                     tiles::layer(name, *extent, lent.texts)
                 };
                 if made.refusal != 0 {
-                    assert_eq!(made.layer, Layer::default(), "a refused layer");
+                    assert_eq!(made.layer, Layer::refused(), "a refused layer");
                     return (made.refusal, layer, tile);
                 }
                 made

@@ -250,6 +250,14 @@ pub fn layer(name: &[u8], extent: u32, texts: &mut [u8]) -> Changed {
 }
 
 impl Layer {
+    /// What a refused new layer gives: its name runs past its texts, so every call refuses it as STATE.
+    pub fn refused() -> Layer {
+        Layer {
+            name: 1,
+            ..Layer::default()
+        }
+    }
+
     pub fn into_feature(self, kind: u32, words: &[u32], lists: &mut Lists) -> Changed {
         call!(
             bp_into_feature,

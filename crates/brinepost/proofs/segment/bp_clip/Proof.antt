@@ -113,9 +113,13 @@ enum-known-c c = search needs
 accepted-requires-2 : tie.Need-accepted-requires-2
 accepted-requires-2 c κs = search needs
 
+-- where the clipped segment is taken apart, seen from the answer of its numbers
+abbrev apart : tie.After-accepted2 → tie.After-p1
+apart c = c .before .before .before .before .before
+
 returns-3 : tie.Need-returns-3
 returns-3 c =
-    let k : tie.After-known-told = c .before .before .before .before .before .before .before .before in
+    let k : tie.After-known-told = apart c .before .before .before in
     let m = k .before in
     let a = m .before .before in
     clip-done _ (seg (start a)) (box (start a)) (said a) _ (cut m) (m .c .given .1) (simp cuts at (c .accepted2 .ensures))

@@ -6,6 +6,9 @@ use borrow.Author.Needs.{needs}
 use Rattle.brinepost_tiles.proofs.carried.layer_of.Statement.{statement}
 use Rattle.brinepost_tiles.proofs.carried.layer_of.Tie as tie
 
+broken-layer-requires : tie.Need-broken-layer-requires
+broken-layer-requires c κs = search needs
+
 returns : tie.Need-returns
 unfolding layerOf
 returns c = search (needs, tests)
@@ -20,4 +23,4 @@ returns-2 : tie.Need-returns-2
 returns-2 c = search (needs, layer-read)
 
 pub layer-of-spec : {M : Type 1} → statement M
-layer-of-spec = tie.close (tie.spec returns figures-of-requires open-of-requires returns-2)
+layer-of-spec = tie.close (tie.spec broken-layer-requires returns figures-of-requires open-of-requires returns-2)

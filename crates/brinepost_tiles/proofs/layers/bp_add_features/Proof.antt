@@ -31,8 +31,18 @@ same-length-5 c = search needs
 same-length-6 : tie.Need-same-length-6
 same-length-6 c = search needs
 
+-- where the features, and before them the keys, have come back from the call
+abbrev features-back : tie.After-many-added → tie.After-features
+features-back c = c .before .before .before .before .before .before
+
+abbrev keys-back : tie.After-features → tie.After-keys
+keys-back c = c .before .before .before .before .before .before
+
 returns : tie.Need-returns
-returns c = many-called _ _ (c .before .before .before .before .before .before .before .before .before .before .before .before .before .before .before .before .before .before .before .before .layer-of .ensures) (c .before .before .before .before .before .before .before .before .before .before .before .before .before .add-features .result) _ (c .many-added .ensures) _ _ _ _ _ _ _ (c .before .before .before .before .before .before .before .before .before .before .before .before .before .add-features .ensures)
+returns c =
+    let t = keys-back (features-back c) .before in
+    let a : tie.After-add-features-arg = t .before .before .before .before .before .before in
+    many-called _ _ (a .before .layer-of .ensures) (t .add-features .result) _ (c .many-added .ensures) _ _ _ _ _ _ _ (t .add-features .ensures)
 
 pub bp-add-features-spec : {M : Type 1} → statement M
 bp-add-features-spec =
