@@ -7,17 +7,11 @@ use Rattle.layer.proofs.feature.set_id.Statement.{statement}
 use Rattle.layer.proofs.feature.set_id.Tie as tie
 
 -- the places on the way
-abbrev start-before-is-valid : tie.After-is-valid → tie.Start
-start-before-is-valid c = c .before .before .before .before .before .before
+abbrev f-before-struct-known : tie.After-struct-known → tie.After-f
+f-before-struct-known c = c .before .before .before .before .before .before
 
-abbrev start-before-high : tie.After-high → tie.Start
-start-before-high c = start-before-is-valid (c .before .before .before .before .before .before)
-
-abbrev is-valid-before-high : tie.After-high → tie.After-is-valid
-is-valid-before-high c = c .before .before .before .before .before .before
-
-abbrev else1-before-words : tie.After-words → tie.Else1
-else1-before-words c = c .before .before .before .before .before .before
+abbrev shared-slice-known3-before-f : tie.After-f → tie.After-shared-slice-known3
+shared-slice-known3-before-f c = c .before .before .before .before .before .before
 
 is-valid-requires : tie.Need-is-valid-requires
 is-valid-requires c κs = search needs
@@ -51,9 +45,9 @@ slice-aggregate-lay-words c = search needs
 
 add-lay-words : tie.Need-add-lay-words
 add-lay-words c =
-    let g = start-before-high (c .before .before .before) .args in
-    let h = is-valid-before-high (c .before .before .before) .is-valid .ensures in
-    let l = else1-before-words (c .before .before) .if1 .left in
+    let g = shared-slice-known3-before-f (f-before-struct-known c) .before .before .before .args in
+    let h = f-before-struct-known c .before .before .before .is-valid .ensures in
+    let l = f-before-struct-known c .before .before .if1 .left in
     let o = c .before .before .before .before .before .before .f .given .1 in
     omega (arith, fitting (g .s) (g .keys .now) (g .values .now) (g .texts .now) (g .features .now) _ h l _ o, id-there (g .s) (g .keys .now) (g .values .now) (g .texts .now) (g .features .now) _ h l _ o)
 

@@ -10,113 +10,47 @@ use Rattle.layer.proofs.filling.put_by_index.Statement.{statement}
 use Rattle.layer.proofs.filling.put_by_index.Tie as tie
 
 -- the places on the way
-abbrev start-before-slice-known4 : tie.After-slice-known4 → tie.Start
-start-before-slice-known4 c = c .before .before .before .before .before .before
+abbrev slice-known-before-u : tie.After-u → tie.After-slice-known
+slice-known-before-u c = c .before .before .before .before .before .before
 
-abbrev start-before-room : tie.After-room → tie.Start
-start-before-room c = start-before-slice-known4 (c .before .before .before .before .before .before)
-
-abbrev start-before-find-key : tie.After-find-key → tie.Start
-start-before-find-key c = start-before-room (c .before .before .before .before .before .before)
-
-abbrev start-before-put-tag-arg : tie.After-put-tag-arg → tie.Start
-start-before-put-tag-arg c = start-before-find-key (c .before .before .before .before .before .before)
+abbrev u-before-find-key-arg : tie.After-find-key-arg → tie.After-u
+u-before-find-key-arg c = c .before .before .before .before .before .before
 
 abbrev room-before-find-key : tie.After-find-key → tie.After-room
 room-before-find-key c = c .before .before .before .before .before .before
 
-abbrev room-before-put-tag-arg : tie.After-put-tag-arg → tie.After-room
-room-before-put-tag-arg c = room-before-find-key (c .before .before .before .before .before .before)
+abbrev slice-known4-before-room : tie.After-room → tie.After-slice-known4
+slice-known4-before-room c = c .before .before .before .before .before .before
 
-abbrev hash-text-before-find-value-arg : tie.After-find-value-arg → tie.After-hash-text
-hash-text-before-find-value-arg c = c .before .before .before .before .before .before
+abbrev start-before-slice-known4 : tie.After-slice-known4 → tie.Start
+start-before-slice-known4 c = c .before .before .before .before .before .before
 
-abbrev hash-text-before-put-tag-arg2 : tie.After-put-tag-arg2 → tie.After-hash-text
-hash-text-before-put-tag-arg2 c = hash-text-before-find-value-arg (c .before .before .before .before .before .before)
+abbrev find-key-arg-before-find-value-arg3 : tie.After-find-value-arg3 → tie.After-find-key-arg
+find-key-arg-before-find-value-arg3 c = c .before .before .before .before .before .before
 
-abbrev hash-value-before-find-value-arg2 : tie.After-find-value-arg2 → tie.After-hash-value
-hash-value-before-find-value-arg2 c = c .before .before .before .before .before .before
+abbrev find-value-arg3-before-put-tag-arg4 : tie.After-put-tag-arg4 → tie.After-find-value-arg3
+find-value-arg3-before-put-tag-arg4 c = c .before .before .before .before .before .before
 
-abbrev hash-value-before-put-tag-arg3 : tie.After-put-tag-arg3 → tie.After-hash-value
-hash-value-before-put-tag-arg3 c = hash-value-before-find-value-arg2 (c .before .before .before .before .before .before)
+abbrev slice-known10-before-note2 : tie.After-note2 → tie.After-slice-known10
+slice-known10-before-note2 c = c .before .before .before .before .before .before
+
+abbrev slice-known7-before-slice-known10 : tie.After-slice-known10 → tie.After-slice-known7
+slice-known7-before-slice-known10 c = c .before .before .before .before .before .before
+
+abbrev put-tag-arg-before-slice-known7 : tie.After-slice-known7 → tie.After-put-tag-arg
+put-tag-arg-before-slice-known7 c = c .before .before .before .before .before .before
 
 abbrev find-key-before-put-tag-arg : tie.After-put-tag-arg → tie.After-find-key
 find-key-before-put-tag-arg c = c .before .before .before .before .before .before
-
-abbrev start-before-slice-known7 : tie.After-slice-known7 → tie.Start
-start-before-slice-known7 c = start-before-put-tag-arg (c .before .before .before .before .before .before)
-
-abbrev start-before-slice-known10 : tie.After-slice-known10 → tie.Start
-start-before-slice-known10 c = start-before-slice-known7 (c .before .before .before .before .before .before)
-
-abbrev start-before-note2 : tie.After-note2 → tie.Start
-start-before-note2 c = start-before-slice-known10 (c .before .before .before .before .before .before)
-
-abbrev room-before-slice-known7 : tie.After-slice-known7 → tie.After-room
-room-before-slice-known7 c = room-before-put-tag-arg (c .before .before .before .before .before .before)
-
-abbrev room-before-slice-known10 : tie.After-slice-known10 → tie.After-room
-room-before-slice-known10 c = room-before-slice-known7 (c .before .before .before .before .before .before)
-
-abbrev room-before-note2 : tie.After-note2 → tie.After-room
-room-before-note2 c = room-before-slice-known10 (c .before .before .before .before .before .before)
-
-abbrev hash-text-before-values : tie.After-values → tie.After-hash-text
-hash-text-before-values c = hash-text-before-put-tag-arg2 (c .before .before .before .before .before .before)
-
-abbrev hash-text-before-note-arg : tie.After-note-arg → tie.After-hash-text
-hash-text-before-note-arg c = hash-text-before-values (c .before .before .before .before .before .before)
-
-abbrev hash-text-before-vi : tie.After-vi → tie.After-hash-text
-hash-text-before-vi c = hash-text-before-note-arg (c .before .before .before .before .before .before)
-
-abbrev hash-value-before-slice-known8 : tie.After-slice-known8 → tie.After-hash-value
-hash-value-before-slice-known8 c = hash-value-before-put-tag-arg3 (c .before .before .before .before .before .before)
-
-abbrev hash-value-before-note : tie.After-note → tie.After-hash-value
-hash-value-before-note c = hash-value-before-slice-known8 (c .before .before .before .before .before .before)
-
-abbrev find-key-before-slice-known7 : tie.After-slice-known7 → tie.After-find-key
-find-key-before-slice-known7 c = find-key-before-put-tag-arg (c .before .before .before .before .before .before)
-
-abbrev find-key-before-slice-known10 : tie.After-slice-known10 → tie.After-find-key
-find-key-before-slice-known10 c = find-key-before-slice-known7 (c .before .before .before .before .before .before)
-
-abbrev find-key-before-note2 : tie.After-note2 → tie.After-find-key
-find-key-before-note2 c = find-key-before-slice-known10 (c .before .before .before .before .before .before)
-
-abbrev find-value-before-put-tag : tie.After-put-tag → tie.After-find-value
-find-value-before-put-tag c = c .before .before .before .before .before .before
-
-abbrev find-value-before-slice-known9 : tie.After-slice-known9 → tie.After-find-value
-find-value-before-slice-known9 c = find-value-before-put-tag (c .before .before .before .before .before .before)
-
-abbrev find-value-before-slice-known11 : tie.After-slice-known11 → tie.After-find-value
-find-value-before-slice-known11 c = find-value-before-slice-known9 (c .before .before .before .before .before .before)
-
-abbrev grown-before-keys : tie.After-keys → tie.After-grown
-grown-before-keys c = c .before .before .before .before .before .before
-
-abbrev grown-before-features : tie.After-features → tie.After-grown
-grown-before-features c = grown-before-keys (c .before .before .before .before .before .before)
-
-abbrev grown-before-note-arg2 : tie.After-note-arg2 → tie.After-grown
-grown-before-note-arg2 c = grown-before-features (c .before .before .before .before .before .before)
-
-abbrev put-tag-before-slice-known9 : tie.After-slice-known9 → tie.After-put-tag
-put-tag-before-slice-known9 c = c .before .before .before .before .before .before
-
-abbrev put-tag-before-slice-known11 : tie.After-slice-known11 → tie.After-put-tag
-put-tag-before-slice-known11 c = put-tag-before-slice-known9 (c .before .before .before .before .before .before)
 
 at-fit : (c : tie.Start) → Fit (c .args .s .used) (length (c .args .keys .now)) (length (c .args .values .now)) (length (c .args .texts .now)) (length (c .args .features .now))
 at-fit c = let g = c .args in may-fit (g .s) (g .o) (g .key .now) (g .v) (g .text .now) (g .keys .now) (g .values .now) (g .texts .now) (g .features .now) (g .ki .now) (g .vi .now) (c .pre)
 
 mul-k : tie.Need-mul-k
-mul-k c = record { fits = omega (arith, at-fit (start-before-slice-known4 (c .before .before .before .before))) }
+mul-k c = record { fits = omega (arith, at-fit (slice-known-before-u (c .before) .before .before .before)) }
 
 mul-e : tie.Need-mul-e
-mul-e c = record { fits = omega (arith, at-fit (start-before-slice-known4 (c .before .before .before .before .before))) }
+mul-e c = record { fits = omega (arith, at-fit (slice-known-before-u (c .before .before) .before .before .before)) }
 
 room-requires : tie.Need-room-requires
 room-requires c κs = search needs
@@ -128,46 +62,46 @@ hash-value-requires : tie.Need-hash-value-requires
 hash-value-requires c κs = search needs
 
 slice-reshare-prefix-find-key : tie.Need-slice-reshare-prefix-find-key
-slice-reshare-prefix-find-key c = at-fit (start-before-room (c .before .before .before)) .in-keys
+slice-reshare-prefix-find-key c = at-fit (slice-known-before-u (u-before-find-key-arg c) .before .before .before) .in-keys
 
 slice-aggregate-find-key : tie.Need-slice-aggregate-find-key
-slice-aggregate-find-key c = sym (length-take-le _ _ (at-fit (start-before-room (c .before .before .before .before)) .in-keys))
+slice-aggregate-find-key c = sym (length-take-le _ _ (at-fit (slice-known-before-u (u-before-find-key-arg (c .before)) .before .before .before) .in-keys))
 
 slice-reshare-prefix-find-key-2 : tie.Need-slice-reshare-prefix-find-key-2
-slice-reshare-prefix-find-key-2 c = at-fit (start-before-room (c .before .before .before .before)) .in-texts
+slice-reshare-prefix-find-key-2 c = at-fit (slice-known-before-u (u-before-find-key-arg (c .before)) .before .before .before) .in-texts
 
 slice-aggregate-find-key-2 : tie.Need-slice-aggregate-find-key-2
-slice-aggregate-find-key-2 c = sym (length-take-le _ _ (at-fit (start-before-room (c .before .before .before .before .before)) .in-texts))
+slice-aggregate-find-key-2 c = sym (length-take-le _ _ (at-fit (slice-known-before-u (u-before-find-key-arg (c .before .before)) .before .before .before) .in-texts))
 
 find-key-requires : tie.Need-find-key-requires
 find-key-requires c κs = search needs
 
 slice-reshare-prefix-find-value : tie.Need-slice-reshare-prefix-find-value
-slice-reshare-prefix-find-value c = at-fit (start-before-find-key (c .before)) .in-values
+slice-reshare-prefix-find-value c = at-fit (start-before-slice-known4 (slice-known4-before-room (room-before-find-key (c .before)))) .in-values
 
 slice-aggregate-find-value : tie.Need-slice-aggregate-find-value
-slice-aggregate-find-value c = sym (length-take-le _ _ (at-fit (start-before-find-key (c .before .before)) .in-values))
+slice-aggregate-find-value c = sym (length-take-le _ _ (at-fit (start-before-slice-known4 (slice-known4-before-room (room-before-find-key (c .before .before)))) .in-values))
 
 slice-reshare-prefix-find-value-2 : tie.Need-slice-reshare-prefix-find-value-2
-slice-reshare-prefix-find-value-2 c = at-fit (start-before-find-key (c .before .before)) .in-texts
+slice-reshare-prefix-find-value-2 c = at-fit (start-before-slice-known4 (slice-known4-before-room (room-before-find-key (c .before .before)))) .in-texts
 
 slice-aggregate-find-value-2 : tie.Need-slice-aggregate-find-value-2
-slice-aggregate-find-value-2 c = sym (length-take-le _ _ (at-fit (start-before-find-key (c .before .before .before)) .in-texts))
+slice-aggregate-find-value-2 c = sym (length-take-le _ _ (at-fit (slice-known-before-u (u-before-find-key-arg (find-key-arg-before-find-value-arg3 c)) .before .before .before) .in-texts))
 
 find-value-requires : tie.Need-find-value-requires
 find-value-requires c κs = search needs
 
 grown-requires : tie.Need-grown-requires
 grown-requires c κs =
-    let s = start-before-find-key (c .before .before .before .before) in
+    let s = slice-known-before-u (u-before-find-key-arg (find-key-arg-before-find-value-arg3 (c .before))) .before .before .before in
     let g = s .args in
     may-small (g .s) (g .o) (g .key .now) (g .v) (g .text .now) (g .keys .now) (g .values .now) (g .texts .now) (g .features .now) (g .ki .now) (g .vi .now) (s .pre)
 
 put-tag-requires : tie.Need-put-tag-requires
 put-tag-requires c κs =
-    let s = start-before-put-tag-arg (c .before .before .before) in
+    let s = slice-known-before-u (u-before-find-key-arg (find-key-arg-before-find-value-arg3 (find-value-arg3-before-put-tag-arg4 c))) .before .before .before in
     let g = s .args in
-    may-room (g .s) (g .o) (g .key .now) (g .v) (g .text .now) (g .keys .now) (g .values .now) (g .texts .now) (g .features .now) (g .ki .now) (g .vi .now) (s .pre) _ (room-before-put-tag-arg (c .before .before .before) .room .ensures) _ _ (hash-text-before-put-tag-arg2 (c .before .before) .hash-text .ensures) (hash-value-before-put-tag-arg3 (c .before) .hash-value .ensures) _ _ (find-key-before-put-tag-arg (c .before .before .before) .find-key .ensures) (c .before .before .before .before .before .find-value .ensures)
+    may-room (g .s) (g .o) (g .key .now) (g .v) (g .text .now) (g .keys .now) (g .values .now) (g .texts .now) (g .features .now) (g .ki .now) (g .vi .now) (s .pre) _ (find-key-arg-before-find-value-arg3 (find-value-arg3-before-put-tag-arg4 c) .before .before .before .room .ensures) _ _ (find-key-arg-before-find-value-arg3 (find-value-arg3-before-put-tag-arg4 c) .before .before .hash-text .ensures) (find-key-arg-before-find-value-arg3 (find-value-arg3-before-put-tag-arg4 c) .before .hash-value .ensures) _ _ (find-value-arg3-before-put-tag-arg4 c .before .before .before .find-key .ensures) (c .before .before .before .before .before .find-value .ensures)
 
 note-requires : tie.Need-note-requires
 note-requires c κs = search needs
@@ -195,9 +129,9 @@ same-length-6 c = search needs
 
 returns : tie.Need-returns
 returns c =
-    let s = start-before-note2 (c .before .before) in
+    let s = start-before-slice-known4 (slice-known4-before-room (room-before-find-key (find-key-before-put-tag-arg (put-tag-arg-before-slice-known7 (slice-known7-before-slice-known10 (slice-known10-before-note2 (c .before .before))))))) in
     let g = s .args in
-    tag-left (g .s) (g .o) (g .key .now) (g .v) (g .text .now) (g .keys .now) (g .values .now) (g .texts .now) (g .features .now) (g .ki .now) (g .vi .now) (s .pre) _ (room-before-note2 (c .before .before) .room .ensures) _ _ (hash-text-before-vi (c .before) .hash-text .ensures) (hash-value-before-note (c .before .before .before .before .before .before) .hash-value .ensures) _ _ (find-key-before-note2 (c .before .before) .find-key .ensures) (find-value-before-slice-known11 (c .before .before .before .before) .find-value .ensures) _ (grown-before-note-arg2 (c .before .before .before) .grown .ensures) _ _ _ _ (put-tag-before-slice-known11 (c .before .before .before .before) .put-tag .ensures) _ _ (c .before .before .before .before .before .before .note .ensures) (c .before .before .note2 .ensures)
+    tag-left (g .s) (g .o) (g .key .now) (g .v) (g .text .now) (g .keys .now) (g .values .now) (g .texts .now) (g .features .now) (g .ki .now) (g .vi .now) (s .pre) _ (room-before-find-key (find-key-before-put-tag-arg (put-tag-arg-before-slice-known7 (slice-known7-before-slice-known10 (slice-known10-before-note2 (c .before .before))))) .room .ensures) _ _ (find-key-before-put-tag-arg (put-tag-arg-before-slice-known7 (slice-known7-before-slice-known10 (slice-known10-before-note2 (c .before .before)))) .before .before .before .before .before .hash-text .ensures) (find-key-before-put-tag-arg (put-tag-arg-before-slice-known7 (slice-known7-before-slice-known10 (slice-known10-before-note2 (c .before .before)))) .before .before .before .before .hash-value .ensures) _ _ (find-key-before-put-tag-arg (put-tag-arg-before-slice-known7 (slice-known7-before-slice-known10 (slice-known10-before-note2 (c .before .before)))) .find-key .ensures) (put-tag-arg-before-slice-known7 (slice-known7-before-slice-known10 (slice-known10-before-note2 (c .before .before))) .before .before .find-value .ensures) _ (put-tag-arg-before-slice-known7 (slice-known7-before-slice-known10 (slice-known10-before-note2 (c .before .before))) .before .grown .ensures) _ _ _ _ (slice-known7-before-slice-known10 (slice-known10-before-note2 (c .before .before)) .before .before .put-tag .ensures) _ _ (c .before .before .before .before .before .before .note .ensures) (c .before .before .note2 .ensures)
 
 pub put-by-index-spec : {M : Type 1} → statement M
 put-by-index-spec =

@@ -23,35 +23,14 @@ start-before-slice-known4 c = c .before .before .before .before .before .before
 abbrev at-loop-before-put-tag-at-arg5 : (tie.After-put-tag-at-arg5 Inv-loop μ-loop) → (tie.At-loop Inv-loop μ-loop)
 at-loop-before-put-tag-at-arg5 c = c .before .before .before .before .before .before
 
-abbrev shared-slice-known-before-slice-known5 : (tie.After-slice-known5 Inv-loop μ-loop) → (tie.After-shared-slice-known Inv-loop μ-loop)
-shared-slice-known-before-slice-known5 c = c .before .before .before .before .before .before
+abbrev slice-known8-before-slice-known11 : (tie.After-slice-known11 Inv-loop μ-loop) → (tie.After-slice-known8 Inv-loop μ-loop)
+slice-known8-before-slice-known11 c = c .before .before .before .before .before .before
 
-abbrev shared-slice-known-before-put-tag-at-arg3 : (tie.After-put-tag-at-arg3 Inv-loop μ-loop) → (tie.After-shared-slice-known Inv-loop μ-loop)
-shared-slice-known-before-put-tag-at-arg3 c = shared-slice-known-before-slice-known5 (c .before .before .before .before .before .before)
+abbrev put-tag-at-arg5-before-slice-known8 : (tie.After-slice-known8 Inv-loop μ-loop) → (tie.After-put-tag-at-arg5 Inv-loop μ-loop)
+put-tag-at-arg5-before-slice-known8 c = c .before .before .before .before .before .before
 
-abbrev shared-slice-known-before-slice-known7 : (tie.After-slice-known7 Inv-loop μ-loop) → (tie.After-shared-slice-known Inv-loop μ-loop)
-shared-slice-known-before-slice-known7 c = shared-slice-known-before-put-tag-at-arg3 (c .before .before .before .before .before .before)
-
-abbrev shared-slice-known-before-slice-known10 : (tie.After-slice-known10 Inv-loop μ-loop) → (tie.After-shared-slice-known Inv-loop μ-loop)
-shared-slice-known-before-slice-known10 c = shared-slice-known-before-slice-known7 (c .before .before .before .before .before .before)
-
-abbrev at-loop-before-slice-known8 : (tie.After-slice-known8 Inv-loop μ-loop) → (tie.At-loop Inv-loop μ-loop)
-at-loop-before-slice-known8 c = at-loop-before-put-tag-at-arg5 (c .before .before .before .before .before .before)
-
-abbrev at-loop-before-slice-known11 : (tie.After-slice-known11 Inv-loop μ-loop) → (tie.At-loop Inv-loop μ-loop)
-at-loop-before-slice-known11 c = at-loop-before-slice-known8 (c .before .before .before .before .before .before)
-
-abbrev in-loop-before-put-tag-at-arg6 : (tie.After-put-tag-at-arg6 Inv-loop μ-loop) → (tie.In-loop Inv-loop μ-loop)
-in-loop-before-put-tag-at-arg6 c = c .before .before .before .before .before .before
-
-abbrev in-loop-before-texts : (tie.After-texts Inv-loop μ-loop) → (tie.In-loop Inv-loop μ-loop)
-in-loop-before-texts c = in-loop-before-put-tag-at-arg6 (c .before .before .before .before .before .before)
-
-abbrev in-loop-before-vi : (tie.After-vi Inv-loop μ-loop) → (tie.In-loop Inv-loop μ-loop)
-in-loop-before-vi c = in-loop-before-texts (c .before .before .before .before .before .before)
-
-abbrev put-tag-at-before-slice-known9 : (tie.After-slice-known9 Inv-loop μ-loop) → (tie.After-put-tag-at Inv-loop μ-loop)
-put-tag-at-before-slice-known9 c = c .before .before .before .before .before .before
+abbrev slice-known-before-at-loop : (tie.At-loop Inv-loop μ-loop) → (tie.After-slice-known Inv-loop μ-loop)
+slice-known-before-at-loop c = c .before .before .before .before .before .before
 
 loop-holds : tie.Need-loop-holds Inv-loop μ-loop
 loop-holds c = let s = start-before-slice-known4 (c .before .before) in let g = s .args in begin (g .s) (g .o) (g .tags .now) (g .bytes .now) (g .keys .now) (g .values .now) (g .texts .now) (g .features .now) (idx (g .ki .now) (g .vi .now)) (s .pre)
@@ -63,13 +42,13 @@ put-tag-at-requires c κs =
     (there _ _ _ _ _ _ _ _ _ _ I (omega (arith, h)), may-tag _ _ _ _ _ _ _ _ _ _ I (omega (arith, h)))
 
 add-i : tie.Need-add-i Inv-loop μ-loop
-add-i c = record { fits = omega (arith, shared-slice-known-before-slice-known10 (c .before .before .before .before), there _ _ _ _ _ _ _ _ _ _ (at-loop-before-slice-known11 (c .before .before) .loop .inv) (omega (arith, in-loop-before-vi (c .before) .loop-test)) .words) }
+add-i c = record { fits = omega (arith, slice-known-before-at-loop (at-loop-before-put-tag-at-arg5 (put-tag-at-arg5-before-slice-known8 (slice-known8-before-slice-known11 (c .before .before)))) .before .before, there _ _ _ _ _ _ _ _ _ _ (at-loop-before-put-tag-at-arg5 (put-tag-at-arg5-before-slice-known8 (slice-known8-before-slice-known11 (c .before .before))) .loop .inv) (omega (arith, put-tag-at-arg5-before-slice-known8 (slice-known8-before-slice-known11 (c .before .before)) .before .before .before .before .before .loop-test)) .words) }
 
 loop-less : tie.Need-loop-less Inv-loop μ-loop
-loop-less c = omega (arith, in-loop-before-vi (c .before) .loop-test)
+loop-less c = omega (arith, put-tag-at-arg5-before-slice-known8 (slice-known8-before-slice-known11 (c .before .before)) .before .before .before .before .before .loop-test)
 
 loop-again : tie.Need-loop-again Inv-loop μ-loop
-loop-again c = turn _ _ _ _ _ _ _ _ _ _ (at-loop-before-slice-known11 (c .before .before) .loop .inv) (omega (arith, in-loop-before-vi (c .before) .loop-test)) _ _ _ (put-tag-at-before-slice-known9 (c .before .before .before .before .before .before) .put-tag-at .ensures)
+loop-again c = turn _ _ _ _ _ _ _ _ _ _ (at-loop-before-put-tag-at-arg5 (put-tag-at-arg5-before-slice-known8 (slice-known8-before-slice-known11 (c .before .before))) .loop .inv) (omega (arith, put-tag-at-arg5-before-slice-known8 (slice-known8-before-slice-known11 (c .before .before)) .before .before .before .before .before .loop-test)) _ _ _ (slice-known8-before-slice-known11 (c .before .before) .before .before .before .before .put-tag-at .ensures)
 
 same-length : tie.Need-same-length Inv-loop μ-loop
 same-length c = c .before .loop .inv .long .keys

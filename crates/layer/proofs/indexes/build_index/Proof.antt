@@ -14,26 +14,20 @@ use Rattle.layer.proofs.indexes.build_index.Tie as tie
 abbrev start-before-slice-known2 : tie.After-slice-known2 → tie.Start
 start-before-slice-known2 c = c .before .before .before .before .before .before
 
-abbrev start-before-index-keys-arg : tie.After-index-keys-arg → tie.Start
-start-before-index-keys-arg c = start-before-slice-known2 (c .before .before .before .before .before .before)
+abbrev shared-slice-known3-before-used : tie.After-used → tie.After-shared-slice-known3
+shared-slice-known3-before-used c = c .before .before .before .before .before .before
 
-abbrev start-before-index-values-arg : tie.After-index-values-arg → tie.Start
-start-before-index-values-arg c = start-before-index-keys-arg (c .before .before .before .before .before .before)
+abbrev slice-known2-before-index-keys-arg : tie.After-index-keys-arg → tie.After-slice-known2
+slice-known2-before-index-keys-arg c = c .before .before .before .before .before .before
 
-abbrev else1-before-index-keys-arg2 : tie.After-index-keys-arg2 → tie.Else1
-else1-before-index-keys-arg2 c = c .before .before .before .before .before .before
-
-abbrev else1-before-index-values-arg2 : tie.After-index-values-arg2 → tie.Else1
-else1-before-index-values-arg2 c = else1-before-index-keys-arg2 (c .before .before .before .before .before .before)
-
-abbrev room-before-index-keys-arg3 : tie.After-index-keys-arg3 → tie.After-room
-room-before-index-keys-arg3 c = c .before .before .before .before .before .before
-
-abbrev room-before-index-values-arg3 : tie.After-index-values-arg3 → tie.After-room
-room-before-index-values-arg3 c = room-before-index-keys-arg3 (c .before .before .before .before .before .before)
+abbrev index-keys-arg-before-index-values-arg : tie.After-index-values-arg → tie.After-index-keys-arg
+index-keys-arg-before-index-values-arg c = c .before .before .before .before .before .before
 
 abbrev index-keys-before-index-values : tie.After-index-values → tie.After-index-keys
 index-keys-before-index-values c = c .before .before .before .before .before .before
+
+abbrev used-before-index-keys : tie.After-index-keys → tie.After-used
+used-before-index-keys c = c .before .before .before .before .before .before
 
 at-fit : (c : tie.Start) → Fit (c .args .s .used) (length (c .args .keys .now)) (length (c .args .values .now)) (length (c .args .texts .now)) (length (c .args .features .now))
 at-fit c = let g = c .args in in-lists (g .s) (mem (g .keys .now) (g .values .now) (g .texts .now) (g .features .now)) (c .pre) (g .ki .now) (g .vi .now)
@@ -45,25 +39,25 @@ room-requires : tie.Need-room-requires
 room-requires c κs = search needs
 
 mul-k : tie.Need-mul-k
-mul-k c = record { fits = omega (arith, at-fit (start-before-slice-known2 (c .before .before .before .before))) }
+mul-k c = record { fits = omega (arith, at-fit (shared-slice-known3-before-used (c .before) .before .before .before)) }
 
 mul-v : tie.Need-mul-v
-mul-v c = record { fits = omega (arith, at-fit (start-before-slice-known2 (c .before .before .before .before .before))) }
+mul-v c = record { fits = omega (arith, at-fit (shared-slice-known3-before-used (c .before .before) .before .before .before)) }
 
 slice-aggregate-index-keys : tie.Need-slice-aggregate-index-keys
-slice-aggregate-index-keys c = sym (length-take-le _ _ (at-fit (start-before-slice-known2 (c .before .before .before .before .before .before)) .in-keys))
+slice-aggregate-index-keys c = sym (length-take-le _ _ (at-fit (start-before-slice-known2 (slice-known2-before-index-keys-arg c)) .in-keys))
 
 slice-aggregate-index-keys-2 : tie.Need-slice-aggregate-index-keys-2
-slice-aggregate-index-keys-2 c = sym (length-take-le _ _ (at-fit (start-before-index-keys-arg (c .before)) .in-texts))
+slice-aggregate-index-keys-2 c = sym (length-take-le _ _ (at-fit (start-before-slice-known2 (slice-known2-before-index-keys-arg (c .before))) .in-texts))
 
 index-keys-requires : tie.Need-index-keys-requires
 index-keys-requires c κs = search needs
 
 slice-aggregate-index-values : tie.Need-slice-aggregate-index-values
-slice-aggregate-index-values c = sym (length-take-le _ _ (at-fit (start-before-index-keys-arg (c .before .before .before .before .before .before)) .in-values))
+slice-aggregate-index-values c = sym (length-take-le _ _ (at-fit (start-before-slice-known2 (slice-known2-before-index-keys-arg (index-keys-arg-before-index-values-arg c))) .in-values))
 
 slice-aggregate-index-values-2 : tie.Need-slice-aggregate-index-values-2
-slice-aggregate-index-values-2 c = sym (length-take-le _ _ (at-fit (start-before-index-values-arg (c .before)) .in-texts))
+slice-aggregate-index-values-2 c = sym (length-take-le _ _ (at-fit (start-before-slice-known2 (slice-known2-before-index-keys-arg (index-keys-arg-before-index-values-arg (c .before)))) .in-texts))
 
 index-values-requires : tie.Need-index-values-requires
 index-values-requires c κs = search needs
@@ -76,9 +70,9 @@ same-length-2 c = search needs
 
 returns-2 : tie.Need-returns-2
 returns-2 c =
-    let s = start-before-index-values-arg (c .before .before .before .before .before) in
+    let s = shared-slice-known3-before-used (used-before-index-keys (index-keys-before-index-values (c .before .before))) .before .before .before in
     let g = s .args in
-    both-built (g .s) (mem (g .keys .now) (g .values .now) (g .texts .now) (g .features .now)) (s .pre) (g .ki .now) (g .vi .now) (g .built) (else1-before-index-values-arg2 (c .before .before .before .before) .if1 .left) _ (room-before-index-values-arg3 (c .before .before .before) .room .ensures) _ _ (index-keys-before-index-values (c .before .before) .index-keys .ensures) (c .before .before .index-values .ensures)
+    both-built (g .s) (mem (g .keys .now) (g .values .now) (g .texts .now) (g .features .now)) (s .pre) (g .ki .now) (g .vi .now) (g .built) (used-before-index-keys (index-keys-before-index-values (c .before .before)) .before .before .if1 .left) _ (used-before-index-keys (index-keys-before-index-values (c .before .before)) .before .room .ensures) _ _ (index-keys-before-index-values (c .before .before) .index-keys .ensures) (c .before .before .index-values .ensures)
 
 pub build-index-spec : {M : Type 1} → statement M
 build-index-spec =

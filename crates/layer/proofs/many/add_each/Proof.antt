@@ -18,122 +18,35 @@ abbrev μ-loop : tie.MeasureT-loop
 μ-loop stands heads words tags bytes keys₀ values₀ texts₀ features₀ ki₀ vi₀ t₀ i₀ w₀ g₀ n₀ keys values texts features ki vi t i w g n = length heads - i
 
 -- the places on the way
-abbrev start-before-slice-known2 : (tie.After-slice-known2 Inv-loop μ-loop) → (tie.Start Inv-loop μ-loop)
-start-before-slice-known2 c = c .before .before .before .before .before .before
-
-abbrev shared-slice-known2-before-slice-known4 : (tie.After-slice-known4 Inv-loop μ-loop) → (tie.After-shared-slice-known2 Inv-loop μ-loop)
-shared-slice-known2-before-slice-known4 c = c .before .before .before .before .before .before
-
-abbrev shared-slice-known2-before-shared-slice-known5 : (tie.After-shared-slice-known5 Inv-loop μ-loop) → (tie.After-shared-slice-known2 Inv-loop μ-loop)
-shared-slice-known2-before-shared-slice-known5 c = shared-slice-known2-before-slice-known4 (c .before .before .before .before .before .before)
-
 abbrev shared-slice-known3-before-slice-known5 : (tie.After-slice-known5 Inv-loop μ-loop) → (tie.After-shared-slice-known3 Inv-loop μ-loop)
 shared-slice-known3-before-slice-known5 c = c .before .before .before .before .before .before
 
-abbrev shared-slice-known3-before-wide : (tie.After-wide Inv-loop μ-loop) → (tie.After-shared-slice-known3 Inv-loop μ-loop)
-shared-slice-known3-before-wide c = shared-slice-known3-before-slice-known5 (c .before .before .before .before .before .before)
-
-abbrev at-loop-before-wide2 : (tie.After-wide2 Inv-loop μ-loop) → (tie.At-loop Inv-loop μ-loop)
-at-loop-before-wide2 c = c .before .before .before .before .before .before
-
-abbrev at-loop-before-add-known-arg6 : (tie.After-add-known-arg6 Inv-loop μ-loop) → (tie.At-loop Inv-loop μ-loop)
-at-loop-before-add-known-arg6 c = at-loop-before-wide2 (c .before .before .before .before .before .before)
+abbrev slice-known5-before-wide : (tie.After-wide Inv-loop μ-loop) → (tie.After-slice-known5 Inv-loop μ-loop)
+slice-known5-before-wide c = c .before .before .before .before .before .before
 
 abbrev in-loop-before-add-known-arg : (tie.After-add-known-arg Inv-loop μ-loop) → (tie.In-loop Inv-loop μ-loop)
 in-loop-before-add-known-arg c = c .before .before .before .before .before .before
 
-abbrev in-loop-before-add-known-arg7 : (tie.After-add-known-arg7 Inv-loop μ-loop) → (tie.In-loop Inv-loop μ-loop)
-in-loop-before-add-known-arg7 c = in-loop-before-add-known-arg (c .before .before .before .before .before .before)
-
-abbrev at-loop-before-values : (tie.After-values Inv-loop μ-loop) → (tie.At-loop Inv-loop μ-loop)
-at-loop-before-values c = at-loop-before-add-known-arg6 (c .before .before .before .before .before .before)
-
-abbrev at-loop-before-ki : (tie.After-ki Inv-loop μ-loop) → (tie.At-loop Inv-loop μ-loop)
-at-loop-before-ki c = at-loop-before-values (c .before .before .before .before .before .before)
-
-abbrev keys-before-features : (tie.After-features Inv-loop μ-loop) → (tie.After-keys Inv-loop μ-loop)
-keys-before-features c = c .before .before .before .before .before .before
-
-abbrev keys-before-at-match-keys2 : (tie.At-match-keys2 Inv-loop μ-loop) → (tie.After-keys Inv-loop μ-loop)
-keys-before-at-match-keys2 c = keys-before-features (c .before .before .before .before .before .before)
-
-abbrev values-before-ki : (tie.After-ki Inv-loop μ-loop) → (tie.After-values Inv-loop μ-loop)
-values-before-ki c = c .before .before .before .before .before .before
-
-abbrev texts-before-vi : (tie.After-vi Inv-loop μ-loop) → (tie.After-texts Inv-loop μ-loop)
-texts-before-vi c = c .before .before .before .before .before .before
+abbrev add-known-arg-before-add-known-arg7 : (tie.After-add-known-arg7 Inv-loop μ-loop) → (tie.After-add-known-arg Inv-loop μ-loop)
+add-known-arg-before-add-known-arg7 c = c .before .before .before .before .before .before
 
 abbrev features-before-at-match-keys2 : (tie.At-match-keys2 Inv-loop μ-loop) → (tie.After-features Inv-loop μ-loop)
 features-before-at-match-keys2 c = c .before .before .before .before .before .before
 
-abbrev add-known-before-slice-known9 : (tie.After-slice-known9 Inv-loop μ-loop) → (tie.After-add-known Inv-loop μ-loop)
-add-known-before-slice-known9 c = c .before .before .before .before .before .before
+abbrev keys-before-features : (tie.After-features Inv-loop μ-loop) → (tie.After-keys Inv-loop μ-loop)
+keys-before-features c = c .before .before .before .before .before .before
 
-abbrev add-known-before-slice-known12 : (tie.After-slice-known12 Inv-loop μ-loop) → (tie.After-add-known Inv-loop μ-loop)
-add-known-before-slice-known12 c = add-known-before-slice-known9 (c .before .before .before .before .before .before)
-
-abbrev in-loop-before-slice-known8 : (tie.After-slice-known8 Inv-loop μ-loop) → (tie.In-loop Inv-loop μ-loop)
-in-loop-before-slice-known8 c = in-loop-before-add-known-arg7 (c .before .before .before .before .before .before)
-
-abbrev in-loop-before-slice-known11 : (tie.After-slice-known11 Inv-loop μ-loop) → (tie.In-loop Inv-loop μ-loop)
-in-loop-before-slice-known11 c = in-loop-before-slice-known8 (c .before .before .before .before .before .before)
-
-abbrev head-at-before-add-known-arg2 : (tie.After-add-known-arg2 Inv-loop μ-loop) → (tie.After-head-at Inv-loop μ-loop)
-head-at-before-add-known-arg2 c = c .before .before .before .before .before .before
-
-abbrev head-at-before-add-known-arg8 : (tie.After-add-known-arg8 Inv-loop μ-loop) → (tie.After-head-at Inv-loop μ-loop)
-head-at-before-add-known-arg8 c = head-at-before-add-known-arg2 (c .before .before .before .before .before .before)
-
-abbrev head-at-before-texts : (tie.After-texts Inv-loop μ-loop) → (tie.After-head-at Inv-loop μ-loop)
-head-at-before-texts c = head-at-before-add-known-arg8 (c .before .before .before .before .before .before)
-
-abbrev head-at-before-vi : (tie.After-vi Inv-loop μ-loop) → (tie.After-head-at Inv-loop μ-loop)
-head-at-before-vi c = head-at-before-texts (c .before .before .before .before .before .before)
+abbrev add-known-arg4-before-keys : (tie.After-keys Inv-loop μ-loop) → (tie.After-add-known-arg4 Inv-loop μ-loop)
+add-known-arg4-before-keys c = c .before .before .before .before .before .before
 
 abbrev wide-before-add-known-arg4 : (tie.After-add-known-arg4 Inv-loop μ-loop) → (tie.After-wide Inv-loop μ-loop)
 wide-before-add-known-arg4 c = c .before .before .before .before .before .before
 
-abbrev wide-before-keys : (tie.After-keys Inv-loop μ-loop) → (tie.After-wide Inv-loop μ-loop)
-wide-before-keys c = wide-before-add-known-arg4 (c .before .before .before .before .before .before)
-
-abbrev wide-before-features : (tie.After-features Inv-loop μ-loop) → (tie.After-wide Inv-loop μ-loop)
-wide-before-features c = wide-before-keys (c .before .before .before .before .before .before)
-
-abbrev wide-before-at-match-keys2 : (tie.At-match-keys2 Inv-loop μ-loop) → (tie.After-wide Inv-loop μ-loop)
-wide-before-at-match-keys2 c = wide-before-features (c .before .before .before .before .before .before)
-
-abbrev wide2-before-add-known-arg6 : (tie.After-add-known-arg6 Inv-loop μ-loop) → (tie.After-wide2 Inv-loop μ-loop)
-wide2-before-add-known-arg6 c = c .before .before .before .before .before .before
-
-abbrev wide2-before-values : (tie.After-values Inv-loop μ-loop) → (tie.After-wide2 Inv-loop μ-loop)
-wide2-before-values c = wide2-before-add-known-arg6 (c .before .before .before .before .before .before)
-
-abbrev wide2-before-ki : (tie.After-ki Inv-loop μ-loop) → (tie.After-wide2 Inv-loop μ-loop)
-wide2-before-ki c = wide2-before-values (c .before .before .before .before .before .before)
-
-abbrev shared-slice-known-before-slice-known3 : (tie.After-slice-known3 Inv-loop μ-loop) → (tie.After-shared-slice-known Inv-loop μ-loop)
-shared-slice-known-before-slice-known3 c = c .before .before .before .before .before .before
-
-abbrev shared-slice-known-before-head-at : (tie.After-head-at Inv-loop μ-loop) → (tie.After-shared-slice-known Inv-loop μ-loop)
-shared-slice-known-before-head-at c = shared-slice-known-before-slice-known3 (c .before .before .before .before .before .before)
-
-abbrev shared-slice-known-before-add-known-arg2 : (tie.After-add-known-arg2 Inv-loop μ-loop) → (tie.After-shared-slice-known Inv-loop μ-loop)
-shared-slice-known-before-add-known-arg2 c = shared-slice-known-before-head-at (c .before .before .before .before .before .before)
-
-abbrev shared-slice-known-before-add-known-arg8 : (tie.After-add-known-arg8 Inv-loop μ-loop) → (tie.After-shared-slice-known Inv-loop μ-loop)
-shared-slice-known-before-add-known-arg8 c = shared-slice-known-before-add-known-arg2 (c .before .before .before .before .before .before)
-
-abbrev shared-slice-known-before-texts : (tie.After-texts Inv-loop μ-loop) → (tie.After-shared-slice-known Inv-loop μ-loop)
-shared-slice-known-before-texts c = shared-slice-known-before-add-known-arg8 (c .before .before .before .before .before .before)
-
-abbrev shared-slice-known-before-vi : (tie.After-vi Inv-loop μ-loop) → (tie.After-shared-slice-known Inv-loop μ-loop)
-shared-slice-known-before-vi c = shared-slice-known-before-texts (c .before .before .before .before .before .before)
-
-abbrev wide-before-at-match-keys1 : (tie.At-match-keys1 Inv-loop μ-loop) → (tie.After-wide Inv-loop μ-loop)
-wide-before-at-match-keys1 c = wide-before-features (c .before .before .before .before .before .before)
+abbrev features-before-at-match-keys1 : (tie.At-match-keys1 Inv-loop μ-loop) → (tie.After-features Inv-loop μ-loop)
+features-before-at-match-keys1 c = c .before .before .before .before .before .before
 
 loop-holds : tie.Need-loop-holds Inv-loop μ-loop
-loop-holds c = let s = start-before-slice-known2 (c .before .before .before .before) in let g = s .args in begin (g .heads .now) (g .words .now) (g .tags .now) (g .bytes .now) (g .stands) (g .s) (mem (g .keys .now) (g .values .now) (g .texts .now) (g .features .now)) (idx (g .ki .now) (g .vi .now)) (s .pre .0) (s .pre .1)
+loop-holds c = let s = shared-slice-known3-before-slice-known5 (c .before) .before .before .before in let g = s .args in begin (g .heads .now) (g .words .now) (g .tags .now) (g .bytes .now) (g .stands) (g .s) (mem (g .keys .now) (g .values .now) (g .texts .now) (g .features .now)) (idx (g .ki .now) (g .vi .now)) (s .pre .0) (s .pre .1)
 
 head-at-requires : tie.Need-head-at-requires Inv-loop μ-loop
 head-at-requires c κs = head-there _ _ _ _ _ _ _ _ _ _ _ _ _ _ _ (c .before .loop .inv) (c .loop-test .taken)
@@ -151,7 +64,7 @@ wide-requires : tie.Need-wide-requires Inv-loop μ-loop
 wide-requires c κs = search needs
 
 add-a : tie.Need-add-a Inv-loop μ-loop
-add-a c = record { fits = omega (arith, shared-slice-known2-before-shared-slice-known5 (c .before), words-there _ _ _ _ _ _ _ _ _ _ _ _ _ _ _ (c .before .before .before .before .loop .inv) (c .before .before .before .loop-test .taken) _ (c .wide .ensures .same)) }
+add-a c = record { fits = omega (arith, shared-slice-known3-before-slice-known5 (slice-known5-before-wide c) .before, words-there _ _ _ _ _ _ _ _ _ _ _ _ _ _ _ (c .before .before .before .before .loop .inv) (c .before .before .before .loop-test .taken) _ (c .wide .ensures .same)) }
 
 add-wide-2 : tie.Need-add-wide-2 Inv-loop μ-loop
 add-wide-2 c = let k = head-there _ _ _ _ _ _ _ _ _ _ _ _ _ _ _ (c .before .before .before .before .loop .inv) (c .before .before .before .loop-test .taken) in search needs
@@ -166,7 +79,7 @@ wide-requires-2 : tie.Need-wide-requires-2 Inv-loop μ-loop
 wide-requires-2 c κs = search needs
 
 add-b : tie.Need-add-b Inv-loop μ-loop
-add-b c = record { fits = omega (arith, shared-slice-known3-before-wide (c .before .before), tags-there _ _ _ _ _ _ _ _ _ _ _ _ _ _ _ (c .before .before .before .before .before .before .loop .inv) (c .before .before .before .before .before .loop-test .taken) _ (c .wide2 .ensures .same)) }
+add-b c = record { fits = omega (arith, shared-slice-known3-before-slice-known5 (slice-known5-before-wide (c .before .before)), tags-there _ _ _ _ _ _ _ _ _ _ _ _ _ _ _ (c .before .before .before .before .before .before .loop .inv) (c .before .before .before .before .before .loop-test .taken) _ (c .wide2 .ensures .same)) }
 
 mul-add-known : tie.Need-mul-add-known Inv-loop μ-loop
 mul-add-known c = search needs
@@ -190,10 +103,10 @@ part-add-known-start-2 : tie.Need-part-add-known-start-2 Inv-loop μ-loop
 part-add-known-start-2 c = search needs
 
 part-add-known-end-2 : tie.Need-part-add-known-end-2 Inv-loop μ-loop
-part-add-known-end-2 c = omega (arith, tags-there _ _ _ _ _ _ _ _ _ _ _ _ _ _ _ (at-loop-before-wide2 (c .before) .loop .inv) (c .before .before .before .before .before .before .loop-test .taken) _ (c .before .wide2 .ensures .same))
+part-add-known-end-2 c = omega (arith, tags-there _ _ _ _ _ _ _ _ _ _ _ _ _ _ _ (in-loop-before-add-known-arg c .before .loop .inv) (c .before .before .before .before .before .before .loop-test .taken) _ (c .before .wide2 .ensures .same))
 
 add-known-requires : tie.Need-add-known-requires Inv-loop μ-loop
-add-known-requires c κs = known _ _ _ _ _ _ _ _ _ _ _ _ _ _ _ (at-loop-before-add-known-arg6 (c .before .before) .loop .inv) (in-loop-before-add-known-arg7 (c .before) .loop-test .taken) _ refl
+add-known-requires c κs = known _ _ _ _ _ _ _ _ _ _ _ _ _ _ _ (in-loop-before-add-known-arg (add-known-arg-before-add-known-arg7 (c .before)) .before .loop .inv) (in-loop-before-add-known-arg (add-known-arg-before-add-known-arg7 (c .before)) .loop-test .taken) _ refl
 
 enum-known-u : tie.Need-enum-known-u Inv-loop μ-loop
 enum-known-u c = search needs
@@ -202,41 +115,41 @@ enum-known-r : tie.Need-enum-known-r Inv-loop μ-loop
 enum-known-r c = search needs
 
 same-length : tie.Need-same-length Inv-loop μ-loop
-same-length c = let h = at-loop-before-ki (c .before .before .before .before .before .before) .loop .inv .long .keys in omega (arith, keys-before-at-match-keys2 (c .before .before), h)
+same-length c = let h = wide-before-add-known-arg4 (add-known-arg4-before-keys (keys-before-features (features-before-at-match-keys2 (c .before .before)))) .before .before .before .before .loop .inv .long .keys in omega (arith, keys-before-features (features-before-at-match-keys2 (c .before .before)), h)
 
 same-length-2 : tie.Need-same-length-2 Inv-loop μ-loop
-same-length-2 c = let h = at-loop-before-ki (c .before .before .before .before .before .before) .loop .inv .long .values in omega (arith, values-before-ki (c .before .before .before .before .before .before), h)
+same-length-2 c = let h = wide-before-add-known-arg4 (add-known-arg4-before-keys (keys-before-features (features-before-at-match-keys2 (c .before .before)))) .before .before .before .before .loop .inv .long .values in omega (arith, features-before-at-match-keys2 (c .before .before) .before .before .before .before, h)
 
 same-length-3 : tie.Need-same-length-3 Inv-loop μ-loop
-same-length-3 c = let h = at-loop-before-ki (c .before .before .before .before .before .before) .loop .inv .long .texts in omega (arith, texts-before-vi (c .before .before .before .before), h)
+same-length-3 c = let h = wide-before-add-known-arg4 (add-known-arg4-before-keys (keys-before-features (features-before-at-match-keys2 (c .before .before)))) .before .before .before .before .loop .inv .long .texts in omega (arith, features-before-at-match-keys2 (c .before .before) .before .before, h)
 
 same-length-4 : tie.Need-same-length-4 Inv-loop μ-loop
-same-length-4 c = let h = at-loop-before-ki (c .before .before .before .before .before .before) .loop .inv .long .features in omega (arith, features-before-at-match-keys2 (c .before .before), h)
+same-length-4 c = let h = wide-before-add-known-arg4 (add-known-arg4-before-keys (keys-before-features (features-before-at-match-keys2 (c .before .before)))) .before .before .before .before .loop .inv .long .features in omega (arith, features-before-at-match-keys2 (c .before .before), h)
 
 same-length-5 : tie.Need-same-length-5 Inv-loop μ-loop
-same-length-5 c = let h = at-loop-before-ki (c .before .before .before .before .before .before) .loop .inv .kept .keys-long in omega (arith, c .before .before .before .before .before .before, h)
+same-length-5 c = let h = wide-before-add-known-arg4 (add-known-arg4-before-keys (keys-before-features (features-before-at-match-keys2 (c .before .before)))) .before .before .before .before .loop .inv .kept .keys-long in omega (arith, c .before .before .before .before .before .before, h)
 
 same-length-6 : tie.Need-same-length-6 Inv-loop μ-loop
-same-length-6 c = let h = at-loop-before-ki (c .before .before .before .before .before .before) .loop .inv .kept .values-long in omega (arith, c .before .before .before .before, h)
+same-length-6 c = let h = wide-before-add-known-arg4 (add-known-arg4-before-keys (keys-before-features (features-before-at-match-keys2 (c .before .before)))) .before .before .before .before .loop .inv .kept .values-long in omega (arith, c .before .before .before .before, h)
 
 returns : tie.Need-returns Inv-loop μ-loop
 returns c =
-    let a = as-refused _ _ _ _ _ _ _ (add-known-before-slice-known12 (c .before .before .before) .add-known .ensures) _ _ (c .before .r .given .1) in
-    stops _ _ _ _ _ _ _ _ _ _ _ _ _ _ _ (at-loop-before-ki (c .before .before .before .before .before .before) .loop .inv) (in-loop-before-slice-known11 (c .before .before .before .before .before) .loop-test .taken) _ _ _ (head-at-before-vi (c .before .before .before .before) .head-at .ensures) (wide-before-at-match-keys2 (c .before .before) .wide .ensures .same) (wide2-before-ki (c .before .before .before .before .before .before) .wide2 .ensures .same) _ _ _ _ a
+    let a = as-refused _ _ _ _ _ _ _ (keys-before-features (features-before-at-match-keys2 (c .before .before)) .before .add-known .ensures) _ _ (c .before .r .given .1) in
+    stops _ _ _ _ _ _ _ _ _ _ _ _ _ _ _ (wide-before-add-known-arg4 (add-known-arg4-before-keys (keys-before-features (features-before-at-match-keys2 (c .before .before)))) .before .before .before .before .loop .inv) (wide-before-add-known-arg4 (add-known-arg4-before-keys (keys-before-features (features-before-at-match-keys2 (c .before .before)))) .before .before .before .loop-test .taken) _ _ _ (wide-before-add-known-arg4 (add-known-arg4-before-keys (keys-before-features (features-before-at-match-keys2 (c .before .before)))) .before .before .head-at .ensures) (wide-before-add-known-arg4 (add-known-arg4-before-keys (keys-before-features (features-before-at-match-keys2 (c .before .before)))) .wide .ensures .same) (add-known-arg4-before-keys (keys-before-features (features-before-at-match-keys2 (c .before .before))) .before .before .before .before .wide2 .ensures .same) _ _ _ _ a
 
 add-i : tie.Need-add-i Inv-loop μ-loop
-add-i c = record { fits = omega (arith, shared-slice-known-before-vi (c .before .before .before .before), head-there _ _ _ _ _ _ _ _ _ _ _ _ _ _ _ (at-loop-before-ki (c .before .before .before .before .before .before) .loop .inv) (in-loop-before-slice-known11 (c .before .before .before .before .before) .loop-test .taken)) }
+add-i c = record { fits = omega (arith, shared-slice-known3-before-slice-known5 (slice-known5-before-wide (wide-before-add-known-arg4 (add-known-arg4-before-keys (keys-before-features (features-before-at-match-keys1 (c .before .before)))))) .before .before, head-there _ _ _ _ _ _ _ _ _ _ _ _ _ _ _ (wide-before-add-known-arg4 (add-known-arg4-before-keys (keys-before-features (features-before-at-match-keys1 (c .before .before)))) .before .before .before .before .loop .inv) (wide-before-add-known-arg4 (add-known-arg4-before-keys (keys-before-features (features-before-at-match-keys1 (c .before .before)))) .before .before .before .loop-test .taken)) }
 
 add-n : tie.Need-add-n Inv-loop μ-loop
-add-n c = let F = at-loop-before-ki (c .before .before .before .before .before .before) .loop .inv in record { fits = omega (arith, shared-slice-known-before-vi (c .before .before .before .before), F .few, F .at) }
+add-n c = let F = wide-before-add-known-arg4 (add-known-arg4-before-keys (keys-before-features (features-before-at-match-keys1 (c .before .before)))) .before .before .before .before .loop .inv in record { fits = omega (arith, shared-slice-known3-before-slice-known5 (slice-known5-before-wide (wide-before-add-known-arg4 (add-known-arg4-before-keys (keys-before-features (features-before-at-match-keys1 (c .before .before)))))) .before .before, F .few, F .at) }
 
 loop-less : tie.Need-loop-less Inv-loop μ-loop
-loop-less c = omega (arith, in-loop-before-slice-known11 (c .before .before .before .before .before) .loop-test)
+loop-less c = omega (arith, wide-before-add-known-arg4 (add-known-arg4-before-keys (keys-before-features (features-before-at-match-keys1 (c .before .before)))) .before .before .before .loop-test)
 
 loop-again : tie.Need-loop-again Inv-loop μ-loop
 loop-again c =
-    let a = as-done _ _ _ _ _ _ _ (add-known-before-slice-known12 (c .before .before .before) .add-known .ensures) _ (c .before .u .given .1) in
-    turn _ _ _ _ _ _ _ _ _ _ _ _ _ _ _ (at-loop-before-ki (c .before .before .before .before .before .before) .loop .inv) (in-loop-before-slice-known11 (c .before .before .before .before .before) .loop-test .taken) _ _ _ (head-at-before-vi (c .before .before .before .before) .head-at .ensures) (wide-before-at-match-keys1 (c .before .before) .wide .ensures .same) (wide2-before-ki (c .before .before .before .before .before .before) .wide2 .ensures .same) _ _ _ a
+    let a = as-done _ _ _ _ _ _ _ (keys-before-features (features-before-at-match-keys1 (c .before .before)) .before .add-known .ensures) _ (c .before .u .given .1) in
+    turn _ _ _ _ _ _ _ _ _ _ _ _ _ _ _ (wide-before-add-known-arg4 (add-known-arg4-before-keys (keys-before-features (features-before-at-match-keys1 (c .before .before)))) .before .before .before .before .loop .inv) (wide-before-add-known-arg4 (add-known-arg4-before-keys (keys-before-features (features-before-at-match-keys1 (c .before .before)))) .before .before .before .loop-test .taken) _ _ _ (wide-before-add-known-arg4 (add-known-arg4-before-keys (keys-before-features (features-before-at-match-keys1 (c .before .before)))) .before .before .head-at .ensures) (wide-before-add-known-arg4 (add-known-arg4-before-keys (keys-before-features (features-before-at-match-keys1 (c .before .before)))) .wide .ensures .same) (add-known-arg4-before-keys (keys-before-features (features-before-at-match-keys1 (c .before .before))) .before .before .before .before .wide2 .ensures .same) _ _ _ a
 
 same-length-7 : tie.Need-same-length-7 Inv-loop μ-loop
 same-length-7 c = c .before .before .loop .inv .long .keys

@@ -6,29 +6,14 @@ use Rattle.layer.proofs.tags.add_tag.Statement.{statement}
 use Rattle.layer.proofs.tags.add_tag.Tie as tie
 
 -- the places on the way
-abbrev start-before-slice-known4 : tie.After-slice-known4 → tie.Start
-start-before-slice-known4 c = c .before .before .before .before .before .before
-
-abbrev start-before-else1 : tie.Else1 → tie.Start
-start-before-else1 c = start-before-slice-known4 (c .before .before .before .before .before .before)
-
-abbrev start-before-f : tie.After-f → tie.Start
-start-before-f c = start-before-else1 (c .before .before .before .before .before .before)
-
-abbrev is-valid-before-at-match-keys1 : tie.At-match-keys1 → tie.After-is-valid
-is-valid-before-at-match-keys1 c = c .before .before .before .before .before .before
-
-abbrev else1-before-f : tie.After-f → tie.Else1
-else1-before-f c = c .before .before .before .before .before .before
-
-abbrev may-have-before-known-told : tie.After-known-told → tie.After-may-have
-may-have-before-known-told c = c .before .before .before .before .before .before
-
-abbrev else2-before-tag-arg : tie.After-tag-arg → tie.Else2
-else2-before-tag-arg c = c .before .before .before .before .before .before
-
 abbrev may-have2-before-tag-arg2 : tie.After-tag-arg2 → tie.After-may-have2
 may-have2-before-tag-arg2 c = c .before .before .before .before .before .before
+
+abbrev is-valid-arg3-before-may-have2 : tie.After-may-have2 → tie.After-is-valid-arg3
+is-valid-arg3-before-may-have2 c = c .before .before .before .before .before .before
+
+abbrev slice-known-before-is-valid-arg3 : tie.After-is-valid-arg3 → tie.After-slice-known
+slice-known-before-is-valid-arg3 c = c .before .before .before .before .before .before
 
 abbrev else3-before-tag-arg3 : tie.After-tag-arg3 → tie.Else3
 else3-before-tag-arg3 c = c .before .before .before .before .before .before
@@ -110,8 +95,8 @@ returns-4 c = search (needs, chain)
 
 tag-requires : tie.Need-tag-requires
 tag-requires c κs =
-    let g = start-before-f (c .before .before .before .before .before) .args in
-    tag-ready (g .s) (g .keys .now) (g .values .now) (g .texts .now) (g .features .now) _ (is-valid-before-at-match-keys1 (c .before .before .before .before .before .before) .is-valid .ensures) (else1-before-f (c .before .before .before .before .before) .if1 .left) _ _ _ _ (may-have-before-known-told (c .before .before .before .before) .may-have .ensures) (else2-before-tag-arg (c .before .before .before) .if2 .left) (may-have2-before-tag-arg2 (c .before .before) .may-have2 .ensures) (else3-before-tag-arg3 (c .before) .if3 .left) _ (c .before .before .before .before .before .f .given .1)
+    let g = slice-known-before-is-valid-arg3 (is-valid-arg3-before-may-have2 (may-have2-before-tag-arg2 (c .before .before))) .before .before .before .args in
+    tag-ready (g .s) (g .keys .now) (g .values .now) (g .texts .now) (g .features .now) _ (may-have2-before-tag-arg2 (c .before .before) .before .before .before .before .is-valid .ensures) (may-have2-before-tag-arg2 (c .before .before) .before .before .before .if1 .left) _ _ _ _ (may-have2-before-tag-arg2 (c .before .before) .before .before .may-have .ensures) (may-have2-before-tag-arg2 (c .before .before) .before .if2 .left) (may-have2-before-tag-arg2 (c .before .before) .may-have2 .ensures) (else3-before-tag-arg3 (c .before) .if3 .left) _ (c .before .before .before .before .before .f .given .1)
 
 same-length-17 : tie.Need-same-length-17
 same-length-17 c = search needs

@@ -13,53 +13,29 @@ use Rattle.layer.proofs.tags.tag.Tie as tie
 abbrev start-before-slice-known4 : tie.After-slice-known4 → tie.Start
 start-before-slice-known4 c = c .before .before .before .before .before .before
 
-abbrev start-before-key-pos : tie.After-key-pos → tie.Start
-start-before-key-pos c = start-before-slice-known4 (c .before .before .before .before .before .before)
+abbrev slice-known-before-struct-known2 : tie.After-struct-known2 → tie.After-slice-known
+slice-known-before-struct-known2 c = c .before .before .before .before .before .before
 
-abbrev start-before-else1 : tie.Else1 → tie.Start
-start-before-else1 c = start-before-key-pos (c .before .before .before .before .before .before)
+abbrev slice-known4-before-key-pos : tie.After-key-pos → tie.After-slice-known4
+slice-known4-before-key-pos c = c .before .before .before .before .before .before
 
-abbrev key-pos-before-else1 : tie.Else1 → tie.After-key-pos
-key-pos-before-else1 c = c .before .before .before .before .before .before
+abbrev struct-known2-before-val-pos : tie.After-val-pos → tie.After-struct-known2
+struct-known2-before-val-pos c = c .before .before .before .before .before .before
+
+abbrev key-pos-before-then1 : tie.Then1 → tie.After-key-pos
+key-pos-before-then1 c = c .before .before .before .before .before .before
 
 abbrev val-pos-before-put-tag-arg3 : tie.After-put-tag-arg3 → tie.After-val-pos
 val-pos-before-put-tag-arg3 c = c .before .before .before .before .before .before
 
-abbrev start-before-keys : tie.After-keys → tie.Start
-start-before-keys c = start-before-else1 (c .before .before .before .before .before .before)
-
-abbrev start-before-features : tie.After-features → tie.Start
-start-before-features c = start-before-keys (c .before .before .before .before .before .before)
-
-abbrev key-pos-before-keys : tie.After-keys → tie.After-key-pos
-key-pos-before-keys c = key-pos-before-else1 (c .before .before .before .before .before .before)
-
-abbrev key-pos-before-features : tie.After-features → tie.After-key-pos
-key-pos-before-features c = key-pos-before-keys (c .before .before .before .before .before .before)
-
-abbrev val-pos-before-slice-known6 : tie.After-slice-known6 → tie.After-val-pos
-val-pos-before-slice-known6 c = val-pos-before-put-tag-arg3 (c .before .before .before .before .before .before)
-
-abbrev grown-before-put-tag-arg4 : tie.After-put-tag-arg4 → tie.After-grown
-grown-before-put-tag-arg4 c = c .before .before .before .before .before .before
-
-abbrev grown-before-texts : tie.After-texts → tie.After-grown
-grown-before-texts c = grown-before-put-tag-arg4 (c .before .before .before .before .before .before)
-
-abbrev has-room-for-before-put-tag : tie.After-put-tag → tie.After-has-room-for
-has-room-for-before-put-tag c = c .before .before .before .before .before .before
-
-abbrev has-room-for-before-slice-known7 : tie.After-slice-known7 → tie.After-has-room-for
-has-room-for-before-slice-known7 c = has-room-for-before-put-tag (c .before .before .before .before .before .before)
+abbrev keys-before-features : tie.After-features → tie.After-keys
+keys-before-features c = c .before .before .before .before .before .before
 
 abbrev else1-before-keys : tie.After-keys → tie.Else1
 else1-before-keys c = c .before .before .before .before .before .before
 
-abbrev else1-before-features : tie.After-features → tie.Else1
-else1-before-features c = else1-before-keys (c .before .before .before .before .before .before)
-
-abbrev put-tag-before-slice-known7 : tie.After-slice-known7 → tie.After-put-tag
-put-tag-before-slice-known7 c = c .before .before .before .before .before .before
+abbrev key-pos-before-else1 : tie.Else1 → tie.After-key-pos
+key-pos-before-else1 c = c .before .before .before .before .before .before
 
 at-fit : (c : tie.Start) → Fit (c .args .s .used) (length (c .args .keys .now)) (length (c .args .values .now)) (length (c .args .texts .now)) (length (c .args .features .now))
 at-fit c = fit _ _ _ _ _ (c .pre .room)
@@ -68,41 +44,41 @@ mul-k : tie.Need-mul-k
 mul-k c = record { fits = omega (arith, at-fit (start-before-slice-known4 (c .before .before))) }
 
 mul-e : tie.Need-mul-e
-mul-e c = record { fits = omega (arith, at-fit (start-before-slice-known4 (c .before .before .before))) }
+mul-e c = record { fits = omega (arith, at-fit (slice-known-before-struct-known2 c .before .before .before)) }
 
 slice-reshare-prefix-key-pos : tie.Need-slice-reshare-prefix-key-pos
-slice-reshare-prefix-key-pos c = at-fit (start-before-slice-known4 (c .before .before .before)) .in-keys
+slice-reshare-prefix-key-pos c = at-fit (slice-known-before-struct-known2 c .before .before .before) .in-keys
 
 slice-aggregate-key-pos : tie.Need-slice-aggregate-key-pos
-slice-aggregate-key-pos c = sym (length-take-le _ _ (at-fit (start-before-slice-known4 (c .before .before .before .before)) .in-keys))
+slice-aggregate-key-pos c = sym (length-take-le _ _ (at-fit (slice-known-before-struct-known2 (c .before) .before .before .before) .in-keys))
 
 slice-reshare-prefix-key-pos-2 : tie.Need-slice-reshare-prefix-key-pos-2
-slice-reshare-prefix-key-pos-2 c = at-fit (start-before-slice-known4 (c .before .before .before .before)) .in-texts
+slice-reshare-prefix-key-pos-2 c = at-fit (slice-known-before-struct-known2 (c .before) .before .before .before) .in-texts
 
 slice-aggregate-key-pos-2 : tie.Need-slice-aggregate-key-pos-2
-slice-aggregate-key-pos-2 c = sym (length-take-le _ _ (at-fit (start-before-slice-known4 (c .before .before .before .before .before)) .in-texts))
+slice-aggregate-key-pos-2 c = sym (length-take-le _ _ (at-fit (slice-known-before-struct-known2 (c .before .before) .before .before .before) .in-texts))
 
 key-pos-requires : tie.Need-key-pos-requires
 key-pos-requires c κs = search needs
 
 slice-reshare-prefix-val-pos : tie.Need-slice-reshare-prefix-val-pos
-slice-reshare-prefix-val-pos c = at-fit (start-before-slice-known4 (c .before .before .before .before .before .before)) .in-values
+slice-reshare-prefix-val-pos c = at-fit (start-before-slice-known4 (slice-known4-before-key-pos c)) .in-values
 
 slice-aggregate-val-pos : tie.Need-slice-aggregate-val-pos
-slice-aggregate-val-pos c = sym (length-take-le _ _ (at-fit (start-before-key-pos (c .before)) .in-values))
+slice-aggregate-val-pos c = sym (length-take-le _ _ (at-fit (start-before-slice-known4 (slice-known4-before-key-pos (c .before))) .in-values))
 
 slice-reshare-prefix-val-pos-2 : tie.Need-slice-reshare-prefix-val-pos-2
-slice-reshare-prefix-val-pos-2 c = at-fit (start-before-key-pos (c .before)) .in-texts
+slice-reshare-prefix-val-pos-2 c = at-fit (start-before-slice-known4 (slice-known4-before-key-pos (c .before))) .in-texts
 
 slice-aggregate-val-pos-2 : tie.Need-slice-aggregate-val-pos-2
-slice-aggregate-val-pos-2 c = sym (length-take-le _ _ (at-fit (start-before-key-pos (c .before .before)) .in-texts))
+slice-aggregate-val-pos-2 c = sym (length-take-le _ _ (at-fit (start-before-slice-known4 (slice-known4-before-key-pos (c .before .before))) .in-texts))
 
 val-pos-requires : tie.Need-val-pos-requires
 val-pos-requires c κs = search needs
 
 grown-requires : tie.Need-grown-requires
 grown-requires c κs =
-    let s = start-before-key-pos (c .before .before .before) in
+    let s = slice-known-before-struct-known2 (struct-known2-before-val-pos c) .before .before .before in
     let g = s .args in
     ready-small (g .s) (g .o) (g .key .now) (g .v) (g .text .now) (g .keys .now) (g .values .now) (g .texts .now) (g .features .now) (s .pre)
 
@@ -120,15 +96,15 @@ same-length-3 c = search needs
 
 returns : tie.Need-returns
 returns c =
-    let s = start-before-key-pos (c .before .before .before .before .before .before) in
+    let s = start-before-slice-known4 (slice-known4-before-key-pos (key-pos-before-then1 c)) in
     let g = s .args in
     tag-full (g .s) (g .o) (g .key .now) (g .v) (g .text .now) (g .keys .now) (g .values .now) (g .texts .now) (g .features .now) (s .pre) _ _ (c .before .before .before .before .before .before .key-pos .ensures) (c .before .before .before .val-pos .ensures) _ (c .before .before .grown .ensures) _ (c .before .has-room-for .ensures) (c .if1 .taken)
 
 put-tag-requires : tie.Need-put-tag-requires
 put-tag-requires c κs =
-    let s = start-before-else1 (c .before .before .before .before) in
+    let s = slice-known-before-struct-known2 (struct-known2-before-val-pos (val-pos-before-put-tag-arg3 (c .before))) .before .before .before in
     let g = s .args in
-    tag-room (g .s) (g .o) (g .key .now) (g .v) (g .text .now) (g .keys .now) (g .values .now) (g .texts .now) (g .features .now) (s .pre) _ _ (key-pos-before-else1 (c .before .before .before .before) .key-pos .ensures) (val-pos-before-put-tag-arg3 (c .before) .val-pos .ensures) _ (c .before .before .before .before .before .before .grown .ensures) _ (c .before .before .before .before .before .has-room-for .ensures) (c .before .before .before .before .if1 .left)
+    tag-room (g .s) (g .o) (g .key .now) (g .v) (g .text .now) (g .keys .now) (g .values .now) (g .texts .now) (g .features .now) (s .pre) _ _ (val-pos-before-put-tag-arg3 (c .before) .before .before .before .key-pos .ensures) (val-pos-before-put-tag-arg3 (c .before) .val-pos .ensures) _ (c .before .before .before .before .before .before .grown .ensures) _ (c .before .before .before .before .before .has-room-for .ensures) (c .before .before .before .before .if1 .left)
 
 same-length-4 : tie.Need-same-length-4
 same-length-4 c = search needs
@@ -144,9 +120,9 @@ same-length-7 c = search needs
 
 returns-2 : tie.Need-returns-2
 returns-2 c =
-    let s = start-before-features (c .before) in
+    let s = start-before-slice-known4 (slice-known4-before-key-pos (key-pos-before-else1 (else1-before-keys (keys-before-features (c .before))))) in
     let g = s .args in
-    tag-done (g .s) (g .o) (g .key .now) (g .v) (g .text .now) (g .keys .now) (g .values .now) (g .texts .now) (g .features .now) (s .pre) _ _ (key-pos-before-features (c .before) .key-pos .ensures) (val-pos-before-slice-known6 (c .before .before .before .before) .val-pos .ensures) _ (grown-before-texts (c .before .before .before) .grown .ensures) _ (has-room-for-before-slice-known7 (c .before .before) .has-room-for .ensures) (else1-before-features (c .before) .if1 .left) _ _ _ _ (put-tag-before-slice-known7 (c .before .before) .put-tag .ensures)
+    tag-done (g .s) (g .o) (g .key .now) (g .v) (g .text .now) (g .keys .now) (g .values .now) (g .texts .now) (g .features .now) (s .pre) _ _ (key-pos-before-else1 (else1-before-keys (keys-before-features (c .before))) .key-pos .ensures) (else1-before-keys (keys-before-features (c .before)) .before .before .before .val-pos .ensures) _ (else1-before-keys (keys-before-features (c .before)) .before .before .grown .ensures) _ (else1-before-keys (keys-before-features (c .before)) .before .has-room-for .ensures) (else1-before-keys (keys-before-features (c .before)) .if1 .left) _ _ _ _ (keys-before-features (c .before) .before .put-tag .ensures)
 
 pub tag-spec : {M : Type 1} → statement M
 tag-spec =
