@@ -18,7 +18,7 @@ use Rattle.clip.specs.declared.Clipped.{Clipped}
 use Rattle.clip.specs.declared.Clipped.the-variants.{Done as Cut, Refused as NotCut}
 use Rattle.clip.specs.Domain.{isGood, isInside}
 use Rattle.clip.specs.Answer.{saidClipped, clipped}
-use Rattle.clip.proofs.Tests.{both}
+use Rattle.promise.proofs.Joined.{both}
 use Rattle.clip.proofs.Callers.{box-refused, kept-inside}
 use Rattle.encoder.specs.declared.GeomEncoder.{GeomEncoder}
 use Rattle.encoder.specs.declared.Started.{Started}

@@ -24,17 +24,16 @@ use Rattle.refusal.proofs.Laws.{one-refusal, never-both}
 use Rattle.clip.specs.declared.Pt.{Pt}
 use Rattle.clip.specs.declared.Seg.{Seg}
 use Rattle.clip.specs.declared.BBox.{BBox}
-use Rattle.clip.specs.declared.Crossing.{Crossing}
-use Rattle.clip.specs.declared.Crossing.the-variants.{Missing, At}
 use Rattle.clip.specs.declared.ClippedSeg.{ClippedSeg}
 use Rattle.clip.specs.declared.Clipped.{Clipped}
 use Rattle.clip.specs.declared.Clipped.the-variants.{Done, Refused}
 use Rattle.clip.specs.Domain.{limit, within, isCoord, isGood, isInside}
 use Rattle.clip.specs.Facts.{Within, Coord, Good}
-use Rattle.clip.specs.Cutting.{crossAtX, crossAtY, replace, cutXMin, cutXMax, cutYMin, cutYMax, cuts, overlap, clip}
+use Rattle.clip.specs.Cutting.{Crossing, Missing, At, crossAtX, crossAtY, replace, cutXMin, cutXMax, cutYMin, cutYMax, cuts, overlap, clip}
 use Rattle.clip.specs.Answer.{saidClipped, areCoords, clipped}
 use Rattle.clip.specs.Demand3.{Demand3, Inside, Placed, Moved}
-use Rattle.clip.proofs.Tests.{le-is, lt-is, lt-not, both, both-is}
+use Rattle.whole.proofs.Cases.{le-is, lt-is, lt-not}
+use Rattle.promise.proofs.Joined.{both, both-is}
 use Rattle.clip.proofs.Ends.{Proper}
 use Rattle.clip.proofs.Demands.{demand-3}
 

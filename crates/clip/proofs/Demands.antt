@@ -15,7 +15,9 @@ use Rattle.clip.specs.declared.Seg.{Seg}
 use Rattle.clip.specs.declared.BBox.{BBox}
 use Rattle.clip.specs.Cutting.{most, least, cuts, overlap, clip, swap}
 use Rattle.clip.specs.Demand3.{Inside, Share, Meets, along, Demand3}
-use Rattle.clip.proofs.Tests.{most-lt, lt-least, le-is, both-is}
+use Rattle.whole.proofs.Cases.{le-is}
+use Rattle.promise.proofs.Joined.{both-is}
+use Rattle.clip.proofs.Tests.{most-lt, lt-least}
 use Rattle.clip.proofs.Ends.{Side, low, high, endsX, endsY, ends, swapBox, reversed, Proper, swap-proper}
 use Rattle.clip.proofs.Readings.{cuts-are-ends}
 use Rattle.clip.proofs.Slopes.{both-below, both-above}

@@ -6,9 +6,7 @@ use lib.Signed.{_<ℤ_, ltZ}
 use Rattle.clip.specs.declared.Pt.{Pt}
 use Rattle.clip.specs.declared.Seg.{Seg}
 use Rattle.clip.specs.declared.BBox.{BBox}
-use Rattle.clip.specs.declared.Crossing.{Crossing}
-use Rattle.clip.specs.declared.Crossing.the-variants.{Missing, At}
-use Rattle.clip.specs.Cutting.{crossAtX, swap}
+use Rattle.clip.specs.Cutting.{Crossing, Missing, At, crossAtX, swapSeg}
 
 -- the lower or the upper one of two edges
 pub data Side : Type 0 where
@@ -39,9 +37,6 @@ endsX s b t = join (move s b (t .p0) (t .p1)) (move s b (t .p1) (t .p0))
 -- x and y change roles
 abbrev pub swapBox : BBox → BBox
 swapBox b = record { «x_min» = b .«y_min»; «x_max» = b .«y_max»; «y_min» = b .«x_min»; «y_max» = b .«x_max» }
-
-abbrev pub swapSeg : Seg → Seg
-swapSeg t = join (swap (t .p0)) (swap (t .p1))
 
 abbrev pub endsY : Side → BBox → Seg → Seg
 endsY s b t = swapSeg (endsX s (swapBox b) (swapSeg t))

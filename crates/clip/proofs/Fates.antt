@@ -14,11 +14,9 @@ use Rattle.whole.proofs.Laws.{prod, next, <-≤, diff<}
 use Rattle.whole.proofs.Auto.{reads, ≤:, <:, ≡:, ≤!, ≡! }
 use Rattle.clip.specs.declared.Pt.{Pt}
 use Rattle.clip.specs.declared.BBox.{BBox}
-use Rattle.clip.specs.declared.Crossing.{Crossing}
-use Rattle.clip.specs.declared.Crossing.the-variants.{Missing}
-use Rattle.clip.specs.Cutting.{swap}
+use Rattle.clip.specs.Cutting.{Crossing, Missing, swap}
 use Rattle.clip.specs.Demand3.{OnEdge, Share, Meets}
-use Rattle.clip.proofs.Tests.{by-lt}
+use Rattle.whole.proofs.Cases.{by-lt}
 use Rattle.clip.proofs.Ends.{Side, low, high, edge, put, move, join, swapBox, Proper}
 use Rattle.clip.proofs.Verdicts.{Nearest, Verdict, level, left, right, under, over, lower, upper, good, back, verdict}
 use Rattle.clip.proofs.Slopes.{Small, Steep, steep, ahead, as-far, both-below, both-above}

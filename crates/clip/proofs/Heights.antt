@@ -16,7 +16,7 @@ use Rattle.whole.proofs.Floors.{floor-ge, floor-lt, floor-is}
 use Rattle.clip.specs.Rounding.{round}
 use Rattle.clip.specs.Cutting.{least, most, height}
 use Rattle.clip.specs.Facts.{Within, Asked}
-use Rattle.clip.proofs.Tests.{by-le}
+use Rattle.whole.proofs.Cases.{by-le}
 use Rattle.clip.proofs.Roundings.{twice-pos}
 
 -- the limit as a size, and that of a difference of two coordinates

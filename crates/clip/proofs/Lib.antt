@@ -12,4 +12,5 @@ pub mod Fates
 pub mod Tracks
 pub mod Held
 pub mod Heights
+pub mod Cuts
 pub mod Returns

@@ -13,7 +13,8 @@ use Rattle.clip.specs.declared.Seg.{Seg}
 use Rattle.clip.specs.declared.BBox.{BBox}
 use Rattle.clip.specs.Cutting.{most, least, cuts, overlap, clip}
 use Rattle.clip.specs.Demand3.{Inside, Share}
-use Rattle.clip.proofs.Tests.{most-lt, lt-least, by-four}
+use Rattle.promise.proofs.Joined.{by-four}
+use Rattle.clip.proofs.Tests.{most-lt, lt-least}
 use Rattle.clip.proofs.Ends.{low, high, join, endsX, endsY, Proper}
 use Rattle.clip.proofs.Readings.{cuts-are-ends}
 use Rattle.clip.proofs.Slopes.{Small}

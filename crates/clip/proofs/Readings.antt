@@ -10,10 +10,8 @@ use Rattle.whole.proofs.Machine.{lt-yes}
 use Rattle.clip.specs.declared.Pt.{Pt}
 use Rattle.clip.specs.declared.Seg.{Seg}
 use Rattle.clip.specs.declared.BBox.{BBox}
-use Rattle.clip.specs.declared.Crossing.{Crossing}
-use Rattle.clip.specs.declared.Crossing.the-variants.{Missing, At}
-use Rattle.clip.specs.Cutting.{crossInOrder, crossAtX, crossAtY, swap, swapped, replace, cutXMin, cutXMax, cutYMin, cutYMax, cuts}
-use Rattle.clip.proofs.Ends.{Side, low, high, edge, beyond, put, move, join, endsX, endsY, ends, swapBox, swapSeg}
+use Rattle.clip.specs.Cutting.{Crossing, Missing, At, crossInOrder, crossAtX, crossAtY, swap, swapped, replace, cutXMin, cutXMax, cutYMin, cutYMax, cuts, swapSeg}
+use Rattle.clip.proofs.Ends.{Side, low, high, edge, beyond, put, move, join, endsX, endsY, ends, swapBox}
 use Rattle.clip.proofs.Verdicts.{verdict}
 use Rattle.clip.proofs.Fates.{Out, none-beyond}
 
@@ -56,7 +54,7 @@ cut-x s b t =
     ap (λ (w : Crossing). join (move s b (t .p0) (t .p1)) (cond (beyond s (edge s b) (t .p1 .x)) (put (t .p1) w) (t .p1))) (crossing-sym (t .p0) (t .p1) (edge s b) (b .«y_min») (b .«y_max»))
 
 -- ---- at y
-swap-replace : (u v : Bool) (t : Seg) (w : Crossing) → replace u v t (swapped w) ≡ swapSeg (replace u v (swapSeg t) w)
+pub swap-replace : (u v : Bool) (t : Seg) (w : Crossing) → replace u v t (swapped w) ≡ swapSeg (replace u v (swapSeg t) w)
 swap-replace u v t Missing = refl
 swap-replace true v t (At p) = refl
 swap-replace false true t (At p) = refl

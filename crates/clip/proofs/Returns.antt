@@ -1,20 +1,15 @@
 -- What the functions return, one law for each way through them, over plain values: the facts that the code's tests and calls tell make the definition's answer.
-use mathlib.Core.Path.{_≡_, refl, sym, _∙_, ap, subst}
-use mathlib.Core.Bool.{Bool, true, false, cond, not, _&&_, _||_}
+use mathlib.Core.Path.{_≡_, refl, sym, _∙_, ap}
+use mathlib.Core.Bool.{Bool, true, false, not, _&&_, _||_}
 use mathlib.Core.Logic.{_⊎_, inl, inr, ⊎-elim}
 use native.Mathlib.Omega.{arith}
 use lib.IntN.{ℤ, negℤ}
 use lib.Signed.{_≤ℤ_, _<ℤ_, ltZ, leZ}
-use Rattle.whole.proofs.Parts.{zarith}
 use Rattle.whole.proofs.Laws.{<-≤, ≤-trans}
-use Rattle.whole.proofs.Machine.{lt-yes, lt-no, le-yes}
+use Rattle.whole.proofs.Machine.{lt-yes, le-yes}
 use borrow.Author.Tests.{not-true, not-false}
-use Rattle.promise.proofs.Cases.{is-yes, is-no}
-use Rattle.clip.specs.declared.Pt.{Pt}
 use Rattle.clip.specs.declared.Seg.{Seg}
 use Rattle.clip.specs.declared.BBox.{BBox}
-use Rattle.clip.specs.declared.Crossing.{Crossing}
-use Rattle.clip.specs.declared.Crossing.the-variants.{Missing, At}
 use Rattle.clip.specs.declared.ClippedSeg.{ClippedSeg}
 use Rattle.clip.specs.declared.Clipped.{Clipped}
 use Rattle.clip.specs.declared.Clipped.the-variants.{Done, Refused}
@@ -23,115 +18,13 @@ use Rattle.clip.specs.Domain.{limit, isCoord, isGood}
 use Rattle.clip.specs.Answer.{saidClipped, areCoords, clipped}
 use Rattle.clip.specs.Numbers.{segAt, boxAt}
 use Rattle.clip.specs.Demand3.{Demand3}
-use Rattle.clip.specs.Facts.{Coord, Good, Asked}
-use Rattle.clip.specs.Cutting.{least, most, height, inRange, reaches, crossInOrder, crossAtX, swap, replace, cutXMin, cutXMax, cutYMin, cutYMax, cuts, clip}
-use Rattle.clip.proofs.Tests.{most-lt, lt-least, le-is, lt-is, both, both-is}
-use Rattle.clip.proofs.Ends.{Side, low, high, edge, beyond, endsX, endsY, join, swapBox, swapSeg}
-use Rattle.clip.proofs.Heights.{above-least, below-most}
-use Rattle.clip.proofs.Verdicts.{verdict}
-use Rattle.clip.proofs.Readings.{crossing-sym, out, at-x-min, at-x-max, at-y-min}
-use Rattle.clip.proofs.Fates.{Fate, clear, moved, stuck, fate, none-beyond}
+use Rattle.clip.specs.Facts.{Coord, Good}
+use Rattle.clip.specs.Cutting.{least, most, clip}
 use Rattle.clip.proofs.Overlaps.{Apart, left, right, under, over, cuts-apart, clip-cuts}
-use Rattle.clip.proofs.Callers.{coord-facts, good-facts, good-is, good-proper, inside-coord, box-refused, coord-refused, not-refused, demand-clip}
-
--- ---- the crossing, with p left of q and the line between them
-module _ (p q : Pt) (c : ℤ) (cp : Coord p) (cq : Coord q) where
-  asked : p .x ≤ℤ c → c ≤ℤ q .x → p .x <ℤ q .x → Asked (p .x) (p .y) (q .x) (q .y) c
-  asked f t l = record { in-x1 = cp .at-x; in-y1 = cp .at-y; in-x2 = cq .at-x; in-y2 = cq .at-y; from = f; to = t; apart = l }
-
-  -- p beyond the lower edge, or q beyond the upper one, and the other not
-  pub asked-low : ltZ (p .x) c ≡ true → ltZ (q .x) c ≡ false → Asked (p .x) (p .y) (q .x) (q .y) c
-  asked-low u v = let h : p .x <ℤ c = lt-yes u in let k : c ≤ℤ q .x = lt-no v in asked (<-≤ h) k (omega zarith)
-
-  pub asked-high : ltZ c (q .x) ≡ true → ltZ c (p .x) ≡ false → Asked (p .x) (p .y) (q .x) (q .y) c
-  asked-high u v = let h : c <ℤ q .x = lt-yes u in let k : p .x ≤ℤ c = lt-no v in asked k (<-≤ h) (omega zarith)
-
-either-way : (t : Bool) (w : Crossing) → w ≡ Missing → cond t w Missing ≡ Missing
-either-way true w e = e
-either-way false w e = refl
-
-module _ (p q : Pt) (c a b h : ℤ) (k : Asked (p .x) (p .y) (q .x) (q .y) c) (e : h ≡ height (p .x) (p .y) (q .x) (q .y) c) where
-  ordered : crossAtX p q c a b ≡ crossInOrder p q c a b
-  unfolding crossAtX
-  ordered = sym (is-yes (ltZ (p .x) (q .x)) (crossInOrder p q c a b) (crossInOrder p q c a b) _ (lt-is (k .apart)) refl)
-
-  -- the height lies between the two y: where it is in range, so the segment reaches that range
-  reached : a ≤ℤ height (p .x) (p .y) (q .x) (q .y) c → height (p .x) (p .y) (q .x) (q .y) c ≤ℤ b → reaches p q c a b ≡ true
-  reached l u = both-is (both-is (le-is (k .from)) (le-is (k .to))) (both-is (le-is (below-most k a l)) (le-is (above-least k b u)))
-
-  pub met : (leZ a h && leZ h b) ≡ true → crossAtX p q c a b ≡ At (record { x = c; y = h })
-  met t =
-      let g = both (leZ a h) (leZ h b) t in
-      let r = reached (subst (λ (z : ℤ). a ≤ℤ z) e (le-yes (g .0))) (subst (λ (z : ℤ). z ≤ℤ b) e (le-yes (g .1))) in
-      let m : At (record { x = c; y = h }) ≡ inRange c a b h = is-yes (leZ a h && leZ h b) _ _ Missing t refl in
-      ordered ∙ sym (is-yes (reaches p q c a b) _ _ Missing r (m ∙ ap (inRange c a b) e))
-
-  pub missed : (leZ a h && leZ h b) ≡ false → crossAtX p q c a b ≡ Missing
-  missed t =
-      let m : Missing ≡ inRange c a b h = is-no (leZ a h && leZ h b) Missing _ Missing t refl in
-      ordered ∙ either-way (reaches p q c a b) _ (sym (m ∙ ap (inRange c a b) e))
-
-  -- the same with the ends exchanged
-  pub met-back : (leZ a h && leZ h b) ≡ true → crossAtX q p c a b ≡ At (record { x = c; y = h })
-  met-back t = crossing-sym q p c a b ∙ met t
-
-  pub missed-back : (leZ a h && leZ h b) ≡ false → crossAtX q p c a b ≡ Missing
-  missed-back t = crossing-sym q p c a b ∙ missed t
-
-pub turned : {p : Pt} → Coord p → Coord (swap p)
-turned h = record { at-x = h .at-y; at-y = h .at-x }
-
--- no crossing where both ends are strictly outside
-pub none-x : (d : Side) (b : BBox) (p q : Pt) → beyond d (edge d b) (p .x) ≡ true → beyond d (edge d b) (q .x) ≡ true → crossAtX p q (edge d b) (b .«y_min») (b .«y_max») ≡ Missing
-none-x d b p q u v = none-beyond d b (out d b p u) (out d b q v) (verdict _ _ _ p q)
-
--- ---- the cuts
-module _ (u v : Bool) (s : Seg) where
-  pub replaced-0 : (w : Crossing) (p : Pt) → w ≡ At p → u ≡ true → join p (s .p1) ≡ replace u v s w
-  replaced-0 w p e f = rw (e, f) refl
-
-  pub replaced-1 : (w : Crossing) (p : Pt) → w ≡ At p → u ≡ false → v ≡ true → join (s .p0) p ≡ replace u v s w
-  replaced-1 w p e f g = rw (e, f, g) refl
-
-  pub not-replaced : (w : Crossing) → w ≡ Missing → s ≡ replace u v s w
-  not-replaced w e = sym (ap (replace u v s) e)
-
-  pub replaced-none : (w : Crossing) → u ≡ false → v ≡ false → s ≡ replace u v s w
-  replaced-none Missing e f = refl
-  replaced-none (At p) e f = rw (e, f) refl
-
--- ---- what is cut stays within the limit
-fate-coord : {s : Side} {b : BBox} {p q r : Pt} → Good b → Coord p → Fate s b p q r → Coord r
-fate-coord g h (clear n) = h
-fate-coord g h (stuck o w) = h
-fate-coord g h (moved r o n e k) = inside-coord g (e .inside)
-
-swap-good : {b : BBox} → Good b → Good (swapBox b)
-swap-good g = record { wide = g .tall; tall = g .wide; left = g .bottom; right = g .top; bottom = g .left; top = g .right }
-
-pub record Coords (s : Seg) : Type 0 where
-  pub end0 : Coord (s .p0)
-  pub end1 : Coord (s .p1)
-
-module _ {b : BBox} (g : Good b) (t : Seg) (h : Coords t) where
-  of-x : (s : Side) → Coords (endsX s b t)
-  of-x s = record { end0 = fate-coord g (h .end0) (fate b (good-proper g) (t .p0) (t .p1) s); end1 = fate-coord g (h .end1) (fate b (good-proper g) (t .p1) (t .p0) s) }
-
-swap-coords : {t : Seg} → Coords t → Coords (swapSeg t)
-swap-coords h = record { end0 = record { at-x = h .end0 .at-y; at-y = h .end0 .at-x }; end1 = record { at-x = h .end1 .at-y; at-y = h .end1 .at-x } }
-
-module _ {b : BBox} (g : Good b) {t : Seg} (h : Coords t) where
-  of-y : (s : Side) → Coords (endsY s b t)
-  of-y s = swap-coords (of-x (swap-good g) (swapSeg t) (swap-coords h) s)
-
-  pub x-min-coords : (r : Seg) → r ≡ cutXMin b t → Coords r
-  x-min-coords r e = subst Coords (sym (e ∙ at-x-min b t)) (of-x g t h low)
-
-  pub x-max-coords : (r : Seg) → r ≡ cutXMax b t → Coords r
-  x-max-coords r e = subst Coords (sym (e ∙ at-x-max b t)) (of-x g t h high)
-
-  pub y-min-coords : (r : Seg) → r ≡ cutYMin b t → Coords r
-  y-min-coords r e = subst Coords (sym (e ∙ at-y-min b t)) (of-y low)
+use Rattle.clip.proofs.Callers.{coord-facts, good-facts, good-is, good-proper, box-refused, coord-refused, not-refused, demand-clip}
+use Rattle.clip.proofs.Tests.{most-lt, lt-least}
+use Rattle.whole.proofs.Cases.{le-is, lt-is}
+use Rattle.promise.proofs.Joined.{both, both-is}
 
 -- ---- tests joined in another order, or with fewer of them
 same : (s t : Bool) → (s ≡ true → t ≡ true) → (t ≡ true → s ≡ true) → s ≡ t
@@ -219,12 +112,6 @@ module _ (b : BBox) (s : Seg) (g : Good b) where
       (λ h. let k = most-lt (s .p0 .y) (s .p1 .y) (b .«y_min») (lt-yes h) in stays (under (k .0) (k .1)))
       (λ h. let k = lt-least (s .p0 .y) (s .p1 .y) (b .«y_max») (lt-yes h) in stays (over (k .0) (k .1)))
       (or-cases (ltZ (most (s .p0 .y) (s .p1 .y)) (b .«y_min»)) (ltZ (b .«y_max») (least (s .p0 .y) (s .p1 .y))) (sym e ∙ t))
-
-  pub four-cuts : (s1 s2 s3 s4 : Seg) → s1 ≡ cutXMin b s → s2 ≡ cutXMax b s1 → s3 ≡ cutYMin b s2 → s4 ≡ cutYMax b s3 → record { seg = s4 } ≡ clip b s
-  unfolding cuts
-  four-cuts s1 s2 s3 s4 e1 e2 e3 e4 =
-      let k : s4 ≡ cuts b s = e4 ∙ ap (cutYMax b) (e3 ∙ ap (cutYMin b) (e2 ∙ ap (cutXMax b) e1)) in
-      ap (λ (t : Seg). record { seg = t }) (k ∙ sym (clip-cuts b (good-proper g) s))
 
 -- ---- clip
 either-no : (t u : Bool) → (t ≡ false) ⊎ (u ≡ false) → (t && u) ≡ false

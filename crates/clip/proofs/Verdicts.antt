@@ -9,12 +9,12 @@ use Rattle.whole.proofs.Laws.{diff<, diff}
 use Rattle.whole.proofs.Machine.{le-yes, le-no}
 use Rattle.whole.proofs.Auto.{reads, ring!, ≤:, <:, ≡:, ≤!, ≡! }
 use Rattle.clip.specs.declared.Pt.{Pt}
-use Rattle.clip.specs.declared.Crossing.{Crossing}
-use Rattle.clip.specs.declared.Crossing.the-variants.{Missing, At}
 use Rattle.clip.specs.Rounding.{Rounded}
-use Rattle.clip.specs.Cutting.{most, least, inRange, crossInOrder, crossAtX}
+use Rattle.clip.specs.Cutting.{Crossing, Missing, At, most, least, inRange, crossInOrder, crossAtX}
 use Rattle.clip.specs.Demand3.{Share}
-use Rattle.clip.proofs.Tests.{by-lt, by-both, by-four, most-lt, lt-least}
+use Rattle.whole.proofs.Cases.{by-lt}
+use Rattle.promise.proofs.Joined.{by-both, by-four}
+use Rattle.clip.proofs.Tests.{most-lt, lt-least}
 use Rattle.clip.proofs.Roundings.{round-is}
 
 -- r is at most half a unit from the height of the line at c, which is n / m of the way from p to q

@@ -11,7 +11,8 @@ use Rattle.clip.specs.declared.Clipped.the-variants.{Done, Refused}
 use Rattle.clip.specs.Domain.{isCoord, isGood}
 use Rattle.clip.specs.Cutting.{clip}
 
--- what each case of the answer says. The values are the clipped segments: one, or none where the call is refused, since a clip has no state and no count to give back
+-- what each case of the answer says. The values are the clipped segments: one, or none where the call is refused, since a clip has no state and no count
+-- to give back
 abbrev pub saidClipped : Clipped → Said (List ClippedSeg)
 saidClipped (Done c) = accepted (c ∷ [])
 saidClipped (Refused r) = refused r []

@@ -1,5 +1,7 @@
--- Document 01, "Cutting a segment", in its order: the crossing at x, the crossing at y, the four cuts; and `bounded_by` as document 01 takes it ("Modules, leaves first").
--- "A crossing replaces the end strictly outside that edge, if one is" is read so: the crossing is found once, p0 is asked before p1. That each end may ask for itself, with the same result,
+-- Document 01, "Cutting a segment", in its order: the crossing at x, the crossing at y, the four cuts; and `bounded_by` as document 01 takes it
+-- ("Modules, leaves first").
+-- "A crossing replaces the end strictly outside that edge, if one is" is read so: the crossing is found once, p0 is asked before p1. That each end may
+-- ask for itself, with the same result,
 -- is `cuts-are-ends` of proofs/Readings; that the overlap test changes no answer is `clip-cuts` of proofs/Overlaps.
 use mathlib.Core.Bool.{Bool, cond, _&&_}
 use lib.IntN.{ℤ, _+ℤ_, _-ℤ_, _*ℤ_}
@@ -7,8 +9,8 @@ use lib.Signed.{ltZ, leZ}
 use Rattle.clip.specs.declared.Pt.{Pt}
 use Rattle.clip.specs.declared.Seg.{Seg}
 use Rattle.clip.specs.declared.BBox.{BBox}
-use Rattle.clip.specs.declared.Crossing.{Crossing}
-use Rattle.clip.specs.declared.Crossing.the-variants.{Missing, At}
+use Rattle.clip.specs.declared.cutting.Meeting.{Meeting}
+use Rattle.clip.specs.declared.cutting.Meeting.the-variants.{Nowhere, At as AtY}
 use Rattle.clip.specs.declared.ClippedSeg.{ClippedSeg}
 use Rattle.clip.specs.Rounding.{round}
 
@@ -22,6 +24,11 @@ most m n = cond (leZ m n) n m
 -- the y at x of the line from (x1, y1) to (x2, y2), x1 < x2, rounded
 abbrev pub height : ℤ → ℤ → ℤ → ℤ → ℤ → ℤ
 height x1 y1 x2 y2 x = y1 +ℤ round ((y2 -ℤ y1) *ℤ (x -ℤ x1)) (x2 -ℤ x1)
+
+-- where a segment crosses an edge's line, if it does
+pub data Crossing : Type 0 where
+  Missing : Crossing
+  At : Pt → Crossing
 
 -- a y outside [a, b] is no crossing
 abbrev pub inRange : ℤ → ℤ → ℤ → ℤ → Crossing
@@ -46,8 +53,16 @@ abbrev pub swapped : Crossing → Crossing
 swapped Missing = Missing
 swapped (At p) = At (swap p)
 
+abbrev pub swapSeg : Seg → Seg
+swapSeg s = record { p0 = swap (s .p0); p1 = swap (s .p1) }
+
 abbrev pub crossAtY : Pt → Pt → ℤ → ℤ → ℤ → Crossing
 crossAtY p q y a b = swapped (crossAtX (swap p) (swap q) y a b)
+
+-- the code's answer for the line at x: a crossing by its y
+abbrev pub metAt : ℤ → Meeting → Crossing
+metAt x Nowhere = Missing
+metAt x (AtY y) = At (record { x = x; y = y })
 
 -- a crossing replaces the end strictly outside that edge, if one is: out0 and out1 say whether p0 and p1 are
 abbrev pub replace : Bool → Bool → Seg → Crossing → Seg

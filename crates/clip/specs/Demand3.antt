@@ -1,10 +1,14 @@
 -- DEMAND 3: what clipping does to a segment, said of the box, of the segment as given and of the segment after clipping.
 --   (a) If the exact segment has a point in the closed box, both ends after clipping lie in the box.
---   (b) Whether it has one or not, an end that clipping moved lies on the box's edge and is less than one from some point of the exact segment as given, in x and in y.
+--   (b) Whether it has one or not, an end that clipping moved lies on the box's edge and is less than one from some point of the exact segment as given,
+-- in x and in y.
 --   (c) Other ends stay as given.
--- The points of the exact segment are fractions. Document 01 gives each by two whole numbers k and d, 0 ≤ k ≤ d and d > 0: it lies at the share k / d of the way from p0 to p1, so that
--- d times its x is d·x0 + k·(x1 - x0), and d times its y is d·y0 + k·(y1 - y0). The box and the ends are multiplied by d to be compared with it, and "less than one" reads less than d.
--- It is the clause `demand3` of clip's promise; `demand-3` of proofs/Demands is the theorem about the definition, for every segment and every box with x_min < x_max and y_min < y_max.
+-- The points of the exact segment are fractions. Document 01 gives each by two whole numbers k and d, 0 ≤ k ≤ d and d > 0: it lies at the share k / d of
+-- the way from p0 to p1, so that
+-- d times its x is d·x0 + k·(x1 - x0), and d times its y is d·y0 + k·(y1 - y0). The box and the ends are multiplied by d to be compared with it, and
+-- "less than one" reads less than d.
+-- It is the clause `demand3` of clip's promise; `demand-3` of proofs/Demands is the theorem about the definition, for every segment and every box with
+-- x_min < x_max and y_min < y_max.
 use mathlib.Core.Logic.{_⊎_}
 use mathlib.Core.Path.{_≡_}
 use lib.IntN.{ℤ, pos, _+ℤ_, _-ℤ_, _*ℤ_}

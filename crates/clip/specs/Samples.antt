@@ -1,4 +1,5 @@
--- Document 01, "Sample jobs": the values at the limit and one beyond, each computed from the definition. (The three P clips stand with the other P samples, in crate `samples`.)
+-- Document 01, "Sample jobs": the values at the limit and one beyond, each computed from the definition. (The three P clips stand with the other P
+-- samples, in crate `samples`.)
 use mathlib.Core.Path.{_≡_, refl}
 use mathlib.Core.List.{List, [], _∷_}
 use lib.IntN.{ℤ, pos, negsuc}

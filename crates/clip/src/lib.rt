@@ -1,17 +1,18 @@
 // Cutting a segment at the edges of a box (document 01, "Cutting a segment"; in the Rust: `clip` for i32 of encoder.rs, with `Pt`, `Seg` and `BBox` of pointy).
 // No loop; a division only for a cut whose line the segment reaches with one end strictly outside; for a segment inside the box nothing but comparisons.
 ghost use mathlib.Core.Path.{_≡_};
-ghost use lib.IntN.{pos};
 ghost use mathlib.Core.Bool.{_||_};
-ghost use lib.Signed.{_<ℤ_, ltZ};
-ghost use Rattle.whole.specs.Floor.{floor};
+ghost use lib.Signed.{ltZ};
 ghost use Rattle.clip.specs.Domain.{limit, within, isCoord, isGood, isInside};
-ghost use Rattle.clip.specs.Facts.{Coord, Good, Asked};
-ghost use Rattle.clip.specs.Cutting.{least, most, height, cutXMin, cutXMax, cutYMin, cutYMax, clip};
+ghost use Rattle.clip.specs.Facts.{Coord, Good};
+ghost use Rattle.clip.specs.Cutting.{least, most, clip};
 ghost use Rattle.clip.specs.Answer.{saidClipped, areCoords, clipped};
 ghost use Rattle.clip.specs.Numbers.{segAt, boxAt};
 ghost use Rattle.clip.specs.Demand3.{Demand3};
+use crate::cutting::cut_all;
 use refusal::Refusal;
+
+mod cutting;
 
 pub struct Pt {
     pub x: i32,
@@ -38,12 +39,6 @@ pub struct ClippedSeg {
 pub enum Clipped {
     Done(ClippedSeg),
     Refused(Refusal),
-}
-
-// Where a segment crosses an edge's line, if it does. The definitions speak of it; the code has its y or its x at hand.
-enum Crossing {
-    Missing,
-    At(Pt),
 }
 
 impl BBox {
@@ -120,28 +115,6 @@ pub fn is_inside(x: i32, y: i32, left: i32, right: i32, bottom: i32, top: i32) -
     (left <= x) & (x <= right) & ((bottom <= y) & (y <= top))
 }
 
-// n / d rounded down, below zero too, for d above zero.
-fn floor_div(n: i64, d: i64) -> i64
-    requires { ⌜ pos 0 <ℤ d ⌝ }
-    ensures { λ r. ⌜ r ≡ floor n d ⌝ }
-{
-    let q = n / d;
-    let r = n % d;
-    if r < 0 { q - 1 } else { q }
-}
-
-// The y at x of the line from (x1, y1) to (x2, y2), rounded to the nearest whole number, halves up.
-fn height_at(x1: i32, y1: i32, x2: i32, y2: i32, x: i32) -> i32
-    requires { ⌜ Asked x1 y1 x2 y2 x ⌝ }
-    ensures { λ r. ⌜ r ≡ height x1 y1 x2 y2 x ⌝ }
-{
-    let dy = y2 as i64 - y1 as i64;
-    let den = x2 as i64 - x1 as i64;
-    let num = dy * (x as i64 - x1 as i64);
-    let q = floor_div(2 * num + den, 2 * den);
-    (y1 as i64 + q) as i32
-}
-
 // The smaller and the larger of two numbers.
 fn least_of(m: i32, n: i32) -> i32
     ensures { λ r. ⌜ r ≡ least m n ⌝ }
@@ -155,163 +128,6 @@ fn most_of(m: i32, n: i32) -> i32
     if m <= n { n } else { m }
 }
 
-// The cuts at the four edges: where one end is strictly outside, it goes to the rounded crossing, if that lies in the box's range. A line that both ends are beyond has no crossing.
-fn cut_x_min(bbox: BBox, seg: Seg) -> Seg
-    requires { ⌜ Coord (seg .p0) ⌝ }
-    requires { ⌜ Coord (seg .p1) ⌝ }
-    ensures { λ r. ⌜ r ≡ cutXMin bbox seg ⌝ }
-{
-    let x = bbox.x_min;
-    let a = bbox.y_min;
-    let b = bbox.y_max;
-    let p0 = seg.p0;
-    let p1 = seg.p1;
-    let x0 = p0.x;
-    let y0 = p0.y;
-    let x1 = p1.x;
-    let y1 = p1.y;
-    if x0 < x {
-        if x1 < x {
-            return seg;
-        }
-        let y = height_at(x0, y0, x1, y1, x);
-        if (a <= y) & (y <= b) {
-            return Seg {
-                p0: Pt { x: x, y: y },
-                p1: p1,
-            };
-        }
-        return seg;
-    }
-    if x1 < x {
-        let y = height_at(x1, y1, x0, y0, x);
-        if (a <= y) & (y <= b) {
-            return Seg {
-                p0: p0,
-                p1: Pt { x: x, y: y },
-            };
-        }
-    }
-    seg
-}
-
-fn cut_x_max(bbox: BBox, seg: Seg) -> Seg
-    requires { ⌜ Coord (seg .p0) ⌝ }
-    requires { ⌜ Coord (seg .p1) ⌝ }
-    ensures { λ r. ⌜ r ≡ cutXMax bbox seg ⌝ }
-{
-    let x = bbox.x_max;
-    let a = bbox.y_min;
-    let b = bbox.y_max;
-    let p0 = seg.p0;
-    let p1 = seg.p1;
-    let x0 = p0.x;
-    let y0 = p0.y;
-    let x1 = p1.x;
-    let y1 = p1.y;
-    if x < x0 {
-        if x < x1 {
-            return seg;
-        }
-        let y = height_at(x1, y1, x0, y0, x);
-        if (a <= y) & (y <= b) {
-            return Seg {
-                p0: Pt { x: x, y: y },
-                p1: p1,
-            };
-        }
-        return seg;
-    }
-    if x < x1 {
-        let y = height_at(x0, y0, x1, y1, x);
-        if (a <= y) & (y <= b) {
-            return Seg {
-                p0: p0,
-                p1: Pt { x: x, y: y },
-            };
-        }
-    }
-    seg
-}
-
-fn cut_y_min(bbox: BBox, seg: Seg) -> Seg
-    requires { ⌜ Coord (seg .p0) ⌝ }
-    requires { ⌜ Coord (seg .p1) ⌝ }
-    ensures { λ r. ⌜ r ≡ cutYMin bbox seg ⌝ }
-{
-    let y = bbox.y_min;
-    let a = bbox.x_min;
-    let b = bbox.x_max;
-    let p0 = seg.p0;
-    let p1 = seg.p1;
-    let y0 = p0.y;
-    let x0 = p0.x;
-    let y1 = p1.y;
-    let x1 = p1.x;
-    if y0 < y {
-        if y1 < y {
-            return seg;
-        }
-        let x = height_at(y0, x0, y1, x1, y);
-        if (a <= x) & (x <= b) {
-            return Seg {
-                p0: Pt { x: x, y: y },
-                p1: p1,
-            };
-        }
-        return seg;
-    }
-    if y1 < y {
-        let x = height_at(y1, x1, y0, x0, y);
-        if (a <= x) & (x <= b) {
-            return Seg {
-                p0: p0,
-                p1: Pt { x: x, y: y },
-            };
-        }
-    }
-    seg
-}
-
-fn cut_y_max(bbox: BBox, seg: Seg) -> Seg
-    requires { ⌜ Coord (seg .p0) ⌝ }
-    requires { ⌜ Coord (seg .p1) ⌝ }
-    ensures { λ r. ⌜ r ≡ cutYMax bbox seg ⌝ }
-{
-    let y = bbox.y_max;
-    let a = bbox.x_min;
-    let b = bbox.x_max;
-    let p0 = seg.p0;
-    let p1 = seg.p1;
-    let y0 = p0.y;
-    let x0 = p0.x;
-    let y1 = p1.y;
-    let x1 = p1.x;
-    if y < y0 {
-        if y < y1 {
-            return seg;
-        }
-        let x = height_at(y1, x1, y0, x0, y);
-        if (a <= x) & (x <= b) {
-            return Seg {
-                p0: Pt { x: x, y: y },
-                p1: p1,
-            };
-        }
-        return seg;
-    }
-    if y < y1 {
-        let x = height_at(y0, x0, y1, x1, y);
-        if (a <= x) & (x <= b) {
-            return Seg {
-                p0: p0,
-                p1: Pt { x: x, y: y },
-            };
-        }
-    }
-    seg
-}
-
 // Whether two numbers lie both below a range or both above it.
 fn are_beside(m: i32, n: i32, low: i32, high: i32) -> bool
     ensures { λ r. ⌜ r ≡ (ltZ (most m n) low || ltZ high (least m n)) ⌝ }
@@ -320,38 +136,6 @@ fn are_beside(m: i32, n: i32, low: i32, high: i32) -> bool
         return true;
     }
     high < least_of(m, n)
-}
-
-// The four cuts, each on the segment as it then is.
-fn cut_all(
-    x0: i32,
-    y0: i32,
-    x1: i32,
-    y1: i32,
-    left: i32,
-    right: i32,
-    bottom: i32,
-    top: i32,
-) -> ClippedSeg
-    requires { ⌜ Good (boxAt left right bottom top) ⌝ }
-    requires { ⌜ Coord (segAt x0 y0 x1 y1 .p0) ⌝ }
-    requires { ⌜ Coord (segAt x0 y0 x1 y1 .p1) ⌝ }
-    ensures { λ r. ⌜ r ≡ clip (boxAt left right bottom top) (segAt x0 y0 x1 y1) ⌝ }
-{
-    let p0 = Pt { x: x0, y: y0 };
-    let p1 = Pt { x: x1, y: y1 };
-    let seg = Seg { p0: p0, p1: p1 };
-    let bbox = BBox {
-        x_min: left,
-        x_max: right,
-        y_min: bottom,
-        y_max: top,
-    };
-    let s1 = cut_x_min(bbox, seg);
-    let s2 = cut_x_max(bbox, s1);
-    let s3 = cut_y_min(bbox, s2);
-    let s4 = cut_y_max(bbox, s3);
-    ClippedSeg { seg: s4 }
 }
 
 // A segment beside the box as given, another by the four cuts.

@@ -1,12 +1,15 @@
 -- Laws of the boundary points: what the clip gives, and a segment inside the box.
 -- For callers:
+--     outside-is          a point is outside where it does not lie in the closed box
 --     inside-same stays   a segment inside the box is not cut, and then no end has moved
 use Prim.Native.Nat.{ℕ}
 use mathlib.Core.Path.{_≡_, refl, sym, ap}
-use mathlib.Core.Bool.{Bool, true, false, not, _||_}
+use mathlib.Core.Bool.{Bool, true, false, not, _&&_, _||_}
 use mathlib.Core.List.{[]}
 use native.Mathlib.Omega.{arith}
-use lib.Signed.{ltZ}
+use lib.Signed.{ltZ, leZ}
+use Rattle.whole.proofs.Cases.{le-not}
+use Rattle.whole.proofs.Equal.{eqZ-refl}
 use Rattle.refusal.specs.declared.Refusal.{Refusal}
 use Rattle.clip.specs.declared.Pt.{Pt}
 use Rattle.clip.specs.declared.Seg.{Seg}
@@ -14,13 +17,12 @@ use Rattle.clip.specs.declared.BBox.{BBox}
 use Rattle.clip.specs.declared.ClippedSeg.{ClippedSeg}
 use Rattle.clip.specs.declared.Clipped.{Clipped}
 use Rattle.clip.specs.declared.Clipped.the-variants.{Done, Refused}
-use Rattle.clip.specs.Domain.{isGood}
+use Rattle.clip.specs.Domain.{isGood, isInside}
 use Rattle.clip.specs.Cutting.{clip}
 use Rattle.clip.specs.Answer.{areCoords, saidClipped, clipped}
 use Rattle.clip.proofs.Callers.{answered, never-refused, Kept, clip-inside}
 use Rattle.encoder.specs.Points.{samePt}
 use Rattle.encoder.specs.Boundary.{movedEnds, movedBy, outside}
-use Rattle.encoder.proofs.Comparing.{eqZ-refl}
 
 -- ---- the two answers of the clip, which is never refused
 module _ (s : Seg) (b : BBox) (r : Clipped) (h : saidClipped r ≡ clipped s b) where
@@ -33,6 +35,20 @@ module _ (s : Seg) (b : BBox) (r : Clipped) (h : saidClipped r ≡ clipped s b) 
 pub moved-is : (raw p : Pt) (cut : Seg) (t u : Bool) → t ≡ samePt raw (cut .p0) → u ≡ samePt p (cut .p1) →
     record { moved0 = not t; moved1 = not u; end0 = cut .p0; end1 = cut .p1 } ≡ movedBy raw p cut
 moved-is raw p cut t u e f = rw (e, f)
+
+-- ---- outside or inside
+each-not : (l r u o : Bool) → (l || r || u || o) ≡ not (not l && not r && (not u && not o))
+each-not true r u o = refl
+each-not false true u o = refl
+each-not false false true o = refl
+each-not false false false true = refl
+each-not false false false false = refl
+
+pub outside-is : (b : BBox) (p : Pt) → outside b p ≡ not (isInside b p)
+unfolding isInside
+outside-is b p =
+    rw (le-not (b .«x_min») (p .x), le-not (p .x) (b .«x_max»), le-not (b .«y_min») (p .y), le-not (p .y) (b .«y_max»))
+    (each-not (ltZ (p .x) (b .«x_min»)) (ltZ (b .«x_max») (p .x)) (ltZ (p .y) (b .«y_min»)) (ltZ (b .«y_max») (p .y)))
 
 -- ---- a segment inside the box brings none
 pub kept-in : (b : BBox) (p : Pt) → outside b p ≡ false → Kept b p

@@ -15,7 +15,7 @@ use Rattle.words.specs.Geometries.{room}
 use Rattle.encoder.specs.declared.GeomEncoder.{GeomEncoder}
 use Rattle.encoder.specs.Answers.{Counted, done}
 use Rattle.encoder.specs.Adding.{added}
-use Rattle.encoder.proofs.States.{both}
+use Rattle.promise.proofs.Joined.{both}
 use Rattle.encoder.specs.declared.pen.Pen.{Pen}
 use Rattle.encoder.specs.declared.stretch.Stretch.{Stretch}
 use Rattle.encoder.specs.Stretches.{isStart, Ongoing, pointIn, isPlain, halted, run, lastPoint, stretched}

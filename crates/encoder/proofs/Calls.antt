@@ -26,7 +26,8 @@ use Rattle.encoder.specs.Answers.{Counted, done, turned, fitting}
 use Rattle.encoder.specs.Emitting.{placeOf}
 use Rattle.encoder.specs.Adding.{drawn, added}
 use Rattle.encoder.specs.Completing.{counting, closing, cleared, finished, isEmpty, completed}
-use Rattle.encoder.proofs.States.{yes-of, no-of, valid-facts, room-length, room-cap}
+use Rattle.words.proofs.Rooms.{room-length, room-cap}
+use Rattle.encoder.proofs.States.{yes-of, no-of, valid-facts}
 
 -- ---- the state after completing
 module _ (s : GeomEncoder) where

@@ -32,7 +32,7 @@ use Rattle.encoder.specs.Adding.{ended}
 use Rattle.encoder.specs.Planning.{planLimit, Ready}
 use Rattle.encoder.specs.Pens.{taken, beforePush, onward}
 use Rattle.encoder.specs.Drafts.{draftOf, stateIn, withPen, ringing, pushedTo, behind, pushedBy, emittedIf, Writable, EndsFit, AllFit, laidEnds, laidAll}
-use Rattle.encoder.proofs.States.{both}
+use Rattle.promise.proofs.Joined.{both}
 use Rattle.encoder.proofs.Coords.{last-coord}
 use Rattle.encoder.proofs.Pushing.{out-count}
 use Rattle.encoder.proofs.Steps.{command-cases}

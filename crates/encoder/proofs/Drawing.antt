@@ -23,7 +23,8 @@ use Rattle.words.specs.Geometries.{maxWords, room}
 use Rattle.encoder.specs.declared.GeomEncoder.{GeomEncoder}
 use Rattle.encoder.specs.States.{Sound}
 use Rattle.encoder.specs.Adding.{added}
-use Rattle.encoder.proofs.States.{both, room-length, room-cap}
+use Rattle.promise.proofs.Joined.{both}
+use Rattle.words.proofs.Rooms.{room-length, room-cap}
 use Rattle.encoder.specs.Boundary.{outside}
 use Rattle.encoder.specs.declared.pen.Pen.{Pen}
 use Rattle.encoder.specs.declared.stretch.Stretch.{Stretch}

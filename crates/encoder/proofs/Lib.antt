@@ -1,6 +1,5 @@
 pub mod States
 pub mod Differences
-pub mod Stores
 pub mod Pushing
 pub mod Steps
 pub mod Drafting

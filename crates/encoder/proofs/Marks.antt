@@ -30,10 +30,10 @@ use Rattle.encoder.specs.Boundary.{moved, movedEnds, movedBy}
 use Rattle.encoder.specs.Adding.{emitted}
 use Rattle.encoder.specs.Boundary.{outside}
 use Rattle.clip.proofs.Callers.{coord-facts, clip-within}
-use Rattle.encoder.proofs.States.{both}
+use Rattle.promise.proofs.Joined.{both}
 use Rattle.encoder.proofs.Boundaries.{inside-same, stays}
 use Rattle.words.specs.Params.{param}
-use Rattle.encoder.proofs.Stores.{two-stores}
+use Rattle.promise.proofs.Stores.{two-stores}
 use Rattle.encoder.specs.declared.pen.Pen.{Pen}
 use Rattle.encoder.specs.declared.boundary.Ends.{Ends}
 use Rattle.encoder.specs.Pens.{stateOf, withRaw, Mark, still, taken, beforePush, onward, mark, laid, marked, markedIf, markedEnds, marks, ends, drawnBy, Fit, Able}

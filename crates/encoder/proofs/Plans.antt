@@ -27,7 +27,8 @@ use Rattle.encoder.specs.Emitting.{Emission, emittedAt, emission}
 use Rattle.encoder.specs.Adding.{boundary, emitted, emissions, drawn, ended}
 use Rattle.encoder.specs.Planning.{emissionIf, planLimit, Ready}
 use Rattle.encoder.specs.Drafts.{draftOf, stateIn, emittedIf, Near, Planned, AllFit, laidAll}
-use Rattle.encoder.proofs.States.{valid-facts, valid-ready, room-length}
+use Rattle.words.proofs.Rooms.{room-length}
+use Rattle.encoder.proofs.States.{valid-facts, valid-ready}
 use Rattle.encoder.proofs.Coords.{clamped-coord}
 use Rattle.encoder.proofs.Drafting.{whole}
 use Rattle.encoder.proofs.Steps.{Step, at-step, if-step, same-box, emitted-three}

@@ -10,7 +10,7 @@ use Rattle.encoder.specs.declared.GeomEncoder.{GeomEncoder}
 use Rattle.encoder.specs.Points.{lastBetween}
 use Rattle.encoder.specs.Emitting.{takenOut, popped}
 use Rattle.encoder.specs.Planning.{Ready}
-use Rattle.encoder.proofs.States.{both}
+use Rattle.promise.proofs.Joined.{both}
 
 pub out-count : (s : GeomEncoder) (p : Pt) → takenOut s p ≡ true → 2 ≤ s .count
 out-count s p e =

@@ -40,7 +40,8 @@ use Rattle.encoder.specs.Planning.{Ready}
 use Rattle.encoder.proofs.Pushing.{out-count, out-used}
 use Rattle.encoder.proofs.Steps.{emission-cases, command-cases, emission-step}
 use Rattle.encoder.proofs.Calls.{one-word, counted-some, finished-used}
-use Rattle.encoder.proofs.States.{valid-ready, room-length}
+use Rattle.words.proofs.Rooms.{room-length}
+use Rattle.encoder.proofs.States.{valid-ready}
 use Rattle.encoder.proofs.Accepted.{added-accepted, completed-accepted, emitted-run}
 
 -- ---- STATE from its rules

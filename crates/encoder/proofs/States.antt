@@ -1,4 +1,4 @@
--- STATE as facts, and what they give the calls; tests joined by `&&` and tests that a call answered.
+-- STATE as facts, and what they give the calls; tests that a call answered.
 use mathlib.Core.Path.{_≡_, refl}
 use mathlib.Core.Bool.{Bool, true, false, cond, not, _&&_, _||_}
 use Prim.Native.Nat.{ℕ, _+_, _/_, _≤_}
@@ -6,17 +6,15 @@ use native.Mathlib.Omega.{arith}
 use borrow.Author.Tests.{leb-true, ltb-true, eqb-true, leb-false, not-true, not-false}
 use lib.Dec.{leb, ltb, eqb}
 use Rattle.promise.proofs.Cases.{told-yes, told-no}
+use Rattle.promise.proofs.Joined.{both}
 use Rattle.clip.specs.Domain.{isGood}
 use Rattle.words.specs.Geometries.{isKind, maxWords, room}
+use Rattle.words.proofs.Rooms.{room-cap}
 use Rattle.encoder.specs.declared.GeomEncoder.{GeomEncoder}
 use Rattle.encoder.specs.Points.{inLimit, inLimits}
 use Rattle.encoder.specs.Figures.{figuresFit}
 use Rattle.encoder.specs.States.{valid, Valid}
 use Rattle.encoder.specs.Planning.{Ready}
-
-pub both : (s t : Bool) → (s && t) ≡ true → (s ≡ true) × (t ≡ true)
-both true t e = (refl, e)
-both false t e = absurd (let z : _≡_ {A = ℕ} 0 1 = cc in omega arith)
 
 -- what `if !f(..)` tells of a test b that f answers
 pub yes-of : (t b : Bool) → t ≡ b → not t ≡ false → b ≡ true
@@ -24,18 +22,6 @@ yes-of t b e h = told-yes t b e (not-false t h)
 
 pub no-of : (t b : Bool) → t ≡ b → not t ≡ true → b ≡ false
 no-of t b e h = told-no t b e (not-true t h)
-
--- ---- room
-module _ (n : ℕ) where
-  room-by : (t : Bool) → leb n maxWords ≡ t → (cond t n maxWords ≤ n) × (cond t n maxWords ≤ maxWords)
-  room-by true e = (omega arith, leb-true n maxWords e)
-  room-by false e = let h = leb-false n maxWords e in (omega arith, omega arith)
-
-  pub room-length : room n ≤ n
-  room-length = room-by (leb n maxWords) refl .0
-
-  pub room-cap : room n ≤ maxWords
-  room-cap = room-by (leb n maxWords) refl .1
 
 -- ---- the rules of STATE
 either : (a b : Bool) → (a || b) ≡ true → (a ≡ true → ⊥) → b ≡ true

@@ -7,6 +7,7 @@ use borrow.Author.Tests.{le-leb, lt-leb, leb-true, eqb-false, not-true, not-fals
 use lib.Dec.{leb, eqb}
 use lib.IntN.{ℤ}
 use lib.Signed.{_≤ℤ_, ltZ}
+use Rattle.whole.proofs.Equal.{eqZ-refl}
 use Rattle.clip.specs.declared.Pt.{Pt}
 use Rattle.clip.specs.declared.BBox.{BBox}
 use Rattle.clip.specs.Domain.{isCoord, isGood}
@@ -16,7 +17,7 @@ use Rattle.clip.specs.Cutting.{clip}
 use Rattle.clip.specs.Answer.{areCoords}
 use Rattle.clip.specs.Demand3.{Moved, Placed}
 use Rattle.clip.proofs.Demands.{demand-3}
-use Rattle.clip.proofs.Tests.{by-lt}
+use Rattle.whole.proofs.Cases.{by-lt}
 use Rattle.clip.proofs.Callers.{coord-is, good-facts, good-proper}
 use Rattle.whole.proofs.Parts.{zarith}
 use mathlib.Core.Logic.{⊎-elim}
@@ -25,8 +26,7 @@ use Rattle.encoder.specs.declared.points.MaybePt.the-variants.{Nowhere, 
 use Rattle.encoder.specs.declared.GeomEncoder.{GeomEncoder}
 use Rattle.encoder.specs.Points.{clampTo, clamped, samePt, lastOf, missing}
 use Rattle.encoder.specs.Boundary.{outside}
-use Rattle.encoder.proofs.States.{both}
-use Rattle.encoder.proofs.Comparing.{eqZ-refl}
+use Rattle.promise.proofs.Joined.{both}
 use Rattle.encoder.proofs.Coords.{clamped-coord}
 use Rattle.encoder.proofs.Boundaries.{kept-in}
 use Rattle.encoder.specs.Stretches.{isStart}

@@ -22,7 +22,7 @@ use Rattle.encoder.specs.Answers.{Counted, done, turned, fitting}
 use Rattle.encoder.specs.Adding.{drawn, added}
 use Rattle.encoder.specs.Completing.{isEmpty, closed, completed}
 use Rattle.encoder.specs.Calls.{Call, add, complete, call}
-use Rattle.encoder.proofs.States.{room-length}
+use Rattle.words.proofs.Rooms.{room-length}
 use Rattle.encoder.proofs.Reached.{fresh-sound, add-sound, complete-sound}
 use Rattle.encoder.specs.Jobs.{Outcome, on, off, pointsOf, isJob, jobCalls, taken, stopped, go, outcome, run, encodedJob}
 

@@ -23,7 +23,17 @@ abbrev pub penOf : GeomEncoder → Pen
 penOf s = record { raw = lastOf (s .«xy_end»); pt0 = lastOf (s .pt0); pt1 = lastOf (s .pt1); count = s .count; used = s .used }
 
 abbrev pub stateOf : GeomEncoder → Pen → GeomEncoder
-stateOf s pen = record { kind = s .kind; bbox = s .bbox; «xy_end» = At (pen .raw); pt0 = At (pen .pt0); pt1 = At (pen .pt1); «cmd_offset» = s .«cmd_offset»; count = pen .count; used = pen .used }
+stateOf s pen =
+    record {
+      kind = s .kind;
+      bbox = s .bbox;
+      «xy_end» = At (pen .raw);
+      pt0 = At (pen .pt0);
+      pt1 = At (pen .pt1);
+      «cmd_offset» = s .«cmd_offset»;
+      count = pen .count;
+      used = pen .used;
+    }
 
 abbrev pub withRaw : Pen → Pt → Pen
 withRaw pen p = record { raw = p; pt0 = pen .pt0; pt1 = pen .pt1; count = pen .count; used = pen .used }

@@ -3,8 +3,9 @@
 use Prim.Native.Nat.{ℕ}
 use mathlib.Core.Bool.{Bool, true, false, cond, _&&_, _||_}
 use lib.Dec.{leb, eqb}
-use lib.IntN.{ℤ, pos, negsuc}
+use lib.IntN.{ℤ, pos}
 use lib.Signed.{ltZ}
+use Rattle.whole.specs.Equal.{eqZ}
 use Rattle.clip.specs.declared.Pt.{Pt}
 use Rattle.clip.specs.declared.BBox.{BBox}
 use Rattle.clip.specs.Domain.{isCoord}
@@ -27,12 +28,6 @@ abbrev pub clamped : BBox → Pt → Pt
 clamped b p = record { x = clampTo (b .«x_min») (b .«x_max») (p .x); y = clampTo (b .«y_min») (b .«y_max») (p .y) }
 
 -- ---- "If equal to the last emitted point"
-abbrev pub eqZ : ℤ → ℤ → Bool
-eqZ (pos m) (pos n) = eqb m n
-eqZ (pos m) (negsuc n) = false
-eqZ (negsuc m) (pos n) = false
-eqZ (negsuc m) (negsuc n) = eqb m n
-
 abbrev pub samePt : Pt → Pt → Bool
 samePt p q = eqZ (p .x) (q .x) && eqZ (p .y) (q .y)
 

@@ -86,7 +86,8 @@ fn add_part(s: GeomEncoder, points: &[i32], from: usize, to: usize, words: &mut 
 fn add_parts(s: GeomEncoder, points: &[i32], ends: &[u32], words: &mut [u32]) -> Course
     requires { ⌜ endsAt 0 (now ends) (length (now points) / 2) ≡ true ⌝ }
     requires { ⌜ Sound s (length (now words)) ⌝ }
-    ensures { λ r. ⌜ Gives (go (jobCalls (pointsOf (now (points .entry))) 0 (now (ends .entry))) 0 s (now (words .entry))) (outcomeOf (length (now (points .entry)) / 2) r) (now (words .exit)) ⌝ }
+    ensures { λ r. ⌜ Gives (go (jobCalls (pointsOf (now (points .entry))) 0 (now (ends .entry))) 0 s (now (words .entry)))
+        (outcomeOf (length (now (points .entry)) / 2) r) (now (words .exit)) ⌝ }
 {
     let mut q = s;
     let mut from = 0;

@@ -2,3 +2,5 @@ pub mod Unique
 pub mod Laying
 pub mod Copying
 pub mod Cases
+pub mod Joined
+pub mod Stores

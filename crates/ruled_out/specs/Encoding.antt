@@ -8,6 +8,7 @@ use lib.IntN.{ℤ, pos, negsuc, _-ℤ_}
 use lib.ListN.{length, replicate}
 use lib.Signed.{ltZ, leZ}
 use native.Mathlib.Omega.{arith}
+use Rattle.whole.specs.Equal.{eqZ}
 use Rattle.promise.specs.Answers.{Written, kept}
 use Rattle.refusal.specs.declared.Refusal.the-variants.{Kind, Box, State, Coord, Room}
 use Rattle.refusal.specs.Said.{Said, accepted, refused}
@@ -22,7 +23,7 @@ use Rattle.clip.specs.Cutting.{crossAtX, cuts, overlap, clip}
 use Rattle.clip.specs.Numbers.{segAt, boxAt}
 use Rattle.encoder.specs.declared.points.MaybePt.{MaybePt}
 use Rattle.encoder.specs.declared.points.MaybePt.the-variants.{Nowhere, At}
-use Rattle.encoder.specs.Points.{inLimit, inLimits, clampTo, clamped, eqZ, samePt, isLast, strictly, between, missing, outBefore, lastBetween, lastOf}
+use Rattle.encoder.specs.Points.{inLimit, inLimits, clampTo, clamped, samePt, isLast, strictly, between, missing, outBefore, lastBetween, lastOf}
 use Rattle.encoder.specs.Boundary.{moved, movedEnds, outside}
 use Rattle.encoder.specs.Pushed.{moveTo, lineTo, closePath, command, countWord, closeWord}
 use Rattle.encoder.specs.Figures.{figuresFit}

@@ -6,3 +6,5 @@ pub mod Machine
 pub mod Floors
 pub mod Lines
 pub mod Twos
+pub mod Cases
+pub mod Equal

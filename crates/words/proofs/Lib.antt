@@ -1,2 +1,3 @@
 pub mod Commands
 pub mod Params
+pub mod Rooms

@@ -34,8 +34,11 @@ module _ (s : tie.Start) where
 
 ruleset read = (x0, y0, x1, y1, left, right, bottom, top)
 
+abbrev at-ends : tie.After-struct-told8 → tie.After-struct-told4
+at-ends c = c .before .before .before .before
+
 abbrev start : tie.After-struct-told8 → tie.Start
-start c = c .before .before .before .before .before .before .before .before .before .before
+start c = at-ends c .before .before .before .before .before .before
 
 are-beside-requires : tie.Need-are-beside-requires
 are-beside-requires c κs = search needs

@@ -1,4 +1,4 @@
--- `clip::floor_div` meets its contract: the machine's quotient rounds toward zero, so it is the floor unless the remainder is below zero, and then one less is.
+-- `clip::cutting::floor_div` meets its contract: the machine's quotient rounds toward zero, so it is the floor unless the remainder is below zero, and then one less is.
 use mathlib.Core.Path.{_≡_, refl, sym, subst}
 use mathlib.Core.Bool.{true, false}
 use lib.IntN.{pos, _-ℤ_}
@@ -8,8 +8,8 @@ use mir.Val.{SFits}
 use Rattle.whole.specs.Floor.{floor}
 use Rattle.whole.proofs.Machine.{Back, back, bits-pos}
 use Rattle.whole.proofs.Floors.{floor-is, floor-fits, quot-fits, rem-fits}
-use Rattle.clip.proofs.floor_div.Statement.{statement}
-use Rattle.clip.proofs.floor_div.Tie as tie
+use Rattle.clip.proofs.cutting.floor_div.Statement.{statement}
+use Rattle.clip.proofs.cutting.floor_div.Tie as tie
 
 -- what the machine reads back from the bits of each value on the way
 module _ (s : tie.Start) where

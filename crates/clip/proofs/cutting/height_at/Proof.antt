@@ -1,12 +1,12 @@
--- `clip::height_at` meets its contract: each sum and product fits 64 bits by the coordinates' sizes, and what is computed is the definition's rounding.
+-- `clip::cutting::height_at` meets its contract: each sum and product fits 64 bits by the coordinates' sizes, and what is computed is the definition's rounding.
 use mathlib.Core.Path.{_≡_, refl, ap}
 use lib.IntN.{ℤ, pos, _+ℤ_, _-ℤ_, _*ℤ_}
 use mir.Syntax.{w32, w64}
 use Rattle.whole.proofs.Machine.{Back, back, widened, fit-size}
 use Rattle.clip.specs.Cutting.{height}
 use Rattle.clip.proofs.Heights.{f-dy, f-den, f-at, f-num, f-2num, f-sum, f-2den, den-pos, size-height}
-use Rattle.clip.proofs.height_at.Statement.{statement}
-use Rattle.clip.proofs.height_at.Tie as tie
+use Rattle.clip.proofs.cutting.height_at.Statement.{statement}
+use Rattle.clip.proofs.cutting.height_at.Tie as tie
 
 -- what the machine reads back from the bits of each value on the way
 module _ (s : tie.Start) where

@@ -1,0 +1,149 @@
+-- What the cuts of src/cutting.rt return, over plain values: what the crossing is, which end it replaces by the code's tests, and that the four edges one after the other are the definition's clip.
+use mathlib.Core.Path.{_≡_, refl, sym, _∙_, ap, subst}
+use mathlib.Core.Bool.{Bool, true, false, cond, _&&_}
+use native.Mathlib.Omega.{arith}
+use lib.IntN.{ℤ}
+use lib.Signed.{_≤ℤ_, _<ℤ_, ltZ, leZ}
+use Rattle.whole.proofs.Parts.{zarith}
+use Rattle.whole.proofs.Laws.{<-≤}
+use Rattle.whole.proofs.Machine.{lt-yes, lt-no, le-yes}
+use Rattle.whole.proofs.Cases.{le-is, lt-is}
+use Rattle.promise.proofs.Cases.{is-yes, is-no}
+use Rattle.promise.proofs.Joined.{both, both-is}
+use Rattle.clip.specs.declared.Pt.{Pt}
+use Rattle.clip.specs.declared.Seg.{Seg}
+use Rattle.clip.specs.declared.BBox.{BBox}
+use Rattle.clip.specs.declared.cutting.Meeting.{Meeting}
+use Rattle.clip.specs.declared.cutting.Meeting.the-variants.{Nowhere, At as AtY}
+use Rattle.clip.specs.Numbers.{boxAt}
+use Rattle.clip.specs.Facts.{Coord, Good, Asked}
+use Rattle.clip.specs.Cutting.{Crossing, Missing, At, height, inRange, reaches, crossInOrder, crossAtX, swap, swapSeg, metAt, replace, cutXMin, cutXMax, cutYMin, cutYMax, cuts, clip}
+use Rattle.clip.proofs.Ends.{Side, low, high, edge, beyond, endsX, join, swapBox}
+use Rattle.clip.proofs.Heights.{above-least, below-most}
+use Rattle.clip.proofs.Verdicts.{verdict}
+use Rattle.clip.proofs.Readings.{crossing-sym, out, swap-replace, at-x-min, at-x-max}
+use Rattle.clip.proofs.Fates.{Fate, clear, moved, stuck, fate, none-beyond}
+use Rattle.clip.proofs.Overlaps.{clip-cuts}
+use Rattle.clip.proofs.Callers.{good-proper, inside-coord}
+
+-- ---- the crossing, with p left of q and the line between them
+module _ (p q : Pt) (c : ℤ) (cp : Coord p) (cq : Coord q) where
+  asked : p .x ≤ℤ c → c ≤ℤ q .x → p .x <ℤ q .x → Asked (p .x) (p .y) (q .x) (q .y) c
+  asked f t l = record { in-x1 = cp .at-x; in-y1 = cp .at-y; in-x2 = cq .at-x; in-y2 = cq .at-y; from = f; to = t; apart = l }
+
+  -- p beyond the lower edge, or q beyond the upper one, and the other not
+  pub asked-low : ltZ (p .x) c ≡ true → ltZ (q .x) c ≡ false → Asked (p .x) (p .y) (q .x) (q .y) c
+  asked-low u v = let h : p .x <ℤ c = lt-yes u in let k : c ≤ℤ q .x = lt-no v in asked (<-≤ h) k (omega zarith)
+
+  pub asked-high : ltZ c (q .x) ≡ true → ltZ c (p .x) ≡ false → Asked (p .x) (p .y) (q .x) (q .y) c
+  asked-high u v = let h : c <ℤ q .x = lt-yes u in let k : p .x ≤ℤ c = lt-no v in asked k (<-≤ h) (omega zarith)
+
+either-way : (t : Bool) (w : Crossing) → w ≡ Missing → cond t w Missing ≡ Missing
+either-way true w e = e
+either-way false w e = refl
+
+module _ (p q : Pt) (c a b h : ℤ) (k : Asked (p .x) (p .y) (q .x) (q .y) c) (e : h ≡ height (p .x) (p .y) (q .x) (q .y) c) where
+  ordered : crossAtX p q c a b ≡ crossInOrder p q c a b
+  unfolding crossAtX
+  ordered = sym (is-yes (ltZ (p .x) (q .x)) (crossInOrder p q c a b) (crossInOrder p q c a b) _ (lt-is (k .apart)) refl)
+
+  -- the height lies between the two y: where it is in range, so the segment reaches that range
+  reached : a ≤ℤ height (p .x) (p .y) (q .x) (q .y) c → height (p .x) (p .y) (q .x) (q .y) c ≤ℤ b → reaches p q c a b ≡ true
+  reached l u = both-is (both-is (le-is (k .from)) (le-is (k .to))) (both-is (le-is (below-most k a l)) (le-is (above-least k b u)))
+
+  pub met : (leZ a h && leZ h b) ≡ true → crossAtX p q c a b ≡ At (record { x = c; y = h })
+  met t =
+      let g = both (leZ a h) (leZ h b) t in
+      let r = reached (subst (λ (z : ℤ). a ≤ℤ z) e (le-yes (g .0))) (subst (λ (z : ℤ). z ≤ℤ b) e (le-yes (g .1))) in
+      let m : At (record { x = c; y = h }) ≡ inRange c a b h = is-yes (leZ a h && leZ h b) _ _ Missing t refl in
+      ordered ∙ sym (is-yes (reaches p q c a b) _ _ Missing r (m ∙ ap (inRange c a b) e))
+
+  pub missed : (leZ a h && leZ h b) ≡ false → crossAtX p q c a b ≡ Missing
+  missed t =
+      let m : Missing ≡ inRange c a b h = is-no (leZ a h && leZ h b) Missing _ Missing t refl in
+      ordered ∙ either-way (reaches p q c a b) _ (sym (m ∙ ap (inRange c a b) e))
+
+-- ---- what the code's answer says of the crossing, found from either end
+module _ (c : ℤ) (m : Meeting) (w : Crossing) (e : metAt c m ≡ w) where
+  pub met-at : (y : ℤ) → m ≡ AtY y → w ≡ At (record { x = c; y = y })
+  met-at y f = sym e ∙ ap (metAt c) f
+
+  pub met-none : m ≡ Nowhere → w ≡ Missing
+  met-none f = sym e ∙ ap (metAt c) f
+
+pub met-back : (c : ℤ) (m : Meeting) (p q : Pt) (a b : ℤ) → metAt c m ≡ crossAtX q p c a b → metAt c m ≡ crossAtX p q c a b
+met-back c m p q a b e = e ∙ crossing-sym q p c a b
+
+-- no crossing where both ends are strictly outside
+none-x : (d : Side) (b : BBox) (p q : Pt) → beyond d (edge d b) (p .x) ≡ true → beyond d (edge d b) (q .x) ≡ true → crossAtX p q (edge d b) (b .«y_min») (b .«y_max») ≡ Missing
+none-x d b p q u v = none-beyond d b (out d b p u) (out d b q v) (verdict _ _ _ p q)
+
+module _ (p q : Pt) (c a b : ℤ) where
+  pub none-low : ltZ (p .x) c ≡ true → ltZ (q .x) c ≡ true → crossAtX p q c a b ≡ Missing
+  none-low u v = none-x low (boxAt c c a b) p q u v
+
+  pub none-high : ltZ c (p .x) ≡ true → ltZ c (q .x) ≡ true → crossAtX p q c a b ≡ Missing
+  none-high u v = none-x high (boxAt c c a b) p q u v
+
+-- ---- the cuts
+module _ (u v : Bool) (s : Seg) where
+  pub replaced-0 : (w : Crossing) (p : Pt) → w ≡ At p → u ≡ true → join p (s .p1) ≡ replace u v s w
+  replaced-0 w p e f = rw (e, f) refl
+
+  pub replaced-1 : (w : Crossing) (p : Pt) → w ≡ At p → u ≡ false → v ≡ true → join (s .p0) p ≡ replace u v s w
+  replaced-1 w p e f g = rw (e, f, g) refl
+
+  pub not-replaced : (w : Crossing) → w ≡ Missing → s ≡ replace u v s w
+  not-replaced w e = sym (ap (replace u v s) e)
+
+  pub replaced-none : (w : Crossing) → u ≡ false → v ≡ false → s ≡ replace u v s w
+  replaced-none Missing e f = refl
+  replaced-none (At p) e f = rw (e, f) refl
+
+-- ---- what is cut stays within the limit
+fate-coord : {s : Side} {b : BBox} {p q r : Pt} → Good b → Coord p → Fate s b p q r → Coord r
+fate-coord g h (clear n) = h
+fate-coord g h (stuck o w) = h
+fate-coord g h (moved r o n e k) = inside-coord g (e .inside)
+
+pub swap-good : {b : BBox} → Good b → Good (swapBox b)
+swap-good g = record { wide = g .tall; tall = g .wide; left = g .bottom; right = g .top; bottom = g .left; top = g .right }
+
+pub record Coords (s : Seg) : Type 0 where
+  pub end0 : Coord (s .p0)
+  pub end1 : Coord (s .p1)
+
+module _ {b : BBox} (g : Good b) (t : Seg) (h : Coords t) where
+  of-x : (s : Side) → Coords (endsX s b t)
+  of-x s = record { end0 = fate-coord g (h .end0) (fate b (good-proper g) (t .p0) (t .p1) s); end1 = fate-coord g (h .end1) (fate b (good-proper g) (t .p1) (t .p0) s) }
+
+pub swap-coords : {t : Seg} → Coords t → Coords (swapSeg t)
+swap-coords h = record { end0 = record { at-x = h .end0 .at-y; at-y = h .end0 .at-x }; end1 = record { at-x = h .end1 .at-y; at-y = h .end1 .at-x } }
+
+-- ---- a cut at y is one at x, with x and y exchanged
+module _ (b : BBox) (t : Seg) where
+  swap-min : cutYMin b t ≡ swapSeg (cutXMin (swapBox b) (swapSeg t))
+  swap-min = swap-replace (ltZ (t .p0 .y) (b .«y_min»)) (ltZ (t .p1 .y) (b .«y_min»)) t (crossAtX (swap (t .p0)) (swap (t .p1)) (b .«y_min») (b .«x_min») (b .«x_max»))
+
+  swap-max : cutYMax b t ≡ swapSeg (cutXMax (swapBox b) (swapSeg t))
+  swap-max = swap-replace (ltZ (b .«y_max») (t .p0 .y)) (ltZ (b .«y_max») (t .p1 .y)) t (crossAtX (swap (t .p0)) (swap (t .p1)) (b .«y_max») (b .«x_min») (b .«x_max»))
+
+pub swapped-coords : {s t : Seg} → t ≡ swapSeg s → Coords s → Coords t
+swapped-coords e h = subst Coords (sym e) (swap-coords h)
+
+module _ {b : BBox} (g : Good b) {t : Seg} (h : Coords t) where
+  pub min-coords : (r : Seg) → r ≡ cutXMin b t → Coords r
+  min-coords r e = subst Coords (sym (e ∙ at-x-min b t)) (of-x g t h low)
+
+  pub max-coords : (r : Seg) → r ≡ cutXMax b t → Coords r
+  max-coords r e = subst Coords (sym (e ∙ at-x-max b t)) (of-x g t h high)
+
+-- ---- the four cuts, those at y with x and y exchanged
+module _ (b : BBox) (g : Good b) (s s1 s2 t2 s3 s4 r : Seg) where
+  pub four-cuts : s1 ≡ cutXMin b s → s2 ≡ cutXMax b s1 → t2 ≡ swapSeg s2 → s3 ≡ cutXMin (swapBox b) t2 → s4 ≡ cutXMax (swapBox b) s3 → r ≡ swapSeg s4 → record { seg = r } ≡ clip b s
+  unfolding cuts
+  four-cuts e1 e2 f2 e3 e4 f4 =
+      let k3 : swapSeg s3 ≡ cutYMin b s2 = ap swapSeg (e3 ∙ ap (cutXMin (swapBox b)) f2) ∙ sym (swap-min b s2) in
+      let k4 : r ≡ cutYMax b (swapSeg s3) = f4 ∙ ap swapSeg e4 ∙ sym (swap-max b (swapSeg s3)) in
+      let k : r ≡ cuts b s = k4 ∙ ap (cutYMax b) (k3 ∙ ap (cutYMin b) (e2 ∙ ap (cutXMax b) e1)) in
+      ap (λ (z : Seg). record { seg = z }) (k ∙ sym (clip-cuts b (good-proper g) s))

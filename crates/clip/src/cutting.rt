@@ -1,0 +1,173 @@
+// The cuts at the four edges (document 01, "Cutting a segment"; in the Rust: `intersect_at_x`, `intersect_at_y` and the body of `clip`). Those at y are
+// those at x
+// of the segment with x and y exchanged. A crossing is looked for only where one end is strictly outside and the other not: a line that both are beyond
+// has none.
+ghost use mathlib.Core.Path.{_≡_};
+ghost use lib.IntN.{pos};
+ghost use lib.Signed.{_<ℤ_, ltZ};
+ghost use Rattle.whole.specs.Floor.{floor};
+ghost use Rattle.clip.specs.Facts.{Coord, Good, Asked};
+ghost use Rattle.clip.specs.Cutting.{height, crossAtX, metAt, replace, swapSeg, clip};
+ghost use Rattle.clip.specs.Numbers.{segAt, boxAt};
+use crate::ClippedSeg;
+use crate::Pt;
+use crate::Seg;
+
+// Whether a segment crosses an edge's line, and at which y.
+enum Meeting {
+    Nowhere,
+    At(i32),
+}
+
+// n / d rounded down, below zero too, for d above zero.
+fn floor_div(n: i64, d: i64) -> i64
+    requires { ⌜ pos 0 <ℤ d ⌝ }
+    ensures { λ r. ⌜ r ≡ floor n d ⌝ }
+{
+    let q = n / d;
+    let r = n % d;
+    if r < 0 { q - 1 } else { q }
+}
+
+// The y at x of the line from (x1, y1) to (x2, y2), rounded to the nearest whole number, halves up.
+fn height_at(x1: i32, y1: i32, x2: i32, y2: i32, x: i32) -> i32
+    requires { ⌜ Asked x1 y1 x2 y2 x ⌝ }
+    ensures { λ r. ⌜ r ≡ height x1 y1 x2 y2 x ⌝ }
+{
+    let dy = y2 as i64 - y1 as i64;
+    let den = x2 as i64 - x1 as i64;
+    let num = dy * (x as i64 - x1 as i64);
+    let q = floor_div(2 * num + den, 2 * den);
+    (y1 as i64 + q) as i32
+}
+
+// Where the segment from (x1, y1) to (x2, y2) crosses the line at x, which lies between them, the first end to its left: at the rounded y, if that lies
+// in [a, b].
+// The segment's own y range need not be asked, since y lies in it.
+fn intersect_at_x(x1: i32, y1: i32, x2: i32, y2: i32, x: i32, a: i32, b: i32) -> Meeting
+    requires { ⌜ Asked x1 y1 x2 y2 x ⌝ }
+    ensures { λ r. ⌜ metAt x r ≡ crossAtX (record { x = x1; y = y1 }) (record { x = x2; y = y2 }) x a b ⌝ }
+{
+    let y = height_at(x1, y1, x2, y2, x);
+    if (a <= y) & (y <= b) {
+        return Meeting::At(y);
+    }
+    Meeting::Nowhere
+}
+
+// The cut at a lower edge: the end strictly below it goes to the crossing, if there is one.
+fn cut_low(s: Seg, x: i32, a: i32, b: i32) -> Seg
+    requires { ⌜ Coord (s .p0) ⌝ }
+    requires { ⌜ Coord (s .p1) ⌝ }
+    ensures { λ r. ⌜ r ≡ replace (ltZ (s .p0 .x) x) (ltZ (s .p1 .x) x) s (crossAtX (s .p0) (s .p1) x a b) ⌝ }
+{
+    let p0 = s.p0;
+    let p1 = s.p1;
+    let x0 = p0.x;
+    let y0 = p0.y;
+    let x1 = p1.x;
+    let y1 = p1.y;
+    if x0 < x {
+        if x1 < x {
+            return s;
+        }
+        match intersect_at_x(x0, y0, x1, y1, x, a, b) {
+            Meeting::At(y) => {
+                return Seg {
+                    p0: Pt { x: x, y: y },
+                    p1: p1,
+                };
+            }
+            Meeting::Nowhere => return s,
+        }
+    }
+    if x1 < x {
+        match intersect_at_x(x1, y1, x0, y0, x, a, b) {
+            Meeting::At(y) => {
+                return Seg {
+                    p0: p0,
+                    p1: Pt { x: x, y: y },
+                };
+            }
+            Meeting::Nowhere => return s,
+        }
+    }
+    s
+}
+
+// The cut at an upper edge.
+fn cut_high(s: Seg, x: i32, a: i32, b: i32) -> Seg
+    requires { ⌜ Coord (s .p0) ⌝ }
+    requires { ⌜ Coord (s .p1) ⌝ }
+    ensures { λ r. ⌜ r ≡ replace (ltZ x (s .p0 .x)) (ltZ x (s .p1 .x)) s (crossAtX (s .p0) (s .p1) x a b) ⌝ }
+{
+    let p0 = s.p0;
+    let p1 = s.p1;
+    let x0 = p0.x;
+    let y0 = p0.y;
+    let x1 = p1.x;
+    let y1 = p1.y;
+    if x < x0 {
+        if x < x1 {
+            return s;
+        }
+        match intersect_at_x(x1, y1, x0, y0, x, a, b) {
+            Meeting::At(y) => {
+                return Seg {
+                    p0: Pt { x: x, y: y },
+                    p1: p1,
+                };
+            }
+            Meeting::Nowhere => return s,
+        }
+    }
+    if x < x1 {
+        match intersect_at_x(x0, y0, x1, y1, x, a, b) {
+            Meeting::At(y) => {
+                return Seg {
+                    p0: p0,
+                    p1: Pt { x: x, y: y },
+                };
+            }
+            Meeting::Nowhere => return s,
+        }
+    }
+    s
+}
+
+// At y: x and y change roles.
+fn swap(s: Seg) -> Seg
+    ensures { λ r. ⌜ r ≡ swapSeg s ⌝ }
+{
+    let p0 = s.p0;
+    let p1 = s.p1;
+    Seg {
+        p0: Pt { x: p0.y, y: p0.x },
+        p1: Pt { x: p1.y, y: p1.x },
+    }
+}
+
+// The four cuts, each on the segment as it then is.
+pub(crate) fn cut_all(
+    x0: i32,
+    y0: i32,
+    x1: i32,
+    y1: i32,
+    left: i32,
+    right: i32,
+    bottom: i32,
+    top: i32,
+) -> ClippedSeg
+    requires { ⌜ Good (boxAt left right bottom top) ⌝ }
+    requires { ⌜ Coord (segAt x0 y0 x1 y1 .p0) ⌝ }
+    requires { ⌜ Coord (segAt x0 y0 x1 y1 .p1) ⌝ }
+    ensures { λ r. ⌜ r ≡ clip (boxAt left right bottom top) (segAt x0 y0 x1 y1) ⌝ }
+{
+    let p0 = Pt { x: x0, y: y0 };
+    let p1 = Pt { x: x1, y: y1 };
+    let s1 = cut_low(Seg { p0: p0, p1: p1 }, left, bottom, top);
+    let s2 = cut_high(s1, right, bottom, top);
+    let s3 = cut_low(swap(s2), bottom, left, right);
+    let s4 = cut_high(s3, top, left, right);
+    ClippedSeg { seg: swap(s4) }
+}
