@@ -1,4 +1,5 @@
 pub mod Unique
 pub mod Laying
+pub mod Parts
 pub mod Copying
 pub mod Cases
