@@ -1,5 +1,6 @@
 pub mod Unique
 pub mod Laying
+pub mod Parts
 pub mod Copying
 pub mod Cases
 pub mod Joined

@@ -11,8 +11,8 @@ use Rattle.script.specs.declared.Part.{Part}
 use Rattle.script.specs.declared.Op.{Op}
 use Rattle.script.specs.declared.Next.{Next}
 use Rattle.script.specs.declared.Next.the-variants.{Is, Bad}
-use Rattle.script.specs.declared.Taken.{Taken}
-use Rattle.script.specs.declared.Taken.the-variants.{Is as TakenIs, Bad as TakenBad}
+use Rattle.script.specs.declared.texts.Taken.{Taken}
+use Rattle.script.specs.declared.texts.Taken.the-variants.{Is as TakenIs, Bad as TakenBad}
 use Rattle.script.specs.Script.{wordsFor, filled, textAt, withText, creates, opens, sets, stringAt, floatAt, longAt, boolAt, valued, tags, follows, operation}
 
 -- a place from `at` on, and within the script

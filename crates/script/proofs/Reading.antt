@@ -14,8 +14,8 @@ use Rattle.script.specs.declared.Next.the-variants.{Is, Bad}
 use Rattle.script.specs.declared.Op.the-variants.{Create, Open, Tag}
 use Rattle.script.specs.declared.Value.{Value}
 use Rattle.script.specs.declared.Value.the-variants.{Text, Int, Sint}
-use Rattle.script.specs.declared.Taken.{Taken}
-use Rattle.script.specs.declared.Taken.the-variants.{Is as TakenIs, Bad as TakenBad}
+use Rattle.script.specs.declared.texts.Taken.{Taken}
+use Rattle.script.specs.declared.texts.Taken.the-variants.{Is as TakenIs, Bad as TakenBad}
 use Rattle.whole.specs.Twos.{signed64}
 use Rattle.script.specs.Script.{pairAt, longValue, longAt, filled, part, textAt, withText, creates, opens, stringAt, valued, tags, textOf, wordsOf}
 

@@ -1,7 +1,6 @@
 -- oracle/README.md, "Tile script": one operation of a script, at a place of its numbers. "A text is its length in bytes and then its bytes, filled up with
 -- zero bytes to a multiple of four."
-use Prim.Native.Nat.{ℕ, _+_, _-_, _*_, _/_, _%_, _^_, _<_}
-use mathlib.Core.Path.{_≡_}
+use Prim.Native.Nat.{ℕ, _+_, _-_, _*_, _/_, _%_, _^_}
 use mathlib.Core.Bool.{Bool, true, cond}
 use mathlib.Core.List.{List, []}
 use lib.Dec.{leb, ltb, eqb}
@@ -13,13 +12,8 @@ use Rattle.script.specs.declared.Value.the-variants.{Text, Float, Double
 use Rattle.script.specs.declared.Op.the-variants.{Create, Open, SetId, Tag, Close, Abandon, Add}
 use Rattle.script.specs.declared.Next.{Next}
 use Rattle.script.specs.declared.Next.the-variants.{Is, Bad}
-use Rattle.script.specs.declared.Taken.{Taken}
-use Rattle.script.specs.declared.Taken.the-variants.{Is as TakenIs, Bad as TakenBad}
-
--- r is the 32-bit number n
-pub record Wide (n r : ℕ) : Type 0 where
-  pub same : r ≡ n
-  pub small : r < 4294967296
+use Rattle.script.specs.declared.texts.Taken.{Taken}
+use Rattle.script.specs.declared.texts.Taken.the-variants.{Is as TakenIs, Bad as TakenBad}
 
 -- ---- a text
 -- how many words its bytes take

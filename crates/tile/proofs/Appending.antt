@@ -15,7 +15,8 @@ use Rattle.refusal.specs.declared.Refusal.the-variants.{Room}
 use Rattle.runs.specs.Fitting.{laidIn}
 use Rattle.runs.proofs.Laws.{laid-fits}
 use Rattle.wire.specs.Puts.{put}
-use Rattle.wire.proofs.Fronts.{lent, home, lent-long, lay-front, put-fits}
+use Rattle.promise.proofs.Parts.{lent, home, lent-long, lay-front}
+use Rattle.wire.proofs.Fronts.{put-fits}
 use Rattle.layer.specs.declared.Layer.{Layer}
 use Rattle.layer.specs.Held.{Seen, mem, seen}
 use Rattle.layer.proofs.Fitting.{smaller-le}

@@ -11,7 +11,7 @@ use borrow.Author.Tests.{leb-true}
 use borrow.Rule.Slice.PartMut.{midOf}
 use Rattle.wire.specs.declared.field.Field.the-variants.{LayerFeature, LayerKey, LayerValue}
 use Rattle.wire.specs.Fields.{delimited}
-use Rattle.wire.proofs.Fronts.{lent}
+use Rattle.promise.proofs.Parts.{lent}
 use Rattle.wire.proofs.Fields.{varint-field-short, delimited-long}
 use Rattle.table.specs.declared.Found.the-variants.{Nothing}
 use Rattle.table.specs.Texts.{inside}

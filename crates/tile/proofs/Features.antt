@@ -5,17 +5,19 @@ use mathlib.Core.Bool.{Bool, true, false, cond}
 use mathlib.Core.List.{List, [], _∷_, _++_}
 use native.Mathlib.Omega.{arith}
 use borrow.Author.Tests.{ne-eqb}
-use lib.Dec.{eqb}
+use lib.Dec.{leb, eqb}
 use lib.ListN.{length, take, drop, getD, length-append, length-take}
 use borrow.Rule.Slice.PartMut.{midOf}
 use Rattle.wire.specs.declared.field.Field.{Field}
 use Rattle.wire.specs.declared.field.Field.the-variants.{FeatureId, FeatureTags, FeatureType, FeatureGeometry}
 use Rattle.wire.specs.Varints.{varint}
 use Rattle.whole.specs.Twos.{wide}
-use Rattle.wire.specs.Numbers.{Word}
+use Rattle.promise.specs.Widened.{Wide}
 use Rattle.wire.specs.Fields.{varintField, packedField, varints}
 use Rattle.wire.proofs.Varints.{varint-ten}
 use Rattle.wire.proofs.Fields.{varint-field-short, delimited-long}
+use Rattle.table.specs.declared.Found.the-variants.{At, Nothing}
+use Rattle.records.specs.Records.{headOk, recordLength}
 use Rattle.tile.specs.Features.{idField, featureMessage, recordMessage, recordSize}
 
 -- ---- the id
@@ -63,7 +65,7 @@ module _ (kind mark low high : ℕ) (tags geometry : List ℕ) where
 
 -- ---- the record at the front of some words
 -- what is lent of a whole record: the tag words behind the geometry, and the geometry behind the head
-module _ (ws : List ℕ) (tags end x y : ℕ) (p : Word (getD ws 5 0) x) (q : Word (getD ws 4 0) y) (e : tags ≡ 6 + x) (f : end ≡ tags + y) where
+module _ (ws : List ℕ) (tags end x y : ℕ) (p : Wide (getD ws 5 0) x) (q : Wide (getD ws 4 0) y) (e : tags ≡ 6 + x) (f : end ≡ tags + y) where
   pub record-lent : recordMessage ws ≡ featureMessage (getD ws 0 0) (getD ws 1 0) (getD ws 2 0) (getD ws 3 0) (midOf tags (end - tags) ws) (midOf 6 (tags - 6) ws)
   unfolding recordMessage
   record-lent =
@@ -78,6 +80,21 @@ module _ (ws : List ℕ) (tags end x y : ℕ) (p : Word (getD ws 5 0) x) (q : Wo
 
   pub record-end : recordSize ws ≤ length ws → end ≤ length ws
   record-end h = omega (arith, p .same, q .same)
+
+-- where a whole record stands, what `records` finds its length to be is its size
+pub record-found : (ws : List ℕ) (n : ℕ) → recordLength ws ≡ At n → recordSize ws ≡ n
+record-found [] n e = absurd (let z : _≡_ {A = ℕ} 0 1 = cc in omega arith)
+record-found (a ∷ []) n e = absurd (let z : _≡_ {A = ℕ} 0 1 = cc in omega arith)
+record-found (a ∷ b ∷ []) n e = absurd (let z : _≡_ {A = ℕ} 0 1 = cc in omega arith)
+record-found (a ∷ b ∷ c ∷ []) n e = absurd (let z : _≡_ {A = ℕ} 0 1 = cc in omega arith)
+record-found (a ∷ b ∷ c ∷ d ∷ []) n e = absurd (let z : _≡_ {A = ℕ} 0 1 = cc in omega arith)
+record-found (a ∷ b ∷ c ∷ d ∷ x ∷ []) n e = absurd (let z : _≡_ {A = ℕ} 0 1 = cc in omega arith)
+record-found (a ∷ b ∷ c ∷ d ∷ x ∷ y ∷ ws) n e = by (headOk a b) (leb (x + y) (length ws)) e
+  where
+    by : (good whole : Bool) → cond good (cond whole (At (6 + x + y)) Nothing) Nothing ≡ At n → 6 + y + x ≡ n
+    by true true f = let z : 6 + x + y ≡ n = cc in omega arith
+    by true false f = absurd (let z : _≡_ {A = ℕ} 0 1 = cc in omega arith)
+    by false whole f = absurd (let z : _≡_ {A = ℕ} 0 1 = cc in omega arith)
 
 -- ten bytes a word at most
 pub record-short : (ws : List ℕ) → length (recordMessage ws) ≤ recordSize ws * 10

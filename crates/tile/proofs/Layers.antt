@@ -1,6 +1,6 @@
 -- Laws of a layer's bytes: their parts and how long they are at most; what each part's writer asks for, where the layer breaks no rule of STATE; that the field
 -- depends on the used parts only, and where the name stands in it.
-use Prim.Native.Nat.{ℕ, _+_, _*_, _≤_, _<_}
+use Prim.Native.Nat.{ℕ, _+_, _*_, _≤_}
 use mathlib.Core.Path.{_≡_, refl, sym, ap, _∙_}
 use mathlib.Core.Bool.{true}
 use mathlib.Core.List.{List, _++_, append-assoc}
@@ -23,7 +23,7 @@ use Rattle.layer.proofs.Fitting.{Fit, within}
 use Rattle.layer.proofs.Standing.{parts, valid-fit, open-parts}
 use Rattle.wire.specs.declared.field.Field.the-variants.{TileLayer, LayerName, LayerExtent, LayerVersion}
 use Rattle.wire.specs.Fields.{varintField, delimited}
-use Rattle.wire.proofs.Fields.{varint-field-short, varint-field-long, delimited-parts, delimited-long}
+use Rattle.wire.proofs.Fields.{varint-field-short, delimited-parts}
 use Rattle.wire.proofs.Nested.{nested-long}
 use Rattle.tile.specs.Texts.{textField}
 use Rattle.tile.proofs.Texts.{text-field, text-short}
@@ -95,16 +95,10 @@ module _ (s : Layer) (h : Memory) where
       pub size-is : a + b + c + d + e ≡ length (layerBytes s h)
       size-is = omega (arith, layer-long)
 
-      pub size-fits : a + b + c + d + e ≤ maxSize
-      size-fits = omega (arith, size-is, layer-short)
-
 -- ---- the field
 pub field-parts : (v : Seen) → layerField v ≡ delimited TileLayer (layerBytes (v .layer) (v .held))
 unfolding layerField
 field-parts v = refl
-
-pub field-some : (v : Seen) → 0 < length (layerField v)
-field-some v = omega (arith, ap length (field-parts v), delimited-long TileLayer (layerBytes (v .layer) (v .held)), varint-field-long TileLayer (length (layerBytes (v .layer) (v .held))))
 
 -- the size of the message, and what stands before it and before the name's text
 module _ (v : Seen) (size lead : ℕ) (e : size ≡ length (layerBytes (v .layer) (v .held))) (f : lead ≡ length (varintField TileLayer size)) where

@@ -3,7 +3,7 @@ ghost use mathlib.Core.Path.{_≡_};
 ghost use Prim.Native.Nat.{_+_, _≤_};
 ghost use lib.ListN.{length};
 ghost use Rattle.promise.specs.Answers.{Gives};
-ghost use Rattle.wire.specs.Numbers.{Word};
+ghost use Rattle.promise.specs.Widened.{Wide};
 ghost use Rattle.wire.specs.Puts.{put};
 ghost use Rattle.tile.specs.Features.{idField, featureMessage, recordMessage, recordSize};
 ghost use Rattle.tile.specs.Steps.{Writable};
@@ -67,7 +67,7 @@ fn put_parts(
 
 // A word as a number of the machine's size.
 fn word(x: u32) -> usize
-    ensures { λ r. ⌜ Word x r ⌝ }
+    ensures { λ r. ⌜ Wide x r ⌝ }
 {
     x as usize
 }

@@ -1,6 +1,6 @@
--- PB, "Message Structure" and its reference card: a message is fields one after the other, each a key and a content. The key is 8 × field number + wire type, as a varint, and
--- no field has the number 0. The content is a varint (type 0), eight bytes (1), a length and so many bytes (2) or four bytes (5). Keys, numbers and lengths are whatever reading
--- a varint gives.
+-- PB, "Message Structure" and its reference card: a message is fields one after the other, each a key and a content. The key is 8 × field number + wire
+-- type, as a varint, and no field has the number 0. The content is a varint (type 0), eight bytes (1), a length and so many bytes (2) or four bytes (5).
+-- Keys, numbers and lengths are whatever reading a varint gives.
 use Prim.Native.Nat.{ℕ, _/_, _%_, _<_}
 use mathlib.Core.Path.{_≡_}
 use mathlib.Core.Bool.{cond}
@@ -42,5 +42,7 @@ pub data Content : ℕ → List ℕ → Type 0 where
 -- a message of that kind: a field that holds a message has a length, and within it exactly such a message
 pub data WellFormed : Kind → List ℕ → Type 0 where
   end : (kind : Kind) → WellFormed kind []
-  field : (kind : Kind) (key : ℕ) (head content rest : List ℕ) → Reads head key → 0 < key / 8 → inside kind (key / 8) ≡ plain → Content (key % 8) content → WellFormed kind rest → WellFormed kind (head ++ (content ++ rest))
-  nested : (kind within : Kind) (key : ℕ) (head lead bytes rest : List ℕ) → Reads head key → 0 < key / 8 → inside kind (key / 8) ≡ message within → key % 8 ≡ delimitedType → Reads lead (length bytes) → WellFormed within bytes → WellFormed kind rest → WellFormed kind (head ++ ((lead ++ bytes) ++ rest))
+  field : (kind : Kind) (key : ℕ) (head content rest : List ℕ) → Reads head key → 0 < key / 8 → inside kind (key / 8) ≡ plain
+      → Content (key % 8) content → WellFormed kind rest → WellFormed kind (head ++ (content ++ rest))
+  nested : (kind within : Kind) (key : ℕ) (head lead bytes rest : List ℕ) → Reads head key → 0 < key / 8 → inside kind (key / 8) ≡ message within
+      → key % 8 ≡ delimitedType → Reads lead (length bytes) → WellFormed within bytes → WellFormed kind rest → WellFormed kind (head ++ ((lead ++ bytes) ++ rest))

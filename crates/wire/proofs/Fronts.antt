@@ -4,37 +4,21 @@
 --     puts-more puts-laid                        a writer's bytes behind what was put so far
 --     both-long both-inside both-room both-sum both-done    a writer that puts two parts, one behind the other
 --     long-as put-as                             what is promised of a list is promised of one that is equal
---     lent home lent-long                        what `&mut out[at..]` lends, what the whole is when it is back, and its room
 use Prim.Native.Nat.{ℕ, _+_, _-_, _≤_, _<_}
 use mathlib.Core.Path.{_≡_, refl, ap, _∙_}
 use mathlib.Core.Bool.{Bool, true, false}
-use mathlib.Core.List.{List, [], _++_, append-nil, append-assoc}
+use mathlib.Core.List.{List, [], _++_, append-assoc}
 use native.Mathlib.Omega.{arith}
 use borrow.Author.Tests.{le-leb, lt-leb, leb-true, leb-false}
 use lib.Dec.{leb}
-use lib.ListN.{length, take, drop, length-drop, length-append, drop-of-length-le}
-use lib.Seq.{take-all, drop-drop, take-at, drop-at}
+use lib.ListN.{length, take, drop, length-append}
+use lib.Seq.{drop-drop, take-at, drop-at}
 use borrow.Rule.Slice.PartMut.{midOf, putMid}
 use Rattle.promise.specs.Answers.{Gives}
 use Rattle.promise.specs.Laid.{lay}
 use Rattle.promise.proofs.Laying.{length-lay}
+use Rattle.promise.proofs.Parts.{lent, home, lent-long, lay-front}
 use Rattle.wire.specs.Puts.{put, Puts}
-
--- ---- `&mut out[at..]`
-pub lent : (at : ℕ) (out : List ℕ) → midOf at (length out - at) out ≡ drop at out
-lent at out = take-all (length out - at) (drop at out) (rw length-drop (omega arith))
-
-pub home : (at : ℕ) (out ys : List ℕ) → putMid at (length out - at) out ys ≡ take at out ++ ys
-home at out ys =
-    let h : length (drop at out) ≤ length out - at = rw length-drop (omega arith) in
-    rw (drop-of-length-le (drop at out) h, append-nil)
-
-pub lent-long : (at m : ℕ) (out : List ℕ) → at + m ≤ length out → m ≤ length (midOf at (length out - at) out)
-lent-long at m out h = rw (lent at out, length-drop) (omega arith)
-
--- ---- at the front
-pub lay-front : (bs out : List ℕ) → lay 0 bs out ≡ bs ++ drop (length bs) out
-lay-front bs out = let z : 0 + length bs ≡ length bs = omega arith in rw z
 
 -- ---- `put`
 pub put-fits : (bs out : List ℕ) {r : ℕ} {l : List ℕ} → length bs ≤ length out → Gives (put bs out) r l → Puts bs out r l

@@ -7,8 +7,8 @@ use lib.ListN.{length, getD, drop, length-append, drop-of-length-le}
 use lib.Seq.{drop-cons}
 use borrow.Rule.Slice.PartMut.{midOf, putMid}
 use Rattle.promise.specs.Answers.{Gives}
+use Rattle.promise.specs.Widened.{Wide}
 use Rattle.wire.specs.Varints.{varint}
-use Rattle.wire.specs.Numbers.{Word}
 use Rattle.wire.specs.Fields.{varints}
 use Rattle.wire.specs.Puts.{put, Puts}
 use Rattle.wire.proofs.Varints.{varint-five}
@@ -35,7 +35,7 @@ pub sizing-start : (ws : List ℕ) → Sizing ws 0 0
 sizing-start ws = record { at = zero-le; few = zero-le; rest = omega arith }
 
 module _ (ws : List ℕ) (i size : ℕ) (I : Sizing ws i size) where
-  module _ (h : i < length ws) (n : ℕ) (w : Word (getD ws i 0) n) (k : ℕ) (q : k ≡ length (varint n)) where
+  module _ (h : i < length ws) (n : ℕ) (w : Wide (getD ws i 0) n) (k : ℕ) (q : k ≡ length (varint n)) where
     pub sizing-few : size + k ≤ (i + 1) * 5
     sizing-few = omega (arith, I .few, q, varint-five n (w .small))
 
@@ -62,7 +62,7 @@ module _ (ws out₀ out : List ℕ) (i at : ℕ) (I : Packing ws out₀ out i at
   pub packing-long : length out ≡ length out₀
   packing-long = run-long (I .run)
 
-  module _ (h : i < length ws) (n : ℕ) (w : Word (getD ws i 0) n) (k : ℕ) (ys : List ℕ) (g : Gives (put (varint n) (midOf at (length out - at) out)) k ys) where
+  module _ (h : i < length ws) (n : ℕ) (w : Wide (getD ws i 0) n) (k : ℕ) (ys : List ℕ) (g : Gives (put (varint n) (midOf at (length out - at) out)) k ys) where
     pub packing-sum : at + k ≤ length out₀
     packing-sum = run-sum (I .run) (varint n) (varints (drop (i + 1) ws)) (one ws i n h (w .same)) g
 

@@ -11,9 +11,9 @@ use borrow.Author.Tests.{lt-ltb, le-ltb}
 use lib.ListN.{length, take, drop, set, length-set, length-append, take-append-drop}
 use lib.Seq.{take-suc-set, drop-set-lt, length-take-le, drop-drop}
 use lib.Dec.{ltb}
+use Rattle.promise.proofs.Parts.{lay-front}
 use Rattle.wire.specs.Varints.{varintOf, varint}
 use Rattle.wire.specs.Puts.{Puts}
-use Rattle.wire.proofs.Fronts.{lay-front}
 
 -- what so many groups of seven bits can hold, one more than the largest
 abbrev pub limit : ℕ → ℕ

@@ -1,5 +1,5 @@
 -- What stands in 32 and 64 bits (PB, "Signed Integers", "Non-varint Numbers"): bytes least significant first, zigzag.
-use Prim.Native.Nat.{ℕ, zero, suc, _/_, _%_, _<_}
+use Prim.Native.Nat.{ℕ, zero, suc, _/_, _%_}
 use mathlib.Core.Path.{_≡_, refl}
 use mathlib.Core.List.{List, [], _∷_}
 use Rattle.whole.specs.Twos.{signed64}
@@ -19,11 +19,6 @@ fixed64 n = little 8 n
 -- a sint: MVT's parameter rule at 64 bits. An int goes out as its 64 bits, so that one below zero takes ten bytes
 unfoldable pub zigzag : ℕ → ℕ
 zigzag bits = param (signed64 bits)
-
--- a word of 32 bits, held in 64
-pub record Word (word n : ℕ) : Type 0 where
-  pub same : n ≡ word
-  pub small : n < 4294967296
 
 -- ---- the float 1.0 by its bits; PB's table of zigzag: 0, -1, 1, -2 are 0, 1, 2, 3, and the least number is the largest
 pub one-as-float : fixed32 1065353216 ≡ 0 ∷ 0 ∷ 128 ∷ 63 ∷ []

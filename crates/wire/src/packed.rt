@@ -3,8 +3,8 @@ ghost use mathlib.Core.Path.{_≡_};
 ghost use Prim.Native.Nat.{_≤_};
 ghost use lib.ListN.{length};
 ghost use Rattle.promise.specs.Answers.{Gives};
+ghost use Rattle.promise.specs.Widened.{Wide};
 ghost use Rattle.wire.specs.Fields.{varints, packedField};
-ghost use Rattle.wire.specs.Numbers.{Word};
 ghost use Rattle.wire.specs.Puts.{put, Puts};
 use crate::field::Field;
 use crate::head::put_varint_field;
@@ -13,7 +13,7 @@ use crate::varint::put_varint;
 use crate::varint::varint_size;
 
 fn widened(word: u32) -> u64
-    ensures { λ r. ⌜ Word word r ⌝ }
+    ensures { λ r. ⌜ Wide word r ⌝ }
 {
     word as u64
 }

@@ -12,23 +12,23 @@ returns : tie.Need-returns
 unfolding sets
 returns c = search (needs, tests)
 
-mul-long : tie.Need-mul-long
-mul-long c = search needs
+mul-wide : tie.Need-mul-wide
+mul-wide c = search needs
 
-shared-slice-read-long : tie.Need-shared-slice-read-long
-shared-slice-read-long c = search needs
+shared-slice-read-wide : tie.Need-shared-slice-read-wide
+shared-slice-read-wide c = search needs
 
-add-long : tie.Need-add-long
-add-long c = search needs
+add-wide : tie.Need-add-wide
+add-wide c = search needs
 
-mul-long-2 : tie.Need-mul-long-2
-mul-long-2 c = search needs
+mul-wide-2 : tie.Need-mul-wide-2
+mul-wide-2 c = search needs
 
-shared-slice-read-long-2 : tie.Need-shared-slice-read-long-2
-shared-slice-read-long-2 c = search needs
+shared-slice-read-wide-2 : tie.Need-shared-slice-read-wide-2
+shared-slice-read-wide-2 c = search needs
 
-long-requires : tie.Need-long-requires
-long-requires c κs = search needs
+wide-requires : tie.Need-wide-requires
+wide-requires c κs = search needs
 
 add-t13 : tie.Need-add-t13
 add-t13 c = search needs
@@ -43,11 +43,11 @@ read-id-spec =
     (tie.spec
     sub-if1
     returns
-    mul-long
-    shared-slice-read-long
-    add-long
-    mul-long-2
-    shared-slice-read-long-2
-    long-requires
+    mul-wide
+    shared-slice-read-wide
+    add-wide
+    mul-wide-2
+    shared-slice-read-wide-2
+    wide-requires
     add-t13
     returns-2)

@@ -2,7 +2,7 @@
 use Prim.Native.Nat.{_+_}
 use native.Mathlib.Omega.{arith}
 use Rattle.wire.specs.declared.field.Field.the-variants.{TileLayer}
-use Rattle.wire.proofs.Fronts.{lent-long}
+use Rattle.promise.proofs.Parts.{lent-long}
 use Rattle.wire.proofs.Fields.{varint-field-short}
 use Rattle.layer.specs.Held.{Memory, mem, seen}
 use lib.ListN.{length}

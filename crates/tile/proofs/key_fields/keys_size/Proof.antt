@@ -32,41 +32,25 @@ abbrev field : tie.In-loop Inv-loop μ-loop → List ℕ
 field k = keyAt (at-start k .args .texts .now) (at-start k .args .keys .now) (k .before .loop .i)
 
 loop-holds : tie.Need-loop-holds Inv-loop μ-loop
-loop-holds c =
-    let s = c .before .before in
-    sizing-start _ _ (s .pre .good)
+loop-holds c = sizing-start _ _ (c .before .before .pre .good)
 
 mul-field-size : tie.Need-mul-field-size Inv-loop μ-loop
-mul-field-size c =
-    let s = c .before .before .before .before in
-    omega (arith, here c, s .good)
+mul-field-size c = omega (arith, here c, at-start c .good)
 
 shared-slice-read-field-size : tie.Need-shared-slice-read-field-size Inv-loop μ-loop
-shared-slice-read-field-size c =
-    let k = c .before in
-    omega (arith, here k)
+shared-slice-read-field-size c = omega (arith, here (c .before))
 
 add-field-size : tie.Need-add-field-size Inv-loop μ-loop
-add-field-size c =
-    let k = c .before in
-    let s = k .before .before .before .before in
-    omega (arith, here k, s .good)
+add-field-size c = let k = c .before in omega (arith, here k, at-start k .good)
 
 mul-field-size-2 : tie.Need-mul-field-size-2 Inv-loop μ-loop
-mul-field-size-2 c =
-    let k = c .before in
-    let s = k .before .before .before .before in
-    omega (arith, here k, s .good)
+mul-field-size-2 c = let k = c .before in omega (arith, here k, at-start k .good)
 
 shared-slice-read-field-size-2 : tie.Need-shared-slice-read-field-size-2 Inv-loop μ-loop
-shared-slice-read-field-size-2 c =
-    let k = c .before .before in
-    omega (arith, here k)
+shared-slice-read-field-size-2 c = omega (arith, here (c .before .before))
 
 field-size-requires : tie.Need-field-size-requires Inv-loop μ-loop
-field-size-requires c κs =
-    let k = c .before .before in
-    here k .inside-is
+field-size-requires c κs = here (c .before .before) .inside-is
 
 add-size : tie.Need-add-size Inv-loop μ-loop
 add-size c =
@@ -76,15 +60,10 @@ add-size c =
     omega (arith, sizing-sum (l .loop .inv) (field k) _ (here k .fields) (c .field-size .ensures), s .pre .room)
 
 add-i : tie.Need-add-i Inv-loop μ-loop
-add-i c =
-    let k = c .before .before .before in
-    let s = k .before .before .before .before in
-    omega (arith, here k, s .good)
+add-i c = let k = c .before .before .before in omega (arith, here k, at-start k .good)
 
 loop-less : tie.Need-loop-less Inv-loop μ-loop
-loop-less c =
-    let k = c .before .before .before in
-    omega (arith, here k)
+loop-less c = omega (arith, here (c .before .before .before))
 
 loop-again : tie.Need-loop-again Inv-loop μ-loop
 loop-again c =

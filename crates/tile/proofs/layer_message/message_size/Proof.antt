@@ -1,12 +1,14 @@
 -- The sizes of the parts, which add up within 64 bits.
-use Prim.Native.Nat.{ℕ, _+_}
+use Prim.Native.Nat.{ℕ, _+_, _≤_}
 use mathlib.Core.Path.{_≡_}
 use native.Mathlib.Omega.{arith}
+use lib.ListN.{length}
 use Rattle.wire.specs.declared.field.Field.the-variants.{LayerExtent, LayerVersion}
 use Rattle.wire.proofs.Fields.{varint-field-short}
 use Rattle.layer.specs.Held.{Memory, mem}
-use Rattle.tile.specs.Layers.{version}
-use Rattle.tile.proofs.Layers.{size-is, size-fits, name-inside, features-sized, keys-sized, values-sized}
+use Rattle.tile.specs.Layers.{version, layerBytes}
+use Rattle.tile.specs.Steps.{maxSize}
+use Rattle.tile.proofs.Layers.{size-is, layer-short, name-inside, features-sized, keys-sized, values-sized}
 use borrow.Author.Needs.{needs}
 use Rattle.tile.proofs.layer_message.message_size.Statement.{statement}
 use Rattle.tile.proofs.layer_message.message_size.Tie as tie
@@ -20,9 +22,33 @@ use Rattle.wire.proofs.head.varint_field_size.Reads as varint-field-size-reads
 abbrev lists : tie.Start → Memory
 lists s = mem (s .args .keys .now) (s .args .values .now) (s .args .texts .now) (s .args .features .now)
 
+-- where every part's size is known: the first of them, and the sum
+abbrev named-of : tie.After-varint-field-size2 → tie.After-text-size
+named-of c = c .before .before .before .before .before
+
+abbrev start-of : tie.After-varint-field-size2 → tie.Start
+start-of c = named-of c .before .before .before .before .before
+
+abbrev total : tie.After-varint-field-size2 → ℕ
+total c =
+    let table = c .before .before .before in
+    named-of c .text-size .result + table .before .features-size .result + table .keys-size .result + c .before .before .values-size .result
+    + (c .before .varint-field-size .result + c .varint-field-size2 .result)
+
 -- what follows the lists
 last : {a b x y : ℕ} → a ≡ x → b ≡ y → a + b ≡ x + y
 last p q = omega arith
+
+total-is : (c : tie.After-varint-field-size2) → total c ≡ length (layerBytes (start-of c .args .s) (lists (start-of c)))
+total-is c =
+    let s = start-of c in
+    let table = c .before .before .before in
+    size-is (s .args .s) (lists s) (s .pre) _ _ _ _ _ (named-of c .text-size .ensures) (table .before .features-size .ensures) (table .keys-size .ensures) (c .before .before .values-size .ensures) (last (c .before .varint-field-size .ensures) (c .varint-field-size2 .ensures))
+
+fits : (c : tie.After-varint-field-size2) → total c ≤ maxSize
+fits c =
+    let s = start-of c in
+    omega (arith, total-is c, layer-short (s .args .s) (lists s) (s .pre))
 
 text-size-requires : tie.Need-text-size-requires
 text-size-requires c κs =
@@ -56,60 +82,23 @@ varint-field-size-requires-2 c κs = search needs
 
 add-last : tie.Need-add-last
 add-last c =
-    let at-varint-field-size = c .before in
-    let o1 = at-varint-field-size .before .before .before .before .before .before in
-    let s = o1 .before .before .before in
-    omega (arith, at-varint-field-size .varint-field-size .ensures, c .varint-field-size2 .ensures, varint-field-short LayerExtent (s .args .s .extent), varint-field-short LayerVersion version)
+    let s = start-of c in
+    omega (arith, c .before .varint-field-size .ensures, c .varint-field-size2 .ensures, varint-field-short LayerExtent (s .args .s .extent), varint-field-short LayerVersion version)
 
 add-result : tie.Need-add-result
-add-result c =
-    let at-varint-field-size = c .before in
-    let at-values-size = at-varint-field-size .before in
-    let at-keys-size = at-values-size .before in
-    let at-features-size = at-keys-size .before in
-    let at-text-size = at-features-size .before in
-    let s = at-text-size .before .before .before .before .before in
-    omega (arith, size-fits (s .args .s) (lists s) (s .pre) _ _ _ _ _ (at-text-size .text-size .ensures) (at-features-size .features-size .ensures) (at-keys-size .keys-size .ensures) (at-values-size .values-size .ensures) (last (at-varint-field-size .varint-field-size .ensures) (c .varint-field-size2 .ensures)))
+add-result c = omega (arith, fits c)
 
 add-result-2 : tie.Need-add-result-2
-add-result-2 c =
-    let at-varint-field-size = c .before in
-    let at-values-size = at-varint-field-size .before in
-    let at-keys-size = at-values-size .before in
-    let at-features-size = at-keys-size .before in
-    let at-text-size = at-features-size .before in
-    let s = at-text-size .before .before .before .before .before in
-    omega (arith, size-fits (s .args .s) (lists s) (s .pre) _ _ _ _ _ (at-text-size .text-size .ensures) (at-features-size .features-size .ensures) (at-keys-size .keys-size .ensures) (at-values-size .values-size .ensures) (last (at-varint-field-size .varint-field-size .ensures) (c .varint-field-size2 .ensures)))
+add-result-2 c = omega (arith, fits c)
 
 add-result-3 : tie.Need-add-result-3
-add-result-3 c =
-    let at-varint-field-size = c .before in
-    let at-values-size = at-varint-field-size .before in
-    let at-keys-size = at-values-size .before in
-    let at-features-size = at-keys-size .before in
-    let at-text-size = at-features-size .before in
-    let s = at-text-size .before .before .before .before .before in
-    omega (arith, size-fits (s .args .s) (lists s) (s .pre) _ _ _ _ _ (at-text-size .text-size .ensures) (at-features-size .features-size .ensures) (at-keys-size .keys-size .ensures) (at-values-size .values-size .ensures) (last (at-varint-field-size .varint-field-size .ensures) (c .varint-field-size2 .ensures)))
+add-result-3 c = omega (arith, fits c)
 
 add-result-4 : tie.Need-add-result-4
-add-result-4 c =
-    let at-varint-field-size = c .before in
-    let at-values-size = at-varint-field-size .before in
-    let at-keys-size = at-values-size .before in
-    let at-features-size = at-keys-size .before in
-    let at-text-size = at-features-size .before in
-    let s = at-text-size .before .before .before .before .before in
-    omega (arith, size-fits (s .args .s) (lists s) (s .pre) _ _ _ _ _ (at-text-size .text-size .ensures) (at-features-size .features-size .ensures) (at-keys-size .keys-size .ensures) (at-values-size .values-size .ensures) (last (at-varint-field-size .varint-field-size .ensures) (c .varint-field-size2 .ensures)))
+add-result-4 c = omega (arith, fits c)
 
 returns : tie.Need-returns
-returns c =
-    let at-varint-field-size = c .before in
-    let at-values-size = at-varint-field-size .before in
-    let at-keys-size = at-values-size .before in
-    let at-features-size = at-keys-size .before in
-    let at-text-size = at-features-size .before in
-    let s = at-text-size .before .before .before .before .before in
-    size-is (s .args .s) (lists s) (s .pre) _ _ _ _ _ (at-text-size .text-size .ensures) (at-features-size .features-size .ensures) (at-keys-size .keys-size .ensures) (at-values-size .values-size .ensures) (last (at-varint-field-size .varint-field-size .ensures) (c .varint-field-size2 .ensures))
+returns c = total-is c
 
 pub message-size-spec : {M : Type 1} → statement M
 message-size-spec =

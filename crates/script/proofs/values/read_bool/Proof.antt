@@ -2,8 +2,8 @@
 use borrow.Author.Needs.{needs}
 use Rattle.promise.proofs.Cases.{tests}
 use Rattle.script.specs.Script.{boolAt}
-use Rattle.script.proofs.read_bool.Statement.{statement}
-use Rattle.script.proofs.read_bool.Tie as tie
+use Rattle.script.proofs.values.read_bool.Statement.{statement}
+use Rattle.script.proofs.values.read_bool.Tie as tie
 
 returns : tie.Need-returns
 unfolding boolAt

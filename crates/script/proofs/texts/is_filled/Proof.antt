@@ -2,8 +2,8 @@
 use borrow.Author.Needs.{needs}
 use Rattle.script.proofs.Reading.{one-left, two-left, three-left}
 use Rattle.promise.proofs.Cases.{tests}
-use Rattle.script.proofs.is_filled.Statement.{statement}
-use Rattle.script.proofs.is_filled.Tie as tie
+use Rattle.script.proofs.texts.is_filled.Statement.{statement}
+use Rattle.script.proofs.texts.is_filled.Tie as tie
 
 returns : tie.Need-returns
 returns c = search (needs, tests)

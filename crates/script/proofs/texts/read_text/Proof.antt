@@ -3,8 +3,12 @@ use borrow.Author.Needs.{needs}
 use borrow.Author.Tests.{not-true, not-false}
 use Rattle.script.proofs.Reading.{text-cut, text-unfilled, text-whole}
 use Rattle.promise.proofs.Cases.{tests}
-use Rattle.script.proofs.read_text.Statement.{statement}
-use Rattle.script.proofs.read_text.Tie as tie
+use Rattle.script.proofs.texts.read_text.Statement.{statement}
+use Rattle.script.proofs.texts.read_text.Tie as tie
+
+-- the places on the way
+abbrev start-before-shared-slice-known3 : tie.After-shared-slice-known3 → tie.Start
+start-before-shared-slice-known3 c = c .before .before .before .before .before .before
 
 returns : tie.Need-returns
 returns c = search (needs, tests)
@@ -52,7 +56,7 @@ add-t11 : tie.Need-add-t11
 add-t11 c = search needs
 
 returns-4 : tie.Need-returns-4
-returns-4 c = let s = c .before .before .before .before .before .before .before .before in text-whole (s .args .numbers .now) (s .args .at) _ (search needs) (c .before .before .before .before .wide .ensures .same) (search needs) _ (c .before .is-filled .ensures) (not-false _ (c .if3 .left))
+returns-4 c = let s = start-before-shared-slice-known3 (c .before .before) in text-whole (s .args .numbers .now) (s .args .at) _ (search needs) (c .before .before .before .before .wide .ensures .same) (search needs) _ (c .before .is-filled .ensures) (not-false _ (c .if3 .left))
 
 pub read-text-spec : {M : Type 1} → statement M
 read-text-spec =

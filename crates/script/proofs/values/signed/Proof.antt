@@ -5,8 +5,8 @@ use borrow.Author.Needs.{needs}
 use mir.Facts.{toZ-ofZ}
 use mir.Syntax.{w64}
 use Rattle.whole.proofs.Twos.{signed-low, signed-high, high-fits}
-use Rattle.script.proofs.signed.Statement.{statement}
-use Rattle.script.proofs.signed.Tie as tie
+use Rattle.script.proofs.values.signed.Statement.{statement}
+use Rattle.script.proofs.values.signed.Tie as tie
 
 cast-result : tie.Need-cast-result
 cast-result c = search needs

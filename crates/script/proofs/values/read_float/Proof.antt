@@ -2,8 +2,8 @@
 use borrow.Author.Needs.{needs}
 use Rattle.promise.proofs.Cases.{tests}
 use Rattle.script.specs.Script.{floatAt}
-use Rattle.script.proofs.read_float.Statement.{statement}
-use Rattle.script.proofs.read_float.Tie as tie
+use Rattle.script.proofs.values.read_float.Statement.{statement}
+use Rattle.script.proofs.values.read_float.Tie as tie
 
 returns : tie.Need-returns
 unfolding floatAt

@@ -2,8 +2,8 @@
 use borrow.Author.Needs.{needs}
 use Rattle.promise.proofs.Cases.{tests}
 use Rattle.script.specs.Script.{valued}
-use Rattle.script.proofs.read_value.Statement.{statement}
-use Rattle.script.proofs.read_value.Tie as tie
+use Rattle.script.proofs.values.read_value.Statement.{statement}
+use Rattle.script.proofs.values.read_value.Tie as tie
 
 returns : tie.Need-returns
 unfolding valued

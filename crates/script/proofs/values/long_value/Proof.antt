@@ -4,8 +4,8 @@ use mir.Facts.{toZ-ofZ}
 use Rattle.script.proofs.Reading.{int-is, sint-is}
 use borrow.Author.Needs.{needs}
 use Rattle.promise.proofs.Cases.{tests}
-use Rattle.script.proofs.long_value.Statement.{statement}
-use Rattle.script.proofs.long_value.Tie as tie
+use Rattle.script.proofs.values.long_value.Statement.{statement}
+use Rattle.script.proofs.values.long_value.Tie as tie
 
 returns : tie.Need-returns
 returns c = search (needs, tests)

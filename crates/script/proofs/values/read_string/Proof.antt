@@ -1,8 +1,8 @@
 -- What the text's reading answered decides.
 use borrow.Author.Needs.{needs}
 use Rattle.script.proofs.Reading.{string-is, string-bad}
-use Rattle.script.proofs.read_string.Statement.{statement}
-use Rattle.script.proofs.read_string.Tie as tie
+use Rattle.script.proofs.values.read_string.Statement.{statement}
+use Rattle.script.proofs.values.read_string.Tie as tie
 
 read-text-requires : tie.Need-read-text-requires
 read-text-requires c κs = search needs

@@ -1,0 +1,110 @@
+// The values of a script: a kind, then the content.
+ghost use mathlib.Core.Path.{_≡_};
+ghost use Prim.Native.Nat.{_≤_};
+ghost use lib.ListN.{length};
+ghost use Rattle.whole.specs.Twos.{signed64};
+ghost use Rattle.script.specs.Script.{floatAt, longValue, longAt, boolAt, stringAt, valued};
+use crate::Next;
+use crate::Op;
+use crate::Part;
+use crate::Value;
+use crate::texts::Taken;
+use crate::texts::read_text;
+
+// A number of 64 bits read as a signed one.
+fn signed(n: u64) -> i64
+    ensures { λ r. ⌜ r ≡ signed64 n ⌝ }
+{
+    if n < 9_223_372_036_854_775_808 {
+        return n as i64;
+    }
+    -1 - ((18_446_744_073_709_551_615 - n) as i64)
+}
+
+// A float: one word.
+fn read_float(key: Part, numbers: &[u32], at: usize) -> Next
+    ensures { λ r. ⌜ r ≡ floatAt key (now (numbers .entry)) at ⌝ }
+{
+    if numbers.len() <= at {
+        return Next::Bad;
+    }
+    Next::Is(Op::Tag(key, Value::Float(numbers[at])), at + 1)
+}
+
+// The value of a kind from 3 to 6.
+fn long_value(kind: u32, bits: u64) -> Value
+    ensures { λ r. ⌜ r ≡ longValue kind bits ⌝ }
+{
+    if kind == 3 {
+        return Value::Double(bits);
+    }
+    if kind == 4 {
+        return Value::Int(signed(bits));
+    }
+    if kind == 5 {
+        return Value::Uint(bits);
+    }
+    Value::Sint(signed(bits))
+}
+
+// A double, an int, a uint or a sint: low half, high half.
+fn read_long(key: Part, kind: u32, numbers: &[u32], at: usize) -> Next
+    requires { ⌜ at ≤ length (now numbers) ⌝ }
+    ensures { λ r. ⌜ r ≡ longAt key kind (now (numbers .entry)) at ⌝ }
+{
+    if numbers.len() - at < 2 {
+        return Next::Bad;
+    }
+    let v = long_value(kind, wire::number::wide(numbers[at], numbers[at + 1]));
+    Next::Is(Op::Tag(key, v), at + 2)
+}
+
+// A bool: one word 0 or 1.
+fn read_bool(key: Part, numbers: &[u32], at: usize) -> Next
+    ensures { λ r. ⌜ r ≡ boolAt key (now (numbers .entry)) at ⌝ }
+{
+    if numbers.len() <= at {
+        return Next::Bad;
+    }
+    let bit = numbers[at];
+    if 1 < bit {
+        return Next::Bad;
+    }
+    Next::Is(Op::Tag(key, Value::Bool(bit == 1)), at + 1)
+}
+
+// A value that is a text.
+fn read_string(key: Part, numbers: &[u32], at: usize) -> Next
+    ensures { λ r. ⌜ r ≡ stringAt key (now (numbers .entry)) at ⌝ }
+{
+    match read_text(numbers, at) {
+        Taken::Is(text, next) => Next::Is(Op::Tag(key, Value::Text(text)), next),
+        Taken::Bad => Next::Bad,
+    }
+}
+
+// A value: its kind, then its content.
+pub(crate) fn read_value(key: Part, numbers: &[u32], at: usize) -> Next
+    ensures { λ r. ⌜ r ≡ valued key (now (numbers .entry)) at ⌝ }
+{
+    if numbers.len() <= at {
+        return Next::Bad;
+    }
+    let kind = numbers[at];
+    if kind == 1 {
+        return read_string(key, numbers, at + 1);
+    }
+    if kind == 2 {
+        return read_float(key, numbers, at + 1);
+    }
+    if kind == 7 {
+        return read_bool(key, numbers, at + 1);
+    }
+    if kind < 3 {
+        return Next::Bad;
+    }
+    if 6 < kind {
+        return Next::Bad;
+    }
+    read_long(key, kind, numbers, at + 1)
+}
