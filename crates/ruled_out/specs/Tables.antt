@@ -17,7 +17,8 @@ use Rattle.table.specs.Keys.{findKey, keysIn}
 use Rattle.table.specs.Values.{isZero, sameContent, sameValue, findValue, valueOk}
 use Rattle.records.specs.Records.{headOk, recordsIn, recordLength, endsAt}
 use Rattle.index.specs.Hashes.{hashFrom, mixed}
-use Rattle.index.specs.Chains.{slotsIn, slots, serves, cleared, maxEntry, pushed, built, walk, reach}
+use Rattle.table.specs.Least.{smaller}
+use Rattle.index.specs.Chains.{slotsIn, slots, serves, cleared, maxEntry, pushed, built, walk}
 use Rattle.index.specs.Entries.{walkedKey}
 use Rattle.layer.specs.declared.Figures.{Figures}
 use Rattle.layer.specs.Held.{Memory, mem}
@@ -177,7 +178,7 @@ pub newest-found : ((l : List ℕ) (same : ℕ → Bool) (j cur best : ℕ) → 
 newest-found h = let e : _≡_ {A = ℕ} 1 2 = h (1 ∷ 0 ∷ []) (λ j. true) 0 1 2 in omega arith
 
 -- an index with a slot for each entry and no more finds nothing
-pub full-index-empty : ((n s : ℕ) → reach n s ≡ cond (ltb n s) n 0) → ⊥
+pub full-index-empty : ((n s : ℕ) → smaller n s ≡ cond (ltb n s) n 0) → ⊥
 full-index-empty h = let e : _≡_ {A = ℕ} 1 0 = h 1 1 in omega arith
 
 -- a text's bytes are passed over
