@@ -9,7 +9,7 @@ use lib.ListN.{length}
 use lib.Dec.{leb, eqb, ltb}
 use borrow.Author.Tests.{eqb-true, eqb-false, leb-true, ltb-true, ltb-false}
 use Rattle.refusal.specs.declared.Refusal.the-variants.{Job, Kind, State, Room, Text as TextRefusal, Turn}
-use Rattle.table.specs.Texts.{inside}
+use Rattle.table.specs.Texts.{inside, textOf}
 use Rattle.table.specs.Values.{valueOk}
 use Rattle.words.specs.Geometries.{isKind, maxWords}
 use Rattle.whole.specs.Twos.{wide, signed64}
@@ -20,7 +20,7 @@ use Rattle.layer.specs.declared.whole_feature.Head.{Head}
 use Rattle.layer.specs.Held.{Seen, fits}
 use Rattle.layer.specs.State.{valid}
 use Rattle.layer.specs.Calls.{Tag as Stored, isShut, bitsOf, bitOf, tagPut}
-use Rattle.layer.specs.TagLists.{tagOk, tagsOk, tagsShort, textAt, tagOf as tagStored, tagsOf}
+use Rattle.layer.specs.TagLists.{tagOk, tagsOk, tagsShort, tagOf as tagStored, tagsOf}
 use Rattle.layer.specs.Whole.{featureOpened, tagsPut, featurePut, addFeature}
 use Rattle.layer.proofs.Fitting.{both, never}
 use Rattle.layer.proofs.Listing.{yes}
@@ -46,7 +46,7 @@ signed-fits n h = by (ltb n 9223372036854775808) refl
 -- ---- the tag of five words is the one given
 module _ (bytes : List ℕ) (start len kind low high : ℕ) (l : low < 4294967296) (h : high < 4294967296) where
   abbrev Given : Content → Type 0
-  Given c = (tagStored bytes start len kind low high ≡ tagOf (textAt bytes start len) c) × Fine c
+  Given c = (tagStored bytes start len kind low high ≡ tagOf (textOf bytes start len) c) × Fine c
 
   -- a bool's content is 0 or 1
   bit-is : low ≤ 1 → bitOf (eqb low 1) ≡ low
@@ -111,12 +111,12 @@ tags-stand bytes (start ∷ len ∷ kind ∷ low ∷ high ∷ ws) e w o v d s S 
     let p = yes (tagOk (length bytes) start len kind low high) (tagsOk (length bytes) ws) e in
     let ok = both (inside (length bytes) start len) (valueOk (length bytes) kind low high) (p .0) .1 in
     let c = contentAt bytes kind low high in
-    let t : Tag = record { key = textAt bytes start len; value = c } in
+    let t : Tag = record { key = textOf bytes start len; value = c } in
     let G = tag-given bytes start len kind low high (w .1 .1 .1 .0) (w .1 .1 .1 .1 .0) ok in
     let x = tagStored bytes start len kind low high in
-    let T : Stands (tagPut o x v) (after (tags (textAt bytes start len) c) d) =
-    subst (λ (y : Stored). Stands (tagPut o y v) (after (tags (textAt bytes start len) c) d)) (sym (G .0)) (tag-stands v d S o s (textAt bytes start len) c (G .1)) in
-    rw (← tagged-more t (tagsGiven bytes ws) (d .pending)) (tags-stand bytes ws (p .1) (w .1 .1 .1 .1 .1) o (tagPut o x v) (after (tags (textAt bytes start len) c) d) s T)
+    let T : Stands (tagPut o x v) (after (tags (textOf bytes start len) c) d) =
+    subst (λ (y : Stored). Stands (tagPut o y v) (after (tags (textOf bytes start len) c) d)) (sym (G .0)) (tag-stands v d S o s (textOf bytes start len) c (G .1)) in
+    rw (← tagged-more t (tagsGiven bytes ws) (d .pending)) (tags-stand bytes ws (p .1) (w .1 .1 .1 .1 .1) o (tagPut o x v) (after (tags (textOf bytes start len) c) d) s T)
 
 -- ---- the whole
 mark-is : (b : Bool) (n : ℕ) → cond b 1 0 ≡ markOf (idGiven b n)

@@ -11,7 +11,7 @@ use Rattle.whole.specs.Twos.{wide, signed64}
 use Rattle.layer.specs.declared.whole_feature.Head.{Head}
 use Rattle.layer.specs.Held.{Seen, Change}
 use Rattle.layer.specs.Calls.{Tag as Stored, intoFeature, setId, addTag, intoLayer, abandoned, tagString, tagBits, bitsOf, bitOf}
-use Rattle.layer.specs.TagLists.{textAt}
+use Rattle.table.specs.Texts.{textOf}
 use Rattle.layer.specs.Whole.{addFeature}
 use Rattle.layer.specs.Many.{headOf}
 use Rattle.given.specs.Given.{Content, text, float, double, int, uint, sint, bool, Tag, Feature, Drawing}
@@ -31,7 +31,7 @@ tagOf key (bool b) = tagBits 7 key (bitOf b)
 -- is, or the halves of its content
 abbrev pub contentAt : List ℕ → ℕ → ℕ → ℕ → Content
 contentAt bytes kind low high =
-    cond (eqb kind 1) (text (textAt bytes low high))
+    cond (eqb kind 1) (text (textOf bytes low high))
     (cond (eqb kind 2) (float low)
     (cond (eqb kind 3) (double (wide low high))
     (cond (eqb kind 4) (int (signed64 (wide low high)))
@@ -44,7 +44,7 @@ tagsGiven bytes (start ∷ []) = []
 tagsGiven bytes (start ∷ len ∷ []) = []
 tagsGiven bytes (start ∷ len ∷ kind ∷ []) = []
 tagsGiven bytes (start ∷ len ∷ kind ∷ low ∷ []) = []
-tagsGiven bytes (start ∷ len ∷ kind ∷ low ∷ high ∷ ws) = record { key = textAt bytes start len; value = contentAt bytes kind low high } ∷ tagsGiven bytes ws
+tagsGiven bytes (start ∷ len ∷ kind ∷ low ∷ high ∷ ws) = record { key = textOf bytes start len; value = contentAt bytes kind low high } ∷ tagsGiven bytes ws
 
 abbrev pub idGiven : Bool → ℕ → Option ℕ
 idGiven true id = some id
