@@ -1,3 +1,4 @@
 pub mod Tellings
 pub mod Structs
 pub mod Carrying
+pub mod NoState
