@@ -13,3 +13,4 @@ pub mod Wire
 pub mod Messages
 pub mod Tiles
 pub mod Programs
+pub mod Orders
