@@ -3,7 +3,7 @@
 use Prim.Native.Nat.{ℕ}
 use mathlib.Core.Path.{_≡_, ap}
 use mathlib.Core.Bool.{cond}
-use mathlib.Core.List.{List, []}
+use mathlib.Core.List.{List, [], _∷_}
 use native.Mathlib.Omega.{arith}
 use lib.ListN.{length}
 use Rattle.promise.specs.Answers.{Written, kept}
@@ -14,11 +14,13 @@ use Rattle.encoder.specs.States.{valid as validState}
 use Rattle.encoder.specs.Answers.{turned}
 use Rattle.encoder.specs.Completing.{isEmpty, completed}
 use Rattle.layer.specs.declared.Figures.{Figures}
+use Rattle.layer.specs.declared.Layer.{Layer}
 use Rattle.layer.specs.declared.Open.the-variants.{Shut}
-use Rattle.layer.specs.Held.{Seen, seen, Change, holds, check, whenOpen, heldBy}
+use Rattle.layer.specs.Held.{Memory, Seen, seen, Change, holds, check, whenOpen, heldBy}
 use Rattle.layer.specs.State.{valid}
 use Rattle.layer.specs.Answers.{tellsNot}
 use Rattle.layer.specs.Calls.{isShut, withUsed, marked, setId, intoLayer, abandoned, numTags}
+use Rattle.layer.specs.Many.{addFeatures}
 use Rattle.ruled_out.specs.Inputs.{refusalOf, figures, layerOf, lent, state}
 
 -- a layer with a figure that is more than its list, and no feature open
@@ -44,6 +46,12 @@ abandon-turn-first h = let e : _≡_ {A = ℕ} 4 12 = ap refusalOf (h shutBroken
 pub tags-turn-first : ((v : Seen) → numTags v ≡ cond (isShut (v .layer .feature)) (tellsNot Turn 0 (v .layer)) (numTags v)) → ⊥
 unfolding valid
 tags-turn-first h = let e : _≡_ {A = ℕ} 4 12 = ap (λ a. a .number) (h shutBroken) in omega arith
+
+-- STATE before JOB, of many features: one word that is no head, and a broken layer
+pub many-state-first : ((heads words ws bytes : List ℕ) (s : Layer) (m : Memory)
+    → addFeatures heads words ws bytes s m .answer .number ≡ cond (valid (seen s m)) (addFeatures heads words ws bytes s m .answer .number) 4) → ⊥
+unfolding valid
+many-state-first h = let e : _≡_ {A = ℕ} 1 4 = h (1 ∷ []) [] [] [] (layerOf (figures 9 1 3 11) Shut) lent in omega arith
 
 -- EMPTY before STATE: points that use more words than there are
 pub empty-first : ((s : GeomEncoder) (out : List ℕ)
