@@ -13,8 +13,8 @@ use Rattle.refusal.specs.declared.Refusal.{Refusal}
 use Rattle.refusal.specs.Refusals.{numberOf}
 use Rattle.refusal.specs.Said.{Said, accepted, refused}
 use Rattle.refusal.proofs.Laws.{numbered}
-use Rattle.lines.specs.Printed.{shown, wordsText, wordsRoom, refusedText, refusedRoom}
-use Rattle.lines.proofs.Columns.{words-short, refused-short}
+use Rattle.printed.specs.Printed.{shown, wordsText, wordsRoom, refusedText, refusedRoom}
+use Rattle.printed.proofs.Columns.{words-short, refused-short}
 use Rattle.job_file.specs.JobFile.{jobFile}
 use Rattle.job.specs.Program.{fileText, Told}
 

@@ -7,8 +7,8 @@ use lib.Dec.{eqb}
 use lib.ListN.{length, take}
 use Rattle.promise.specs.Answers.{Written}
 use Rattle.refusal.specs.Said.{Said}
-use Rattle.numbers.specs.Numbers.{reading}
-use Rattle.lines.specs.Printed.{wordsText, refusedText}
+use Rattle.number_file.specs.Numbers.{reading}
+use Rattle.printed.specs.Printed.{wordsText, refusedText}
 use Rattle.job_file.specs.JobFile.{jobFile}
 
 -- a whole job's answer: its words, or `refused R at P`

@@ -3,7 +3,7 @@ ghost use Prim.Native.Nat.{_*_, _+_, _≤_};
 ghost use lib.ListN.{length};
 ghost use Rattle.job.specs.Program.{Told, printed};
 use encoder::whole_job::Encoded;
-use numbers::Numbers;
+use number_file::Numbers;
 
 // What the program prints for a file, at the front of `text`: how many bytes it is. The lists are the program's own, and large enough.
 fn answer(file: &[u8], numbers: &mut [u32], words: &mut [u32], text: &mut [u8]) -> usize
@@ -11,15 +11,15 @@ fn answer(file: &[u8], numbers: &mut [u32], words: &mut [u32], text: &mut [u8]) 
     requires { ⌜ 27 + 21 * length (now words) ≤ length (now text) ⌝ }
     ensures { λ r. ⌜ Told (printed (now (file .entry)) (now (numbers .entry)) (now (words .entry))) r (now (text .exit)) ⌝ }
 {
-    match numbers::read_numbers(file, numbers) {
-        Numbers::Refused(r) => lines::show_refused(refusal::number(r), 0, text),
+    match number_file::read_numbers(file, numbers) {
+        Numbers::Refused(r) => printed::show_refused(refusal::number(r), 0, text),
         Numbers::Read(n) => match job_file::encode_file(&numbers[..n], words) {
-            Encoded::Refused(r, accepted) => lines::show_refused(
+            Encoded::Refused(r, accepted) => printed::show_refused(
                 refusal::number(r),
                 accepted,
                 text,
             ),
-            Encoded::Words(used) => lines::show_words(&words[..used], text),
+            Encoded::Words(used) => printed::show_words(&words[..used], text),
         },
     }
 }

@@ -10,7 +10,7 @@ use Rattle.promise.specs.Answers.{Written, kept}
 use Rattle.refusal.specs.declared.Refusal.the-variants.{Job}
 use Rattle.refusal.specs.Said.{Said, refused}
 use Rattle.clip.specs.declared.BBox.{BBox}
-use Rattle.numbers.specs.Numbers.{maxBytes}
+use Rattle.number_file.specs.Numbers.{maxBytes}
 use Rattle.whole.specs.Twos.{signed32}
 use Rattle.encoder.specs.Jobs.{encodedJob}
 

@@ -10,8 +10,8 @@ ghost use Rattle.encoder.specs.Jobs.{saidEncoded};
 ghost use Rattle.job_file.specs.JobFile.{box, bodyEncoded, jobFile};
 use clip::BBox;
 use encoder::whole_job::Encoded;
-use numbers::File;
-use numbers::signed;
+use number_file::File;
+use number_file::signed;
 use refusal::Refusal;
 
 // Lays numbers, read as signed ones, at the front of `out`.

@@ -7,7 +7,7 @@ use lib.IntN.{ℤ}
 use lib.ListN.{take}
 use Rattle.promise.specs.Answers.{Written}
 use Rattle.refusal.specs.Said.{Said}
-use Rattle.numbers.specs.Numbers.{reading as numbersRead}
+use Rattle.number_file.specs.Numbers.{reading as numbersRead}
 use Rattle.decoder.specs.ReadingWords.{reading}
 
 -- the program's two buffers

@@ -5,7 +5,7 @@ ghost use Rattle.promise.specs.Answers.{Gives};
 ghost use Rattle.decoder.specs.ReadingWords.{saidReading};
 ghost use Rattle.read_words.specs.WordFiles.{fileRead};
 use decoder::Reading;
-use numbers::Numbers;
+use number_file::Numbers;
 use refusal::Refusal;
 
 fn magnitude(v: i32) -> u64
@@ -64,7 +64,7 @@ fn refuse(r: Refusal) {
 fn read_file(bytes: &[u8], words: &mut [u32], out: &mut [i32]) -> Reading
     ensures { λ r. ⌜ Gives (fileRead (now (bytes .entry)) (record { words = now (words .entry); out = now (out .entry) })) (saidReading r) (record { words = now (words .exit); out = now (out .exit) }) ⌝ }
 {
-    match numbers::read_numbers(bytes, words) {
+    match number_file::read_numbers(bytes, words) {
         Numbers::Read(n) => decoder::decode(&words[..n], out),
         Numbers::Refused(r) => Reading::Refused(r),
     }

@@ -8,8 +8,8 @@ use native.Mathlib.Decide.{decLt}
 use lib.Dec.{leb}
 use lib.ListN.{length, getD, take, drop, drop-of-length-le}
 use Rattle.promise.specs.Answers.{Gives}
-use Rattle.lines.specs.Printed.{shown, wordsRoom, wordsText, refusedRoom, refusedText}
-use Rattle.lines.specs.Tiles.{tileRoom, tileText}
+use Rattle.printed.specs.Printed.{shown, wordsRoom, wordsText, refusedRoom, refusedText}
+use Rattle.printed.specs.Tiles.{tileRoom, tileText}
 use Rattle.replay.specs.Printing.{printed}
 use Rattle.replay.specs.Records.{Past, pastOf, bodyOf}
 

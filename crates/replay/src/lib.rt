@@ -6,11 +6,11 @@ ghost use Rattle.replay.specs.Records.{Past, bodyOf};
 ghost use Rattle.replay.specs.Printing.{sizeOf, printed};
 ghost use Rattle.whole.specs.Twos.{signed32};
 ghost use Rattle.refusal.specs.Refusals.{numberOf};
-ghost use Rattle.lines.specs.Printed.{wordsText, wordsRoom, refusedText, refusedRoom};
-ghost use Rattle.lines.specs.Row.{rowText, rowRoom};
-ghost use Rattle.lines.specs.Tiles.{tileText, tileRoom};
+ghost use Rattle.printed.specs.Printed.{wordsText, wordsRoom, refusedText, refusedRoom};
+ghost use Rattle.printed.specs.Row.{rowText, rowRoom};
+ghost use Rattle.printed.specs.Tiles.{tileText, tileRoom};
 ghost use Rattle.io.specs.Counts.{Counts};
-use numbers::Numbers;
+use number_file::Numbers;
 use refusal::Refusal;
 
 // The bytes of a file; none, and a line on standard error, where it cannot be read. No contract can say what a file holds, so this one says only how many bytes there are at most.
@@ -33,7 +33,7 @@ pub fn load(path: &[u8], out: &mut [u32]) -> usize
 {
     let mut bytes = io::large_buffer();
     let n = read_file(path, &mut bytes);
-    match numbers::read_numbers(&bytes[..n], out) {
+    match number_file::read_numbers(&bytes[..n], out) {
         Numbers::Read(k) => k,
         Numbers::Refused(_) => 0,
     }
@@ -80,7 +80,7 @@ pub fn number(list: &[u32], i: usize) -> u32
 pub fn signed_at(list: &[u32], i: usize) -> i32
     ensures { λ r. ⌜ r ≡ signed32 (getD (now (list .entry)) i 0) ⌝ }
 {
-    numbers::signed(number(list, i))
+    number_file::signed(number(list, i))
 }
 
 // A number and a size as numbers of a row. No list is as long as 2^63, so -1 stands for a size that has no place there.
@@ -124,7 +124,7 @@ pub fn print_row(row: &[i64]) -> usize
     ensures { λ r. ⌜ r ≡ printed (rowRoom (now (row .entry))) (rowText (now (row .entry))) 374 ⌝ }
 {
     let mut text = [0u8; 374];
-    let n = lines::show_row(row, &mut text);
+    let n = printed::show_row(row, &mut text);
     io::write_all(libc::STDOUT_FILENO, first_bytes(&text, n));
     n
 }
@@ -133,7 +133,7 @@ pub fn print_refused(r: Refusal, accepted: usize) -> usize
     ensures { λ k. ⌜ k ≡ printed refusedRoom (refusedText (numberOf r) accepted) 53 ⌝ }
 {
     let mut text = [0u8; 53];
-    let n = lines::show_refused(refusal::number(r), accepted, &mut text);
+    let n = printed::show_refused(refusal::number(r), accepted, &mut text);
     io::write_all(libc::STDOUT_FILENO, first_bytes(&text, n));
     n
 }
@@ -143,7 +143,7 @@ pub fn print_words(words: &[u32], n: usize) -> usize
     ensures { λ r. ⌜ r ≡ printed (wordsRoom (take n (now (words .entry)))) (wordsText (take n (now (words .entry)))) 344091 ⌝ }
 {
     let mut text = [0u8; 344_091];
-    let k = lines::show_words(first(words, n), &mut text);
+    let k = printed::show_words(first(words, n), &mut text);
     io::write_all(libc::STDOUT_FILENO, first_bytes(&text, k));
     k
 }
@@ -153,7 +153,7 @@ pub fn print_tile(outcomes: &[u32], n: usize, bytes: &[u8], used: usize) -> usiz
     ensures { λ r. ⌜ r ≡ printed (tileRoom (take n (now (outcomes .entry))) (take used (now (bytes .entry)))) (tileText (take n (now (outcomes .entry))) (take used (now (bytes .entry)))) 450000 ⌝ }
 {
     let mut text = [0u8; 450_000];
-    let k = lines::show_tile(first(outcomes, n), first_bytes(bytes, used), &mut text);
+    let k = printed::show_tile(first(outcomes, n), first_bytes(bytes, used), &mut text);
     io::write_all(libc::STDOUT_FILENO, first_bytes(&text, k));
     k
 }

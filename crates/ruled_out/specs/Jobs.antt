@@ -1,4 +1,4 @@
--- Crates `encoder` (its whole job), `job_file` and `numbers`: wrong jobs, wrong job files and wrong numbers of a file.
+-- Crates `encoder` (its whole job), `job_file` and `number_file`: wrong jobs, wrong job files and wrong numbers of a file.
 use Prim.Native.Nat.{ℕ, _+_, _-_, _*_, _/_, _%_}
 use mathlib.Core.Path.{_≡_, ap}
 use mathlib.Core.Bool.{false, cond}
@@ -23,7 +23,7 @@ use Rattle.encoder.specs.Adding.{boundary, pointAt, added}
 use Rattle.encoder.specs.Completing.{finished, completed}
 use Rattle.encoder.specs.Calls.{add}
 use Rattle.encoder.specs.Jobs.{pointsOf, endsAt, isJob, part, jobCalls, encodedJob}
-use Rattle.numbers.specs.Numbers.{maxBytes, number, numbersOf, reading}
+use Rattle.number_file.specs.Numbers.{maxBytes, number, numbersOf, reading}
 use Rattle.job_file.specs.JobFile.{kindOf, box, boxOf, partsOf, endsOf, pointsIn, jobFile}
 use Rattle.ruled_out.specs.Inputs.{bit, size, item, sizeOf, firstY, hundred, flat}
 
@@ -123,7 +123,7 @@ pub no-words-written : ((file words : List ℕ) → jobFile file words .memory �
 unfolding jobFile encodedJob isJob isGood valid isCoord boundary emission param finished added completed
 no-words-written h = let e : _≡_ {A = ℕ} 17 0 = ap (item 0) (h sample (replicate 8 0)) in omega arith
 
--- ---- numbers::File::max_bytes
+-- ---- number_file::File::max_bytes
 -- one byte more
 pub one-byte-more : maxBytes ≡ 65537 → ⊥
 one-byte-more h = omega arith
@@ -132,7 +132,7 @@ one-byte-more h = omega arith
 pub one-byte-less : maxBytes ≡ 65535 → ⊥
 one-byte-less h = omega arith
 
--- ---- numbers::read_numbers
+-- ---- number_file::read_numbers
 -- the most significant byte first
 pub most-significant-first : ((a b c d : ℕ) → number a b c d ≡ d + 256 * c + 65536 * b + 16777216 * a) → ⊥
 most-significant-first h = let e : _≡_ {A = ℕ} 1 16777216 = h 1 0 0 0 in omega arith
@@ -150,7 +150,7 @@ pub short-list-as-job : ((bytes out : List ℕ)
 unfolding reading
 short-list-as-job h = let e : _≡_ {A = ℕ} 7 1 = h (9 ∷ 0 ∷ 0 ∷ 0 ∷ []) [] in omega arith
 
--- ---- numbers::signed, and 64 bits of two halves
+-- ---- number_file::signed, and 64 bits of two halves
 -- two's complement that starts one number too early, at any width
 pub twos-too-early : ((half n : ℕ) → twos half n ≡ cond (ltb (n + 1) half) (pos n) (pos n -ℤ pos (2 * half))) → ⊥
 twos-too-early h = let e : _≡_ {A = ℕ} 7 9 = ap size (h 8 7) in omega arith

@@ -1,4 +1,4 @@
--- Crates `encoder` (its stretches), `lines`, `script` and `tile_run`, on which the programs stand: wrong stretches, texts and operations.
+-- Crates `encoder` (its stretches), `printed`, `script` and `tile_run`, on which the programs stand: wrong stretches, texts and operations.
 use Prim.Native.Nat.{ℕ, suc, _+_, _/_, _%_}
 use mathlib.Core.Path.{_≡_, ap}
 use mathlib.Core.Bool.{true, cond, _&&_}
@@ -17,9 +17,9 @@ use Rattle.encoder.specs.declared.GeomEncoder.{GeomEncoder}
 use Rattle.encoder.specs.Adding.{pointAt, added}
 use Rattle.encoder.specs.declared.stretch.Stretch.{Stretch}
 use Rattle.encoder.specs.Stretches.{pointIn, isPlain, halted, run}
-use Rattle.lines.specs.Decimal.{decimalIn, decimal}
-use Rattle.lines.specs.Printed.{wordsHead, column, refusedText, shown}
-use Rattle.lines.specs.Tiles.{hexDigit, endsLine}
+use Rattle.printed.specs.Decimal.{decimalIn, decimal}
+use Rattle.printed.specs.Printed.{wordsHead, column, refusedText, shown}
+use Rattle.printed.specs.Tiles.{hexDigit, endsLine}
 use Rattle.layer.specs.declared.Open.the-variants.{Since}
 use Rattle.layer.specs.State.{valid}
 use Rattle.layer.specs.Calls.{Tag, intoLayer, tagBits, bitsOf}
@@ -46,7 +46,7 @@ pub room-for-five : ((s : GeomEncoder) (p : Pt) (n : ℕ) → isPlain s p n ≡ 
 unfolding isCoord
 room-for-five h = let e : _≡_ {A = ℕ} 0 1 = ap bit (h (afterTwo 2) (pointAt (pos 5) (pos 7)) 11) in omega arith
 
--- ---- lines::show_words, show_refused, show_tile
+-- ---- printed::show_words, show_refused, show_tile
 -- the least significant digit first
 pub digits-reversed : ((k n : ℕ) → decimalIn (suc k) n ≡ cond (ltb n 10) ((48 + n) ∷ []) (((48 + n % 10) ∷ []) ++ decimalIn k (n / 10))) → ⊥
 digits-reversed h = let e : _≡_ {A = ℕ} 49 50 = ap (item 0) (h 19 12) in omega arith

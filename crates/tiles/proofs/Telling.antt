@@ -13,10 +13,10 @@ use Rattle.refusal.specs.declared.Refusal.the-variants.{Room}
 use Rattle.refusal.specs.Refusals.{numberOf}
 use Rattle.refusal.specs.Said.{Said, accepted, refused}
 use Rattle.refusal.proofs.Laws.{numbered}
-use Rattle.lines.specs.Printed.{Told, shown}
-use Rattle.lines.specs.Tiles.{tileText, tileRoom}
-use Rattle.lines.proofs.Columns.{told}
-use Rattle.lines.proofs.Rows.{tile-short}
+use Rattle.printed.specs.Printed.{Told, shown}
+use Rattle.printed.specs.Tiles.{tileText, tileRoom}
+use Rattle.printed.proofs.Columns.{told}
+use Rattle.printed.proofs.Rows.{tile-short}
 use Rattle.tile_run.specs.Operations.{Lists}
 use Rattle.tile_run.specs.Running.{RunLists, counts, ranScript}
 use Rattle.tiles.specs.Program.{noText, tileShown, fileText}

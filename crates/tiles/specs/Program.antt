@@ -9,8 +9,8 @@ use Rattle.promise.specs.Answers.{Written}
 use Rattle.refusal.specs.declared.Refusal.the-variants.{Room}
 use Rattle.refusal.specs.Refusals.{numberOf}
 use Rattle.refusal.specs.Said.{Said}
-use Rattle.numbers.specs.Numbers.{reading}
-use Rattle.lines.specs.Tiles.{tileText, tileRoom}
+use Rattle.number_file.specs.Numbers.{reading}
+use Rattle.printed.specs.Tiles.{tileText, tileRoom}
 use Rattle.tile_run.specs.Operations.{Lists}
 use Rattle.tile_run.specs.Running.{Counts, RunLists, ranScript}
 

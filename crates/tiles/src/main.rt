@@ -5,13 +5,13 @@ ghost use Prim.Native.Nat.{_≤_};
 ghost use lib.ListN.{length, take};
 ghost use Rattle.promise.specs.Answers.{Gives};
 ghost use Rattle.refusal.specs.Refusals.{numberOf};
-ghost use Rattle.lines.specs.Printed.{Told, shown};
-ghost use Rattle.lines.specs.Tiles.{tileText, tileRoom};
+ghost use Rattle.printed.specs.Printed.{Told, shown};
+ghost use Rattle.printed.specs.Tiles.{tileText, tileRoom};
 ghost use Rattle.layer.specs.Held.{mem};
 ghost use Rattle.tile.specs.Tiles.{lists as tileLists};
 ghost use Rattle.tile_run.specs.Operations.{lists};
 ghost use Rattle.tiles.specs.Program.{tileShown, printed};
-use numbers::Numbers;
+use number_file::Numbers;
 use refusal::Refusal;
 use tile_run::Ran;
 
@@ -40,7 +40,7 @@ fn show_refusal(r: Refusal, text: &mut [u8]) -> usize
     ensures { λ k. ⌜ Gives (shown (tileRoom (numberOf r ∷ []) []) (tileText (numberOf r ∷ []) []) (now (text .entry))) k (now (text .exit)) ⌝ }
 {
     let outcomes = [refusal::number(r)];
-    lines::show_tile(&outcomes, b"", text)
+    printed::show_tile(&outcomes, b"", text)
 }
 
 // So many outcomes and bytes, shown; ROOM where the text is too short for them.
@@ -50,7 +50,7 @@ fn show(outcomes: &[u32], n: usize, out: &[u8], used: usize, text: &mut [u8]) ->
 {
     let os = first(outcomes, n);
     let bs = first_bytes(out, used);
-    let k = lines::show_tile(os, bs, text);
+    let k = printed::show_tile(os, bs, text);
     if k == 0 {
         return show_refusal(Refusal::Room, text);
     }
@@ -73,7 +73,7 @@ fn answer(
     requires { ⌜ 56 ≤ length (now text) ⌝ }
     ensures { λ r. ⌜ Told (printed (length (now (text .entry))) (now (file .entry)) (now (numbers .entry)) (now (outcomes .entry)) (lists (mem (now (keys .entry)) (now (values .entry)) (now (texts .entry)) (now (features .entry))) (tileLists (now (names .entry)) (now (out .entry))))) r (now (text .exit)) ⌝ }
 {
-    match numbers::read_numbers(file, numbers) {
+    match number_file::read_numbers(file, numbers) {
         Numbers::Refused(r) => show_refusal(r, text),
         Numbers::Read(n) => {
             let script = first(numbers, n);

@@ -4,7 +4,7 @@ use mathlib.Core.Path.{sym}
 use native.Mathlib.Omega.{arith}
 use lib.ListN.{length}
 use lib.Seq.{length-take-le}
-use Rattle.numbers.proofs.Places.{read-within}
+use Rattle.number_file.proofs.Places.{read-within}
 use Rattle.job_file.proofs.Taking.{file-within}
 use Rattle.job.specs.Program.{printed}
 use Rattle.job.proofs.Telling.{no-numbers, no-job, all-words}

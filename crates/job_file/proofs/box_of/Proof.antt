@@ -6,7 +6,7 @@ use Rattle.job_file.proofs.box_of.Statement.{statement}
 use Rattle.job_file.proofs.box_of.Tie as tie
 use Rattle.job_file.proofs.box_of.Reads as reads
 use Rattle.job_file.proofs.box_of.Lts as lts
-use Rattle.numbers.proofs.signed.Reads as signed-reads
+use Rattle.number_file.proofs.signed.Reads as signed-reads
 
 signed-requires : tie.Need-signed-requires
 signed-requires c κs = search needs

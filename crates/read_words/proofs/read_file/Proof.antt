@@ -5,7 +5,7 @@ use native.Mathlib.Omega.{arith}
 use borrow.Author.Needs.{needs}
 use lib.ListN.{length}
 use lib.Seq.{length-take-le}
-use Rattle.numbers.proofs.Places.{read-within}
+use Rattle.number_file.proofs.Places.{read-within}
 use Rattle.read_words.proofs.Files.{on, off}
 use Rattle.read_words.proofs.read_file.Statement.{statement}
 use Rattle.read_words.proofs.read_file.Tie as tie

@@ -1,7 +1,7 @@
 -- What is read has no more numbers than the list.
 use native.Mathlib.Omega.{arith}
 use Rattle.io.proofs.Counting.{counts}
-use Rattle.numbers.proofs.Places.{read-within}
+use Rattle.number_file.proofs.Places.{read-within}
 use borrow.Author.Needs.{needs}
 use Rattle.replay.proofs.load.Statement.{statement}
 use Rattle.replay.proofs.load.Tie as tie

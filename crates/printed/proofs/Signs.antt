@@ -1,0 +1,84 @@
+-- A signed number's sign and size, and the row of them: how long a piece is, and what is still to come.
+use mathlib.Core.Path.{_≡_, refl, _∙_}
+use mathlib.Core.List.{List, [], _∷_, _++_}
+use Prim.Native.Nat.{ℕ, suc, _+_, _*_, _<_, _≤_}
+use native.Mathlib.Numerals.{add-one}
+use native.Mathlib.Omega.{arith}
+use borrow.Author.Tests.{le-leb}
+use lib.Dec.{T}
+use lib.IntN.{ℤ, pos, negsuc, natAbs, _-ℤ_}
+use lib.Signed.{_≤ℤ_, _<ℤ_, nonNeg}
+use lib.ListN.{length, drop, getD, length-append, drop-of-length-le}
+use lib.Seq.{drop-cons}
+use mir.Syntax.{w64}
+use mir.Val.{SFits, Fits}
+use Rattle.promise.specs.Answers.{Gives}
+use Rattle.promise.specs.Laid.{lay}
+use Rattle.promise.proofs.Laying.{lay-next}
+use Rattle.whole.proofs.Parts.{zarith, -parts}
+use Rattle.printed.specs.Decimal.{ended}
+use Rattle.printed.specs.Printed.{shown}
+use Rattle.printed.specs.Row.{signedEnded, behind, rowFrom, rowText, rowRoom}
+use Rattle.printed.proofs.Decimals.{ended-short}
+
+-- ---- how far a number is from zero: what is one less stands between -1 and a number below zero
+is-next : (n : ℕ) → negsuc 0 -ℤ negsuc n ≡ pos n
+is-next n = omega (zarith, -parts (negsuc 0) (negsuc n))
+
+pub record Below (z : ℤ) : Type 0 where
+  pub fits : SFits w64 (negsuc 0 -ℤ z)
+  pub casts : T (nonNeg (negsuc 0 -ℤ z)) × Fits w64 (natAbs (negsuc 0 -ℤ z))
+  pub sum : Fits w64 (natAbs (negsuc 0 -ℤ z) + 1)
+  pub same : natAbs (negsuc 0 -ℤ z) + 1 ≡ natAbs z
+
+pub below : {z : ℤ} → SFits w64 z → z <ℤ pos 0 → Below z
+below {z = pos n} f h = absurd (omega zarith)
+below {z = negsuc n} f h =
+    record {
+      fits = rw (is-next n) (record { sfits = f .sfits });
+      casts = rw (is-next n) (tt, record { fits = omega (arith, f .sfits) });
+      sum = rw (is-next n) (record { fits = omega (arith, f .sfits) });
+      same = rw (is-next n) (omega arith);
+    }
+
+pub casts : {z : ℤ} → SFits w64 z → pos 0 ≤ℤ z → T (nonNeg z) × Fits w64 (natAbs z)
+casts {z = pos n} f h = (tt, record { fits = omega (arith, f .sfits) })
+casts {z = negsuc n} f h = absurd (omega zarith)
+
+-- ---- a number with its sign
+module _ {z : ℤ} (end at size : ℕ) (text l m : List ℕ) (r : ℕ) (e : size ≡ natAbs z) where
+  pub minus-laid : z <ℤ pos 0 → at + 22 ≤ length text → l ≡ lay at (45 ∷ []) text
+      → Gives (record { answer = at + 1 + length (ended size end); memory = lay (at + 1) (ended size end) l }) r m
+      → Gives (record { answer = at + length (signedEnded z end); memory = lay at (signedEnded z end) text }) r m
+  unfolding signedEnded
+  minus-laid h k g w = by z e h
+    where
+      by : (y : ℤ) → size ≡ natAbs y → y <ℤ pos 0 → Gives (record { answer = at + length (signedEnded y end); memory = lay at (signedEnded y end) text }) r m
+      by (pos n) d b = absurd (omega zarith)
+      by (negsuc n) d b = rw (← d) (record { answer = w .answer ∙ omega arith; memory = w .memory ∙ rw g (lay-next at (45 ∷ []) (ended size end) text (omega arith)) })
+
+  pub plus-laid : pos 0 ≤ℤ z → Gives (record { answer = at + length (ended size end); memory = lay at (ended size end) text }) r m
+      → Gives (record { answer = at + length (signedEnded z end); memory = lay at (signedEnded z end) text }) r m
+  unfolding signedEnded
+  plus-laid h w = by z e h
+    where
+      by : (y : ℤ) → size ≡ natAbs y → pos 0 ≤ℤ y → Gives (record { answer = at + length (signedEnded y end); memory = lay at (signedEnded y end) text }) r m
+      by (pos n) d b = rw (← d) w
+      by (negsuc n) d b = absurd (omega zarith)
+
+pub signed-short : (z : ℤ) (end : ℕ) → length (signedEnded z end) ≤ 22
+unfolding signedEnded
+signed-short (pos n) end = omega (arith, ended-short n end)
+signed-short (negsuc n) end = omega (arith, ended-short (suc n) end)
+
+-- ---- the row
+pub row-turn : (zs : List ℤ) (i end : ℕ) → i < length zs → end ≡ behind i (length zs)
+    → rowFrom (length zs) i (drop i zs) ≡ signedEnded (getD zs i (pos 0)) end ++ rowFrom (length zs) (i + 1) (drop (i + 1) zs)
+row-turn zs i end h e = rw (drop-cons zs i (pos 0) h, e, add-one i)
+
+pub row-done : (zs : List ℤ) (i : ℕ) → length zs ≤ i → rowFrom (length zs) i (drop i zs) ≡ []
+row-done zs i h = rw (drop-of-length-le zs h)
+
+pub row-shown : (zs : List ℤ) (text : List ℕ) (r : ℕ) (l : List ℕ) → rowRoom zs ≤ length text
+    → Gives (record { answer = 0 + length (rowText zs); memory = lay 0 (rowText zs) text }) r l → Gives (shown (rowRoom zs) (rowText zs) text) r l
+row-shown zs text r l h g = rw (le-leb (rowRoom zs) (length text) h) (record { answer = g .answer ∙ omega arith; memory = g .memory })
