@@ -12,6 +12,7 @@ ghost use Rattle.decoder.specs.Walking.{Stands, Turned, sizeOf, HasRoom,
 use crate::pen::Head;
 use crate::pen::Moved;
 use crate::pen::Pen;
+use number::wide;
 use refusal::Refusal;
 use words::geometry::Geometry;
 
@@ -34,12 +35,6 @@ enum Turn {
 enum Sized {
     Vertices(usize),
     Bad(Refusal),
-}
-
-fn wide(x: u32) -> usize
-    ensures { λ r. ⌜ r ≡ x ⌝ }
-{
-    x as usize
 }
 
 // A command word, with no pair still to come.

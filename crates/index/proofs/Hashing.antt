@@ -8,7 +8,8 @@ use lib.ListN.{length, getD, take, drop, drop-of-length-le, length-drop}
 use lib.Seq.{take-all, take-nil}
 use lib.Dec.{ltb}
 use borrow.Author.Tests.{ltb-true, ltb-false, eq-eqb}
-use Rattle.table.specs.Texts.{Wide, textOf}
+use Rattle.promise.specs.Widened.{Wide}
+use Rattle.table.specs.Texts.{textOf}
 use Rattle.table.proofs.Steps.{next}
 use Rattle.index.specs.Hashes.{Octet, hashFrom, hashText, mixed, hashStored}
 use Rattle.index.specs.Entries.{keyHash}

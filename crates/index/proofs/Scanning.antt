@@ -15,7 +15,7 @@ use Rattle.table.specs.declared.Value.{Value}
 use Rattle.table.specs.Keys.{findKey}
 use Rattle.table.specs.Values.{findValue}
 use Rattle.table.specs.Texts.{textOf}
-use Rattle.table.specs.Least.{smaller}
+use Rattle.number.specs.Least.{smaller}
 use Rattle.table.proofs.Steps.{next}
 use Rattle.index.specs.Hashes.{hashText, hashValue}
 use Rattle.index.specs.Chains.{slots, latest, Indexes, walk, foundAt, walked, bucketsOf}

@@ -10,9 +10,10 @@ use lib.Dec.{eqb}
 use borrow.Author.Tests.{ne-eqb, eqb-true, eqb-false}
 use Rattle.table.specs.declared.Found.{Found}
 use Rattle.table.specs.declared.Found.the-variants.{At, Nothing}
-use Rattle.table.specs.Texts.{Wide, sameText}
-use Rattle.table.specs.Least.{smaller}
-use Rattle.table.proofs.Least.{smaller-le}
+use Rattle.promise.specs.Widened.{Wide}
+use Rattle.table.specs.Texts.{sameText}
+use Rattle.number.specs.Least.{smaller}
+use Rattle.number.proofs.Least.{smaller-le}
 use Rattle.index.specs.Chains.{slots, walk, foundAt, walked}
 use Rattle.index.specs.Entries.{keyAt}
 use Rattle.index.specs.Steps.{Ahead}

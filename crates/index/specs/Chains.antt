@@ -8,7 +8,7 @@ use lib.ListN.{length, getD, set, replicate}
 use lib.Dec.{leb, ltb, eqb}
 use Rattle.table.specs.declared.Found.{Found}
 use Rattle.table.specs.declared.Found.the-variants.{At, Nothing}
-use Rattle.table.specs.Least.{smaller}
+use Rattle.number.specs.Least.{smaller}
 
 -- how many buckets an index of so many words has, and how many entries it has links for
 abbrev pub slotsIn : ℕ → ℕ

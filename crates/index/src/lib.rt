@@ -10,12 +10,12 @@ ghost use Rattle.index.specs.Hashes.{Octet, hashText, mixed, hashValue, 
 ghost use Rattle.index.specs.Chains.{serves, cleared, pushed, walk, foundAt};
 ghost use Rattle.index.specs.Entries.{keyAt, builtKeys, walkedKey, valueAt, builtValues, walkedValue};
 ghost use Rattle.index.specs.Steps.{endIn, Ahead};
+use number::smaller;
+use number::wide;
 use table::Found;
 use table::Value;
 use table::same_text;
 use table::same_value;
-use table::smaller;
-use table::wide;
 
 // ---- the number that chooses a bucket
 fn octet(b: u8) -> usize

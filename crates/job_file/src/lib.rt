@@ -10,8 +10,9 @@ ghost use Rattle.encoder.specs.Jobs.{saidEncoded};
 ghost use Rattle.job_file.specs.JobFile.{box, bodyEncoded, jobFile};
 use clip::BBox;
 use encoder::whole_job::Encoded;
+use number::signed32;
+use number::wide;
 use number_file::File;
-use number_file::signed;
 use refusal::Refusal;
 
 // Lays numbers, read as signed ones, at the front of `out`.
@@ -21,7 +22,7 @@ fn lay_signed(numbers: &[u32], out: &mut [i32])
 {
     let mut i = 0;
     while i < numbers.len() {
-        out[i] = signed(numbers[i]);
+        out[i] = signed32(numbers[i]);
         i += 1;
     }
 }
@@ -31,17 +32,11 @@ fn box_of(left: u32, right: u32, bottom: u32, top: u32) -> BBox
     ensures { λ r. ⌜ r ≡ box left right bottom top ⌝ }
 {
     BBox {
-        x_min: signed(left),
-        x_max: signed(right),
-        y_min: signed(bottom),
-        y_max: signed(top),
+        x_min: signed32(left),
+        x_max: signed32(right),
+        y_min: signed32(bottom),
+        y_max: signed32(top),
     }
-}
-
-fn wide(n: u32) -> usize
-    ensures { λ r. ⌜ r ≡ n ⌝ }
-{
-    n as usize
 }
 
 // The job of a file whose points begin at `body`; they are laid in `points` as signed numbers.

@@ -9,7 +9,6 @@ pub mod Telling
 pub mod Entries
 pub mod Entering
 pub mod Tagging
-pub mod Bits
 pub mod ByKind
 pub mod Noting
 pub mod Keeping

@@ -9,7 +9,8 @@ use lib.Dec.{eqb}
 use borrow.Author.Tests.{leb-true, eq-eqb}
 use Rattle.table.specs.declared.Text.{Text}
 use Rattle.table.specs.declared.Value.{Value}
-use Rattle.table.specs.Texts.{Wide, inside, shortText, maxBytes}
+use Rattle.promise.specs.Widened.{Wide}
+use Rattle.table.specs.Texts.{inside, shortText, maxBytes}
 use Rattle.table.specs.Values.{valueOk}
 use Rattle.layer.specs.declared.tag_list.Place.{Place}
 use Rattle.layer.specs.Calls.{Tag}

@@ -9,7 +9,7 @@ use lib.Seq.{take-take, getD-take}
 use borrow.Author.Tests.{not-true}
 use Rattle.refusal.specs.declared.Refusal.the-variants.{State, Turn}
 use Rattle.table.specs.declared.Found.{Found}
-use Rattle.table.specs.Texts.{Wide}
+use Rattle.promise.specs.Widened.{Wide}
 use Rattle.records.specs.Records.{recordsIn}
 use Rattle.layer.specs.declared.Figures.{Figures}
 use Rattle.layer.specs.declared.Open.{Open}

@@ -9,7 +9,8 @@ use lib.Seq.{take-add}
 use borrow.Author.Tests.{leb-true, not-true, not-false}
 use Rattle.table.specs.declared.Found.the-variants.{Nothing}
 use Rattle.table.specs.declared.Value.{Value}
-use Rattle.table.specs.Texts.{Wide, maxBytes, shortText, sameText}
+use Rattle.promise.specs.Widened.{Wide}
+use Rattle.table.specs.Texts.{maxBytes, shortText, sameText}
 use Rattle.table.specs.Values.{sameValue}
 use Rattle.layer.specs.declared.Figures.{Figures}
 use Rattle.layer.specs.declared.tag_list.Place.{Place}

@@ -3,8 +3,8 @@ use Prim.Native.Nat.{ℕ, _+_, _-_, _%_, _/_}
 use mathlib.Core.Bool.{Bool, true, false, cond}
 use mathlib.Core.List.{List, [], _∷_, _++_}
 use lib.ListN.{length, getD, set, take}
-use lib.IntN.{ℤ, pos, negsuc}
 use lib.Dec.{leb, eqb}
+pub use Rattle.whole.specs.Twos.{bitsOf}
 use Rattle.promise.specs.Answers.{Written, kept}
 use Rattle.promise.specs.Laid.{lay}
 use Rattle.refusal.specs.Said.{Said, accepted, refused}
@@ -177,10 +177,6 @@ addTag t v =
 -- the seven kinds of value. A whole number is 64 bits, of which a negative one takes the two's complement
 abbrev pub valueOf : ℕ → ℕ → Value
 valueOf kind bits = record { kind = kind; low = bits % 4294967296; high = bits / 4294967296 }
-
-abbrev pub bitsOf : ℤ → ℕ
-bitsOf (pos n) = n
-bitsOf (negsuc n) = 18446744073709551615 - n
 
 abbrev pub bitOf : Bool → ℕ
 bitOf b = cond b 1 0

@@ -10,7 +10,7 @@ use Rattle.promise.specs.Answers.{Written, kept}
 use Rattle.refusal.specs.declared.Refusal.{Refusal}
 use Rattle.refusal.specs.declared.Refusal.the-variants.{Turn}
 use Rattle.refusal.specs.Said.{Said, accepted, refused}
-pub use Rattle.table.specs.Least.{smaller}
+pub use Rattle.number.specs.Least.{smaller}
 use Rattle.layer.specs.declared.Figures.{Figures}
 use Rattle.layer.specs.declared.Open.{Open}
 use Rattle.layer.specs.declared.Open.the-variants.{Shut, Since}

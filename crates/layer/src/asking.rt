@@ -53,7 +53,7 @@ pub fn num_tags(s: Layer, keys: &[u32], values: &[u32], texts: &[u8], features: 
         return Counted::Refused(Refusal::Turn, s);
     };
     let at = o.features + 4;
-    Counted::Is(table::wide(features[at]))
+    Counted::Is(number::wide(features[at]))
 }
 
 // Where the name stands among the texts.

@@ -21,9 +21,9 @@ ghost use Rattle.promise.specs.Answers.{Gives};
 ghost use Rattle.layer.specs.Held.{roomOf, fits};
 ghost use Rattle.layer.specs.Answers.{saidCreated};
 ghost use Rattle.layer.specs.Calls.{isShut, created};
+use number::smaller;
 use refusal::Refusal;
 use table::Text;
-use table::smaller;
 
 // How much of each list is used: keys and values in entries, texts in bytes, features in words.
 pub struct Figures {

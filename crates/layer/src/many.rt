@@ -13,7 +13,6 @@ use crate::state::is_valid;
 use crate::whole_feature::Head;
 use crate::whole_feature::add_known;
 use refusal::Refusal;
-use wire::number;
 
 pub enum Added {
     Done(Layer, usize),
@@ -28,7 +27,7 @@ fn head_at(heads: &[u32], i: usize) -> Head
     Head {
         kind: heads[i],
         has_id: heads[i + 1] == 1,
-        id: number::wide(heads[i + 2], heads[i + 3]),
+        id: number::of_halves(heads[i + 2], heads[i + 3]),
     }
 }
 
@@ -43,8 +42,8 @@ fn is_head_list(heads: &[u32], words: usize, tags: usize) -> bool
         if heads.len() - i < 6 {
             return false;
         }
-        let a = table::wide(heads[i + 4]);
-        let b = table::wide(heads[i + 5]);
+        let a = number::wide(heads[i + 4]);
+        let b = number::wide(heads[i + 5]);
         if !((heads[i + 1] <= 1) & ((a <= w) & (b <= t))) {
             return false;
         }
@@ -81,8 +80,8 @@ fn add_each(
     let mut n = 0;
     while i < heads.len() {
         let f = head_at(heads, i);
-        let a = w + table::wide(heads[i + 4]);
-        let b = g + table::wide(heads[i + 5]);
+        let a = w + number::wide(heads[i + 4]);
+        let b = g + number::wide(heads[i + 5]);
         let built = 0 < n;
         match add_known(
             t,

@@ -27,8 +27,8 @@ fn key_given(tags: &[u32], bytes: &[u8], key: &[u8]) -> bool
 {
     let mut i = 0;
     while 5 <= tags.len() - i {
-        let start = table::wide(tags[i]);
-        let len = table::wide(tags[i + 1]);
+        let start = number::wide(tags[i]);
+        let len = number::wide(tags[i + 1]);
         if table::same_text(bytes, start, len, key) {
             return true;
         }

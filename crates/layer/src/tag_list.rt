@@ -20,8 +20,8 @@ fn tag_ok(tags: &[u32], i: usize, bytes: usize) -> bool
     requires { ⌜ i + 5 ≤ length (now tags) ⌝ }
     ensures { λ r. ⌜ r ≡ okAt bytes (now (tags .entry)) i ⌝ }
 {
-    let start = table::wide(tags[i]);
-    let len = table::wide(tags[i + 1]);
+    let start = number::wide(tags[i]);
+    let len = number::wide(tags[i + 1]);
     let value = [tags[i + 2], tags[i + 3], tags[i + 4]];
     runs::has_room(start, len, bytes) & table::values_in(&value, bytes)
 }
@@ -67,8 +67,8 @@ fn text_of(kind: u32, low: u32, high: u32) -> Text
 {
     if kind == Value::TEXT {
         return Text {
-            start: table::wide(low),
-            len: table::wide(high),
+            start: number::wide(low),
+            len: number::wide(high),
         };
     }
     Text { start: 0, len: 0 }
@@ -79,7 +79,7 @@ fn is_short(tags: &[u32], i: usize) -> bool
     requires { ⌜ i + 5 ≤ length (now tags) ⌝ }
     ensures { λ r. ⌜ r ≡ shortAt (now (tags .entry)) i ⌝ }
 {
-    let len = table::wide(tags[i + 1]);
+    let len = number::wide(tags[i + 1]);
     let text = text_of(tags[i + 2], tags[i + 3], tags[i + 4]);
     Text::may_have(len) & Text::may_have(text.len)
 }
@@ -106,8 +106,8 @@ pub(crate) fn place_at(tags: &[u32], i: usize) -> Place
     requires { ⌜ i + 5 ≤ length (now tags) ⌝ }
     ensures { λ r. ⌜ r ≡ placeAt (now (tags .entry)) i ⌝ }
 {
-    let start = table::wide(tags[i]);
-    let len = table::wide(tags[i + 1]);
+    let start = number::wide(tags[i]);
+    let len = number::wide(tags[i + 1]);
     let kind = tags[i + 2];
     let low = tags[i + 3];
     let high = tags[i + 4];

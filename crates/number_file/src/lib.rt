@@ -5,7 +5,6 @@ ghost use lib.ListN.{length};
 ghost use Rattle.promise.specs.Answers.{Gives};
 ghost use Rattle.promise.specs.Laid.{lay};
 ghost use Rattle.number_file.specs.Numbers.{maxBytes, number, numbersOf, numberAt, saidNumbers, reading};
-ghost use Rattle.whole.specs.Twos.{signed32};
 use refusal::Refusal;
 
 pub struct File {
@@ -71,14 +70,4 @@ pub fn read_numbers(bytes: &[u8], out: &mut [u32]) -> Numbers
     }
     lay_numbers(bytes, out);
     Numbers::Read(n)
-}
-
-// A number of 32 bits read as a signed one.
-pub fn signed(n: u32) -> i32
-    ensures { λ r. ⌜ r ≡ signed32 n ⌝ }
-{
-    if n < 2_147_483_648 {
-        return n as i32;
-    }
-    -1 - ((4_294_967_295 - n) as i32)
 }

@@ -21,30 +21,6 @@ use Rattle.printed.specs.Printed.{shown}
 use Rattle.printed.specs.Row.{signedEnded, behind, rowFrom, rowText, rowRoom}
 use Rattle.printed.proofs.Decimals.{ended-short}
 
--- ---- how far a number is from zero: what is one less stands between -1 and a number below zero
-is-next : (n : ℕ) → negsuc 0 -ℤ negsuc n ≡ pos n
-is-next n = omega (zarith, -parts (negsuc 0) (negsuc n))
-
-pub record Below (z : ℤ) : Type 0 where
-  pub fits : SFits w64 (negsuc 0 -ℤ z)
-  pub casts : T (nonNeg (negsuc 0 -ℤ z)) × Fits w64 (natAbs (negsuc 0 -ℤ z))
-  pub sum : Fits w64 (natAbs (negsuc 0 -ℤ z) + 1)
-  pub same : natAbs (negsuc 0 -ℤ z) + 1 ≡ natAbs z
-
-pub below : {z : ℤ} → SFits w64 z → z <ℤ pos 0 → Below z
-below {z = pos n} f h = absurd (omega zarith)
-below {z = negsuc n} f h =
-    record {
-      fits = rw (is-next n) (record { sfits = f .sfits });
-      casts = rw (is-next n) (tt, record { fits = omega (arith, f .sfits) });
-      sum = rw (is-next n) (record { fits = omega (arith, f .sfits) });
-      same = rw (is-next n) (omega arith);
-    }
-
-pub casts : {z : ℤ} → SFits w64 z → pos 0 ≤ℤ z → T (nonNeg z) × Fits w64 (natAbs z)
-casts {z = pos n} f h = (tt, record { fits = omega (arith, f .sfits) })
-casts {z = negsuc n} f h = absurd (omega zarith)
-
 -- ---- a number with its sign
 module _ {z : ℤ} (end at size : ℕ) (text l m : List ℕ) (r : ℕ) (e : size ≡ natAbs z) where
   pub minus-laid : z <ℤ pos 0 → at + 22 ≤ length text → l ≡ lay at (45 ∷ []) text

@@ -2,13 +2,14 @@
 ghost use mathlib.Core.Path.{_≡_};
 ghost use Prim.Native.Nat.{_+_, _*_, _<_, _≤_};
 ghost use lib.ListN.{length};
-ghost use lib.IntN.{natAbs};
 ghost use Rattle.promise.specs.Answers.{Gives};
 ghost use Rattle.promise.specs.Laid.{lay};
 ghost use Rattle.printed.specs.Decimal.{ended};
 ghost use Rattle.printed.specs.Printed.{column, shown, wordsText, wordsRoom, refusedText, refusedRoom};
 ghost use Rattle.printed.specs.Row.{signedEnded, behind, rowRoom, rowText};
 ghost use Rattle.printed.specs.Tiles.{outcomeLine, outcomeLines, hexDigit, hexByte, endsLine, hexLines, tileText, tileRoom};
+use number::long;
+use number::magnitude;
 
 // Lays `bytes` at a place of the text.
 fn append(bytes: &[u8], at: usize, text: &mut [u8])
@@ -43,16 +44,10 @@ fn append_words(words: &[u32], at: usize, text: &mut [u8]) -> usize
     let mut next = at;
     let mut i = 0;
     while i < words.len() {
-        next = append_number(wide(words[i]), b'\n', next, text);
+        next = append_number(long(words[i]), b'\n', next, text);
         i += 1;
     }
     next
-}
-
-fn wide(word: u32) -> u64
-    ensures { λ r. ⌜ r ≡ word ⌝ }
-{
-    word as u64
 }
 
 // `words N` and then each word on its own line: how many bytes it is. A text of fewer than 27 bytes, and 21 for each word, stays as it is, and the answer is 0.
@@ -82,16 +77,6 @@ pub fn show_refused(number: u32, points: usize, text: &mut [u8]) -> usize
     let at = append_number(number as u64, b' ', 8, text);
     append(b"at ", at, text);
     append_number(points as u64, b'\n', at + 3, text)
-}
-
-// How far a number is from zero. The least i64 has no opposite, but the number above it has.
-fn magnitude(n: i64) -> u64
-    ensures { λ r. ⌜ r ≡ natAbs n ⌝ }
-{
-    if n < 0 {
-        return ((-1 - n) as u64) + 1;
-    }
-    n as u64
 }
 
 // Lays a number in decimal, `-` before a negative one, and then `end` at a place of the text: the place after them.
@@ -146,7 +131,7 @@ fn append_outcome(n: u32, at: usize, text: &mut [u8]) -> usize
         return at + 3;
     }
     append(b"refused ", at, text);
-    append_number(wide(n), b'\n', at + 8, text)
+    append_number(long(n), b'\n', at + 8, text)
 }
 
 // A line for each outcome, from a place of the text on: the place after them.

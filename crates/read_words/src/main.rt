@@ -1,6 +1,4 @@
 // Reads the words of one geometry from standard input and prints its vertices: `vertices N`, then `id x y`, one vertex a line; or `refused R`.
-ghost use mathlib.Core.Path.{_≡_};
-ghost use lib.IntN.{natAbs};
 ghost use Rattle.promise.specs.Answers.{Gives};
 ghost use Rattle.decoder.specs.ReadingWords.{saidReading};
 ghost use Rattle.read_words.specs.WordFiles.{fileRead};
@@ -8,21 +6,12 @@ use decoder::Reading;
 use number_file::Numbers;
 use refusal::Refusal;
 
-fn magnitude(v: i32) -> u64
-    ensures { λ r. ⌜ r ≡ natAbs v ⌝ }
-{
-    let wide = v as i64;
-    if wide < 0 {
-        return (0 - wide) as u64;
-    }
-    wide as u64
-}
-
 fn show(v: i32) {
     if v < 0 {
         io::write_all(1, b"-");
     }
-    io::print_decimal(1, magnitude(v));
+    let size = number::magnitude(number::signed_long(v));
+    io::print_decimal(1, size);
 }
 
 fn show_vertex(id: i32, x: i32, y: i32) {

@@ -12,7 +12,7 @@ use lib.Dec.{leb}
 use borrow.Author.Tests.{not-true, not-false, le-leb, lt-leb, leb-true, leb-false}
 use Rattle.table.specs.declared.Found.{Found}
 use Rattle.table.specs.declared.Found.the-variants.{At, Nothing}
-use Rattle.table.specs.Texts.{Wide}
+use Rattle.promise.specs.Widened.{Wide}
 use Rattle.records.specs.Records.{headOk, recordsIn, recordLength, endFrom, recordEnd, endsAt, oneRecord}
 
 -- ---- two tests that say the same

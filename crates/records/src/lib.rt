@@ -26,8 +26,8 @@ pub fn record_end(ws: &[u32], i: usize) -> Found
     if !head_ok(ws[i], ws[i + 1]) {
         return Found::Nothing;
     }
-    let tags = table::wide(ws[i + 4]);
-    let geometry = table::wide(ws[i + 5]);
+    let tags = number::wide(ws[i + 4]);
+    let geometry = number::wide(ws[i + 5]);
     let long = 6 + tags + geometry;
     if ws.len() - i < long {
         return Found::Nothing;

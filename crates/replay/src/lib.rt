@@ -80,7 +80,7 @@ pub fn number(list: &[u32], i: usize) -> u32
 pub fn signed_at(list: &[u32], i: usize) -> i32
     ensures { λ r. ⌜ r ≡ signed32 (getD (now (list .entry)) i 0) ⌝ }
 {
-    number_file::signed(number(list, i))
+    number::signed32(number(list, i))
 }
 
 // A number and a size as numbers of a row. No list is as long as 2^63, so -1 stands for a size that has no place there.

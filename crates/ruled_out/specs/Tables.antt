@@ -17,7 +17,7 @@ use Rattle.table.specs.Keys.{findKey, keysIn}
 use Rattle.table.specs.Values.{isZero, sameContent, sameValue, findValue, valueOk}
 use Rattle.records.specs.Records.{headOk, recordsIn, recordLength, endsAt}
 use Rattle.index.specs.Hashes.{hashFrom, mixed}
-use Rattle.table.specs.Least.{smaller}
+use Rattle.number.specs.Least.{smaller}
 use Rattle.index.specs.Chains.{slotsIn, slots, serves, cleared, maxEntry, pushed, built, walk}
 use Rattle.index.specs.Entries.{walkedKey}
 use Rattle.layer.specs.declared.Figures.{Figures}

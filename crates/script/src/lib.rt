@@ -9,8 +9,8 @@ mod values; // a value: its kind, then its content
 
 use crate::texts::Taken;
 use crate::texts::read_text;
-use crate::texts::wide;
 use crate::values::read_value;
+use number::wide;
 
 // A part of the script: a text starts at a word and has so many bytes, a run of words has so many words.
 pub struct Part {
@@ -93,7 +93,7 @@ fn read_id(numbers: &[u32], at: usize) -> Next
         return Next::Bad;
     }
     Next::Is(
-        Op::SetId(wire::number::wide(numbers[at], numbers[at + 1])),
+        Op::SetId(number::of_halves(numbers[at], numbers[at + 1])),
         at + 2,
     )
 }

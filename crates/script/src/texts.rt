@@ -1,20 +1,13 @@
 // The texts of a script: a length in bytes, then the bytes, four to a number.
 ghost use mathlib.Core.Path.{_≡_};
-ghost use Rattle.promise.specs.Widened.{Wide};
 ghost use Rattle.script.specs.Script.{filled, textAt};
 use crate::Part;
+use number::wide;
 
 // A text and where the number behind it stands.
 pub(crate) enum Taken {
     Is(Part, usize),
     Bad,
-}
-
-// A number of the script as one of the machine's size.
-pub(crate) fn wide(n: u32) -> usize
-    ensures { λ r. ⌜ Wide n r ⌝ }
-{
-    n as usize
 }
 
 // Whether the bytes that fill a text's last word up are zero.

@@ -2,7 +2,6 @@
 ghost use mathlib.Core.Path.{_≡_};
 ghost use Prim.Native.Nat.{_≤_};
 ghost use lib.ListN.{length};
-ghost use Rattle.whole.specs.Twos.{signed64};
 ghost use Rattle.script.specs.Script.{floatAt, longValue, longAt, boolAt, stringAt, valued};
 use crate::Next;
 use crate::Op;
@@ -10,16 +9,8 @@ use crate::Part;
 use crate::Value;
 use crate::texts::Taken;
 use crate::texts::read_text;
-
-// A number of 64 bits read as a signed one.
-fn signed(n: u64) -> i64
-    ensures { λ r. ⌜ r ≡ signed64 n ⌝ }
-{
-    if n < 9_223_372_036_854_775_808 {
-        return n as i64;
-    }
-    -1 - ((18_446_744_073_709_551_615 - n) as i64)
-}
+use number::of_halves;
+use number::signed64;
 
 // A float: one word.
 fn read_float(key: Part, numbers: &[u32], at: usize) -> Next
@@ -39,12 +30,12 @@ fn long_value(kind: u32, bits: u64) -> Value
         return Value::Double(bits);
     }
     if kind == 4 {
-        return Value::Int(signed(bits));
+        return Value::Int(signed64(bits));
     }
     if kind == 5 {
         return Value::Uint(bits);
     }
-    Value::Sint(signed(bits))
+    Value::Sint(signed64(bits))
 }
 
 // A double, an int, a uint or a sint: low half, high half.
@@ -55,7 +46,7 @@ fn read_long(key: Part, kind: u32, numbers: &[u32], at: usize) -> Next
     if numbers.len() - at < 2 {
         return Next::Bad;
     }
-    let v = long_value(kind, wire::number::wide(numbers[at], numbers[at + 1]));
+    let v = long_value(kind, of_halves(numbers[at], numbers[at + 1]));
     Next::Is(Op::Tag(key, v), at + 2)
 }
 

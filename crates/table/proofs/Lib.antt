@@ -5,4 +5,3 @@ pub mod Keys
 pub mod Values
 pub mod Bounds
 pub mod Growing
-pub mod Least

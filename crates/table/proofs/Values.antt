@@ -11,7 +11,8 @@ use lib.Dec.{leb, eqb}
 use borrow.Author.Tests.{not-true, not-false, eq-eqb}
 use Rattle.table.specs.declared.Found.the-variants.{At, Nothing}
 use Rattle.table.specs.declared.Value.{Value}
-use Rattle.table.specs.Texts.{Wide, sameText}
+use Rattle.promise.specs.Widened.{Wide}
+use Rattle.table.specs.Texts.{sameText}
 use Rattle.table.specs.Values.{isZero, sameContent, sameValue, findValue, valueOk, valuesIn}
 use Rattle.table.proofs.Steps.{next}
 

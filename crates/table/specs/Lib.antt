@@ -1,4 +1,3 @@
 pub mod Texts
-pub mod Least
 pub mod Keys
 pub mod Values

@@ -1,15 +1,9 @@
 -- Document 01, "Tags and rollback": a text is so many bytes from a start on.
-use Prim.Native.Nat.{ℕ, _+_, _<_}
-use mathlib.Core.Path.{_≡_}
+use Prim.Native.Nat.{ℕ, _+_}
 use mathlib.Core.Bool.{Bool, true, false, cond}
 use mathlib.Core.List.{List, [], _∷_}
 use lib.ListN.{length, take, drop}
 use lib.Dec.{leb, eqb}
-
--- r is the word x
-pub record Wide (x r : ℕ) : Type 0 where
-  pub same : r ≡ x
-  pub small : r < 4294967296
 
 -- a text has at most so many bytes
 abbrev pub maxBytes : ℕ

@@ -2,10 +2,10 @@
 // starts and how long it is; a value three, its kind and then the same, or its content's low and high half. Every function is told the used part of
 // a list alone, so what stands beyond it cannot matter. Looking an entry up reads the entries before it, and the texts of those of its length.
 ghost use mathlib.Core.Path.{_≡_};
-ghost use Rattle.table.specs.Texts.{Wide, shortText, sameText};
-ghost use Rattle.table.specs.Least.{smaller};
+ghost use Rattle.table.specs.Texts.{shortText, sameText};
 ghost use Rattle.table.specs.Keys.{findKey, indexOf, keysIn};
 ghost use Rattle.table.specs.Values.{isZero, sameContent, sameValue, findValue, valueOk, valuesIn};
+use number::wide;
 use runs::has_room;
 
 // Where a text stands in the list of texts.
@@ -53,23 +53,6 @@ impl Value {
 pub enum Found {
     At(usize),
     Nothing,
-}
-
-// A word as a number of the machine's size.
-pub fn wide(x: u32) -> usize
-    ensures { λ r. ⌜ Wide x r ⌝ }
-{
-    x as usize
-}
-
-// The smaller of two numbers.
-pub fn smaller(a: usize, b: usize) -> usize
-    ensures { λ r. ⌜ r ≡ smaller a b ⌝ }
-{
-    if a <= b {
-        return a;
-    }
-    b
 }
 
 // The index of what was found, or of what goes last.

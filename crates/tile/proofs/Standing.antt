@@ -71,10 +71,3 @@ module _ (t : Tile) (ns bs : List ℕ) where
 
     pub not-named : f ≡ Nothing → false ≡ hasName t (lists ns bs) name
     not-named e = rw (← g, e)
-
--- ---- `byte_room`
-pub all-bytes : (n : ℕ) → n ≤ maxTileBytes → n ≡ byteRoom n
-all-bytes n h = rw (le-leb n maxTileBytes h)
-
-pub most-bytes : (n : ℕ) → maxTileBytes < n → maxTileBytes ≡ byteRoom n
-most-bytes n h = rw (lt-leb n maxTileBytes h)

@@ -3,14 +3,14 @@ ghost use mathlib.Core.Path.{_≡_};
 ghost use Prim.Native.Nat.{_+_, _≤_};
 ghost use lib.ListN.{length};
 ghost use Rattle.promise.specs.Answers.{Gives};
-ghost use Rattle.promise.specs.Widened.{Wide};
 ghost use Rattle.wire.specs.Puts.{put};
 ghost use Rattle.tile.specs.Features.{idField, featureMessage, recordMessage, recordSize};
 ghost use Rattle.tile.specs.Steps.{Writable};
+use number::of_halves;
+use number::wide;
 use wire::field::Field;
 use wire::head::put_varint_field;
 use wire::head::varint_field_size;
-use wire::number::wide;
 use wire::packed::packed_size;
 use wire::packed::put_packed;
 
@@ -18,7 +18,7 @@ fn id_size(mark: u32, low: u32, high: u32) -> usize
     ensures { λ r. ⌜ r ≡ length (idField mark low high) ⌝ }
 {
     if mark == 1 {
-        return varint_field_size(Field::FeatureId, wide(low, high));
+        return varint_field_size(Field::FeatureId, of_halves(low, high));
     }
     0
 }
@@ -27,7 +27,7 @@ fn put_id(mark: u32, low: u32, high: u32, out: &mut [u8]) -> usize
     ensures { λ r. ⌜ Gives (put (idField mark low high) (now (out .entry))) r (now (out .exit)) ⌝ }
 {
     if mark == 1 {
-        return put_varint_field(Field::FeatureId, wide(low, high), out);
+        return put_varint_field(Field::FeatureId, of_halves(low, high), out);
     }
     0
 }
@@ -65,19 +65,12 @@ fn put_parts(
     d + n
 }
 
-// A word as a number of the machine's size.
-fn word(x: u32) -> usize
-    ensures { λ r. ⌜ Wide x r ⌝ }
-{
-    x as usize
-}
-
 // How many words the record at the front takes.
 pub(crate) fn record_size(words: &[u32]) -> usize
     requires { ⌜ recordSize (now words) ≤ length (now words) ⌝ }
     ensures { λ r. ⌜ r ≡ recordSize (now (words .entry)) ⌝ }
 {
-    6 + word(words[5]) + word(words[4])
+    6 + wide(words[5]) + wide(words[4])
 }
 
 // Of the record at the front of these words.
@@ -85,8 +78,8 @@ pub(crate) fn feature_size(words: &[u32]) -> usize
     requires { ⌜ recordSize (now words) ≤ length (now words) ⌝ }
     ensures { λ r. ⌜ r ≡ length (recordMessage (now (words .entry))) ⌝ }
 {
-    let tags = 6 + word(words[5]);
-    let end = tags + word(words[4]);
+    let tags = 6 + wide(words[5]);
+    let end = tags + wide(words[4]);
     parts_size(
         words[0],
         words[1],
@@ -101,8 +94,8 @@ pub(crate) fn put_feature(words: &[u32], out: &mut [u8]) -> usize
     requires { ⌜ Writable (recordSize (now words) ≤ length (now words)) (recordMessage (now words)) (length (now out)) ⌝ }
     ensures { λ r. ⌜ Gives (put (recordMessage (now (words .entry))) (now (out .entry))) r (now (out .exit)) ⌝ }
 {
-    let tags = 6 + word(words[5]);
-    let end = tags + word(words[4]);
+    let tags = 6 + wide(words[5]);
+    let end = tags + wide(words[4]);
     put_parts(
         words[0],
         words[1],

@@ -58,10 +58,7 @@ impl Tile {
     fn byte_room(bytes: usize) -> usize
         ensures { λ r. ⌜ r ≡ byteRoom bytes ⌝ }
     {
-        if bytes <= Tile::MAX_BYTES {
-            return bytes;
-        }
-        Tile::MAX_BYTES
+        number::smaller(bytes, Tile::MAX_BYTES)
     }
 
     // The room in lent names of this length, two words an entry.

@@ -9,6 +9,7 @@ ghost use Rattle.tile.specs.Values.{valueMessage};
 ghost use Rattle.tile.specs.Steps.{Writable};
 use crate::text::put_text;
 use crate::text::text_size;
+use number::of_halves;
 use wire::field::Field;
 use wire::field::ValueKind;
 use wire::fixed::put_fixed32;
@@ -16,8 +17,7 @@ use wire::fixed::put_fixed64;
 use wire::head::head_size;
 use wire::head::put_varint_field;
 use wire::head::varint_field_size;
-use wire::number::wide;
-use wire::number::zigzag;
+use wire::sint::zigzag;
 
 pub(crate) fn value_size(texts: &[u8], kind: u32, low: u32, high: u32) -> usize
     requires { ⌜ valueOk (length (now texts)) kind low high ≡ true ⌝ }
@@ -38,13 +38,13 @@ pub(crate) fn value_size(texts: &[u8], kind: u32, low: u32, high: u32) -> usize
         return head_size(Field::Value(ValueKind::Double)) + 8;
     }
     if kind == 4 {
-        return varint_field_size(Field::Value(ValueKind::Int), wide(low, high));
+        return varint_field_size(Field::Value(ValueKind::Int), of_halves(low, high));
     }
     if kind == 5 {
-        return varint_field_size(Field::Value(ValueKind::Uint), wide(low, high));
+        return varint_field_size(Field::Value(ValueKind::Uint), of_halves(low, high));
     }
     if kind == 6 {
-        return varint_field_size(Field::Value(ValueKind::Sint), zigzag(wide(low, high)));
+        return varint_field_size(Field::Value(ValueKind::Sint), zigzag(of_halves(low, high)));
     }
     varint_field_size(Field::Value(ValueKind::Bool), low as u64)
 }
@@ -66,16 +66,20 @@ pub(crate) fn put_value(texts: &[u8], kind: u32, low: u32, high: u32, out: &mut 
         return put_fixed32(Field::Value(ValueKind::Float), low, out);
     }
     if kind == 3 {
-        return put_fixed64(Field::Value(ValueKind::Double), wide(low, high), out);
+        return put_fixed64(Field::Value(ValueKind::Double), of_halves(low, high), out);
     }
     if kind == 4 {
-        return put_varint_field(Field::Value(ValueKind::Int), wide(low, high), out);
+        return put_varint_field(Field::Value(ValueKind::Int), of_halves(low, high), out);
     }
     if kind == 5 {
-        return put_varint_field(Field::Value(ValueKind::Uint), wide(low, high), out);
+        return put_varint_field(Field::Value(ValueKind::Uint), of_halves(low, high), out);
     }
     if kind == 6 {
-        return put_varint_field(Field::Value(ValueKind::Sint), zigzag(wide(low, high)), out);
+        return put_varint_field(
+            Field::Value(ValueKind::Sint),
+            zigzag(of_halves(low, high)),
+            out,
+        );
     }
     put_varint_field(Field::Value(ValueKind::Bool), low as u64, out)
 }

@@ -2,7 +2,7 @@
 // prost). What every writer of bytes promises is specs/Puts: it lays its bytes at the front of the lent list and answers how many they are; where they do not
 // all fit it writes nothing and answers zero.
 pub mod varint; // numbers of one to ten bytes
-pub mod number; // 64 bits: halves, zigzag
+pub mod sint; // a sint's zigzag
 pub mod field; // Field: MVT's numbers, PB's wire types
 pub mod head; // what a field begins with, and a field that is a number
 pub mod run; // bytes as they are, and a field of them

@@ -3,7 +3,6 @@ ghost use mathlib.Core.Path.{_≡_};
 ghost use Prim.Native.Nat.{_≤_};
 ghost use lib.ListN.{length};
 ghost use Rattle.promise.specs.Answers.{Gives};
-ghost use Rattle.promise.specs.Widened.{Wide};
 ghost use Rattle.wire.specs.Fields.{varints, packedField};
 ghost use Rattle.wire.specs.Puts.{put, Puts};
 use crate::field::Field;
@@ -11,12 +10,7 @@ use crate::head::put_varint_field;
 use crate::head::varint_field_size;
 use crate::varint::put_varint;
 use crate::varint::varint_size;
-
-fn widened(word: u32) -> u64
-    ensures { λ r. ⌜ Wide word r ⌝ }
-{
-    word as u64
-}
+use number::long;
 
 // How many bytes the numbers take: five at most each, so that a slice of words never takes more than 64 bits can count.
 pub fn varints_size(words: &[u32]) -> usize
@@ -25,7 +19,7 @@ pub fn varints_size(words: &[u32]) -> usize
     let mut i = 0;
     let mut size = 0;
     while i < words.len() {
-        let word = widened(words[i]);
+        let word = long(words[i]);
         size += varint_size(word);
         i += 1;
     }
@@ -39,7 +33,7 @@ fn lay_varints(words: &[u32], out: &mut [u8]) -> usize
     let mut i = 0;
     let mut at = 0;
     while i < words.len() {
-        let word = widened(words[i]);
+        let word = long(words[i]);
         let count = put_varint(word, &mut out[at..]);
         at += count;
         i += 1;

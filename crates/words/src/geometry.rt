@@ -1,6 +1,7 @@
 // What a geometry may be: its kind by document 01's number, and how many words it may have.
 ghost use mathlib.Core.Path.{_≡_};
 ghost use Rattle.words.specs.Geometries.{isKind, maxWords, room};
+use number::smaller;
 
 pub struct Geometry {
     pub kind: u32,
@@ -32,9 +33,6 @@ impl Geometry {
     pub fn room(length: usize) -> usize
         ensures { λ r. ⌜ r ≡ room length ⌝ }
     {
-        if length <= Geometry::MAX_WORDS {
-            return length;
-        }
-        Geometry::MAX_WORDS
+        smaller(length, Geometry::MAX_WORDS)
     }
 }

@@ -32,7 +32,7 @@ wide-requires : tie.Need-wide-requires
 wide-requires c κs = search needs
 
 returns-3 : tie.Need-returns-3
-returns-3 c = cut (start-before-wide (c .before) .args .file .now) (start-before-wide (c .before) .args .words .now) (omega arith) (omega arith) _ (c .before .wide .ensures) (search needs)
+returns-3 c = cut (start-before-wide (c .before) .args .file .now) (start-before-wide (c .before) .args .words .now) (omega arith) (omega arith) _ (c .before .wide .ensures .same) (search needs)
 
 add-encode-body : tie.Need-add-encode-body
 add-encode-body c = search needs
@@ -47,7 +47,7 @@ same-length : tie.Need-same-length
 same-length c = search needs
 
 returns-4 : tie.Need-returns-4
-returns-4 c = whole (start-before-words (c .before) .args .file .now) (start-before-words (c .before) .args .words .now) (omega arith) (omega arith) _ (wide-before-words (c .before) .wide .ensures) (omega arith) _ _ (c .before .before .before .encode-body .ensures)
+returns-4 c = whole (start-before-words (c .before) .args .file .now) (start-before-words (c .before) .args .words .now) (omega arith) (omega arith) _ (wide-before-words (c .before) .wide .ensures .same) (omega arith) _ _ (c .before .before .before .encode-body .ensures)
 
 pub encode-file-spec : {M : Type 1} → statement M
 encode-file-spec =

@@ -21,14 +21,14 @@ abbrev μ-loop : tie.MeasureT-loop
 loop-holds : tie.Need-loop-holds Inv-loop μ-loop
 loop-holds c = copy-start (omega (arith, c .before .pre, length-map (c .before .args .numbers .now) signed32))
 
-mul-signed : tie.Need-mul-signed Inv-loop μ-loop
-mul-signed c = search needs
+mul-signed32 : tie.Need-mul-signed32 Inv-loop μ-loop
+mul-signed32 c = search needs
 
-shared-slice-read-signed : tie.Need-shared-slice-read-signed Inv-loop μ-loop
-shared-slice-read-signed c = search needs
+shared-slice-read-signed32 : tie.Need-shared-slice-read-signed32 Inv-loop μ-loop
+shared-slice-read-signed32 c = search needs
 
-signed-requires : tie.Need-signed-requires Inv-loop μ-loop
-signed-requires c κs = search needs
+signed32-requires : tie.Need-signed32-requires Inv-loop μ-loop
+signed32-requires c κs = search needs
 
 mul-t9 : tie.Need-mul-t9 Inv-loop μ-loop
 mul-t9 c = search needs
@@ -43,7 +43,7 @@ loop-less : tie.Need-loop-less Inv-loop μ-loop
 loop-less c = search needs
 
 loop-again : tie.Need-loop-again Inv-loop μ-loop
-loop-again c = let k = c .before .before .before in copy-turn (k .loop .inv) _ _ (pos 0) (omega arith) (toZ-ofZ (record { sfits = c .signed .ok }) ∙ c .signed .ensures ∙ sym (List·getD-map signed32 (k .before .before .args .numbers .now) (k .loop .i) 0)) (omega (arith, length-map (k .before .before .args .numbers .now) signed32))
+loop-again c = let k = c .before .before .before in copy-turn (k .loop .inv) _ _ (pos 0) (omega arith) (toZ-ofZ (record { sfits = c .signed32 .ok }) ∙ c .signed32 .ensures ∙ sym (List·getD-map signed32 (k .before .before .args .numbers .now) (k .loop .i) 0)) (omega (arith, length-map (k .before .before .args .numbers .now) signed32))
 
 same-length : tie.Need-same-length Inv-loop μ-loop
 same-length c = search needs
@@ -58,9 +58,9 @@ lay-signed-spec =
     Inv-loop
     μ-loop
     loop-holds
-    mul-signed
-    shared-slice-read-signed
-    signed-requires
+    mul-signed32
+    shared-slice-read-signed32
+    signed32-requires
     mul-t9
     slice-set-from-out
     add-i

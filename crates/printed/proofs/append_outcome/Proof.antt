@@ -25,8 +25,8 @@ slice-aggregate-append-2 c = search needs
 append-requires-2 : tie.Need-append-requires-2
 append-requires-2 c κs = search needs
 
-wide-requires : tie.Need-wide-requires
-wide-requires c κs = search needs
+long-requires : tie.Need-long-requires
+long-requires c κs = search needs
 
 add-append-number : tie.Need-add-append-number
 add-append-number c = search needs
@@ -38,7 +38,7 @@ same-length-2 : tie.Need-same-length-2
 same-length-2 c = search needs
 
 returns-2 : tie.Need-returns-2
-returns-2 c = let k = c .before .before in let w = k .before .before in let a = w .before .before .before in let s = a .before .before .before .before .before in refused-laid (s .args .n) (s .args .at) (s .args .text .now) _ (a .before .before .before .if1 .left) (s .pre) (a .append2 .ensures) _ _ (rw (w .wide .ensures) at (k .append-number .ensures))
+returns-2 c = let k = c .before .before in let w = k .before .before in let a = w .before .before .before in let s = a .before .before .before .before .before in refused-laid (s .args .n) (s .args .at) (s .args .text .now) _ (a .before .before .before .if1 .left) (s .pre) (a .append2 .ensures) _ _ (rw (w .long .ensures .same) at (k .append-number .ensures))
 
 pub append-outcome-spec : {M : Type 1} → statement M
 append-outcome-spec =
@@ -51,7 +51,7 @@ append-outcome-spec =
     returns
     slice-aggregate-append-2
     append-requires-2
-    wide-requires
+    long-requires
     add-append-number
     append-number-requires
     same-length-2

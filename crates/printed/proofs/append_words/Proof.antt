@@ -18,14 +18,14 @@ abbrev μ-loop : tie.MeasureT-loop
 loop-holds : tie.Need-loop-holds Inv-loop μ-loop
 loop-holds c = pieces-start (c .before .before .pre)
 
-mul-wide : tie.Need-mul-wide Inv-loop μ-loop
-mul-wide c = search needs
+mul-long : tie.Need-mul-long Inv-loop μ-loop
+mul-long c = search needs
 
-shared-slice-read-wide : tie.Need-shared-slice-read-wide Inv-loop μ-loop
-shared-slice-read-wide c = search needs
+shared-slice-read-long : tie.Need-shared-slice-read-long Inv-loop μ-loop
+shared-slice-read-long c = search needs
 
-wide-requires : tie.Need-wide-requires Inv-loop μ-loop
-wide-requires c κs = search needs
+long-requires : tie.Need-long-requires Inv-loop μ-loop
+long-requires c κs = search needs
 
 append-number-requires : tie.Need-append-number-requires Inv-loop μ-loop
 append-number-requires c κs = pieces-room (c .before .before .before .before .loop .inv) (search needs)
@@ -41,7 +41,7 @@ loop-again c =
     let n = c .before .before in
     let w = n .before .before in
     let k = w .before .before .before in
-    pieces-turn (k .loop .inv) _ _ _ _ (search needs) (ended-short (w .wide .result) newline) (column-turn (k .before .before .before .args .words .now) (k .loop .i) (w .wide .result) (search needs) (w .wide .ensures)) (search needs) (n .append-number .ensures)
+    pieces-turn (k .loop .inv) _ _ _ _ (search needs) (ended-short (w .long .result) newline) (column-turn (k .before .before .before .args .words .now) (k .loop .i) (w .long .result) (search needs) (w .long .ensures .same)) (search needs) (n .append-number .ensures)
 
 same-length : tie.Need-same-length Inv-loop μ-loop
 same-length c = search needs
@@ -56,9 +56,9 @@ append-words-spec =
     Inv-loop
     μ-loop
     loop-holds
-    mul-wide
-    shared-slice-read-wide
-    wide-requires
+    mul-long
+    shared-slice-read-long
+    long-requires
     append-number-requires
     add-i
     loop-less

@@ -10,13 +10,13 @@ use Rattle.replay.proofs.signed_at.Tie as tie
 number-requires : tie.Need-number-requires
 number-requires c κs = search needs
 
-signed-requires : tie.Need-signed-requires
-signed-requires c κs = search needs
+signed32-requires : tie.Need-signed32-requires
+signed32-requires c κs = search needs
 
 returns : tie.Need-returns
 returns c =
-    let b : Back w32 (c .signed .result) = back (record { sfits = c .signed .ok }) in
-    b ∙ c .signed .ensures ∙ ap signed32 (c .before .number .ensures)
+    let b : Back w32 (c .signed32 .result) = back (record { sfits = c .signed32 .ok }) in
+    b ∙ c .signed32 .ensures ∙ ap signed32 (c .before .number .ensures)
 
 pub signed-at-spec : {M : Type 1} → statement M
-signed-at-spec = tie.close (tie.spec number-requires signed-requires returns)
+signed-at-spec = tie.close (tie.spec number-requires signed32-requires returns)

@@ -12,23 +12,23 @@ returns : tie.Need-returns
 unfolding sets
 returns c = search (needs, tests)
 
-mul-wide : tie.Need-mul-wide
-mul-wide c = search needs
+mul-of-halves : tie.Need-mul-of-halves
+mul-of-halves c = search needs
 
-shared-slice-read-wide : tie.Need-shared-slice-read-wide
-shared-slice-read-wide c = search needs
+shared-slice-read-of-halves : tie.Need-shared-slice-read-of-halves
+shared-slice-read-of-halves c = search needs
 
-add-wide : tie.Need-add-wide
-add-wide c = search needs
+add-of-halves : tie.Need-add-of-halves
+add-of-halves c = search needs
 
-mul-wide-2 : tie.Need-mul-wide-2
-mul-wide-2 c = search needs
+mul-of-halves-2 : tie.Need-mul-of-halves-2
+mul-of-halves-2 c = search needs
 
-shared-slice-read-wide-2 : tie.Need-shared-slice-read-wide-2
-shared-slice-read-wide-2 c = search needs
+shared-slice-read-of-halves-2 : tie.Need-shared-slice-read-of-halves-2
+shared-slice-read-of-halves-2 c = search needs
 
-wide-requires : tie.Need-wide-requires
-wide-requires c κs = search needs
+of-halves-requires : tie.Need-of-halves-requires
+of-halves-requires c κs = search needs
 
 add-t13 : tie.Need-add-t13
 add-t13 c = search needs
@@ -43,11 +43,11 @@ read-id-spec =
     (tie.spec
     sub-if1
     returns
-    mul-wide
-    shared-slice-read-wide
-    add-wide
-    mul-wide-2
-    shared-slice-read-wide-2
-    wide-requires
+    mul-of-halves
+    shared-slice-read-of-halves
+    add-of-halves
+    mul-of-halves-2
+    shared-slice-read-of-halves-2
+    of-halves-requires
     add-t13
     returns-2)

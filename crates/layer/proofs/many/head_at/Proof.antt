@@ -19,29 +19,29 @@ mul-t7 c = search needs
 shared-slice-read-t9 : tie.Need-shared-slice-read-t9
 shared-slice-read-t9 c = search needs
 
-add-wide : tie.Need-add-wide
-add-wide c = search needs
+add-of-halves : tie.Need-add-of-halves
+add-of-halves c = search needs
 
-mul-wide : tie.Need-mul-wide
-mul-wide c = search needs
+mul-of-halves : tie.Need-mul-of-halves
+mul-of-halves c = search needs
 
-shared-slice-read-wide : tie.Need-shared-slice-read-wide
-shared-slice-read-wide c = search needs
+shared-slice-read-of-halves : tie.Need-shared-slice-read-of-halves
+shared-slice-read-of-halves c = search needs
 
-add-wide-2 : tie.Need-add-wide-2
-add-wide-2 c = search needs
+add-of-halves-2 : tie.Need-add-of-halves-2
+add-of-halves-2 c = search needs
 
-mul-wide-2 : tie.Need-mul-wide-2
-mul-wide-2 c = search needs
+mul-of-halves-2 : tie.Need-mul-of-halves-2
+mul-of-halves-2 c = search needs
 
-shared-slice-read-wide-2 : tie.Need-shared-slice-read-wide-2
-shared-slice-read-wide-2 c = search needs
+shared-slice-read-of-halves-2 : tie.Need-shared-slice-read-of-halves-2
+shared-slice-read-of-halves-2 c = search needs
 
-wide-requires : tie.Need-wide-requires
-wide-requires c κs = search needs
+of-halves-requires : tie.Need-of-halves-requires
+of-halves-requires c κs = search needs
 
 returns : tie.Need-returns
-returns c = the-head (c .before .before .before .before .before .before .args .heads .now) (c .before .before .before .before .before .before .args .i) _ (c .wide .ensures)
+returns c = the-head (c .before .before .before .before .before .before .args .heads .now) (c .before .before .before .before .before .before .args .i) _ (c .of-halves .ensures)
 
 pub head-at-spec : {M : Type 1} → statement M
 head-at-spec =
@@ -52,11 +52,11 @@ head-at-spec =
     add-t6
     mul-t7
     shared-slice-read-t9
-    add-wide
-    mul-wide
-    shared-slice-read-wide
-    add-wide-2
-    mul-wide-2
-    shared-slice-read-wide-2
-    wide-requires
+    add-of-halves
+    mul-of-halves
+    shared-slice-read-of-halves
+    add-of-halves-2
+    mul-of-halves-2
+    shared-slice-read-of-halves-2
+    of-halves-requires
     returns)

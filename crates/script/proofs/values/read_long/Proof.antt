@@ -13,23 +13,23 @@ returns : tie.Need-returns
 unfolding longAt
 returns c = search (needs, tests)
 
-mul-wide : tie.Need-mul-wide
-mul-wide c = search needs
+mul-of-halves : tie.Need-mul-of-halves
+mul-of-halves c = search needs
 
-shared-slice-read-wide : tie.Need-shared-slice-read-wide
-shared-slice-read-wide c = search needs
+shared-slice-read-of-halves : tie.Need-shared-slice-read-of-halves
+shared-slice-read-of-halves c = search needs
 
-add-wide : tie.Need-add-wide
-add-wide c = search needs
+add-of-halves : tie.Need-add-of-halves
+add-of-halves c = search needs
 
-mul-wide-2 : tie.Need-mul-wide-2
-mul-wide-2 c = search needs
+mul-of-halves-2 : tie.Need-mul-of-halves-2
+mul-of-halves-2 c = search needs
 
-shared-slice-read-wide-2 : tie.Need-shared-slice-read-wide-2
-shared-slice-read-wide-2 c = search needs
+shared-slice-read-of-halves-2 : tie.Need-shared-slice-read-of-halves-2
+shared-slice-read-of-halves-2 c = search needs
 
-wide-requires : tie.Need-wide-requires
-wide-requires c κs = search needs
+of-halves-requires : tie.Need-of-halves-requires
+of-halves-requires c κs = search needs
 
 long-value-requires : tie.Need-long-value-requires
 long-value-requires c κs = search needs
@@ -38,7 +38,7 @@ add-t6 : tie.Need-add-t6
 add-t6 c = search needs
 
 returns-2 : tie.Need-returns-2
-returns-2 c = let s = c .before .before .before .before .before .before in long-is (s .args .key) (s .args .kind) (s .args .numbers .now) (s .args .at) _ _ (search needs) (c .before .wide .ensures) (c .long-value .ensures)
+returns-2 c = let s = c .before .before .before .before .before .before in long-is (s .args .key) (s .args .kind) (s .args .numbers .now) (s .args .at) _ _ (search needs) (c .before .of-halves .ensures) (c .long-value .ensures)
 
 pub read-long-spec : {M : Type 1} → statement M
 read-long-spec =
@@ -46,12 +46,12 @@ read-long-spec =
     (tie.spec
     sub-if1
     returns
-    mul-wide
-    shared-slice-read-wide
-    add-wide
-    mul-wide-2
-    shared-slice-read-wide-2
-    wide-requires
+    mul-of-halves
+    shared-slice-read-of-halves
+    add-of-halves
+    mul-of-halves-2
+    shared-slice-read-of-halves-2
+    of-halves-requires
     long-value-requires
     add-t6
     returns-2)

@@ -7,17 +7,17 @@ use borrow.Author.Needs.{needs}
 use Rattle.tile.proofs.feature.id_size.Statement.{statement}
 use Rattle.tile.proofs.feature.id_size.Tie as tie
 
-wide-requires : tie.Need-wide-requires
-wide-requires c κs = search needs
+of-halves-requires : tie.Need-of-halves-requires
+of-halves-requires c κs = search needs
 
 varint-field-size-requires : tie.Need-varint-field-size-requires
 varint-field-size-requires c κs = search needs
 
 returns : tie.Need-returns
-returns c = long-as (id-set _ _ _ _ (c .before .wide .ensures) (c .before .before .if1 .taken)) (c .varint-field-size .ensures)
+returns c = long-as (id-set _ _ _ _ (c .before .of-halves .ensures) (c .before .before .if1 .taken)) (c .varint-field-size .ensures)
 
 returns-2 : tie.Need-returns-2
 returns-2 c = sym (ap length (id-unset _ _ _ (c .if1 .left)))
 
 pub id-size-spec : {M : Type 1} → statement M
-id-size-spec = tie.close (tie.spec wide-requires varint-field-size-requires returns returns-2)
+id-size-spec = tie.close (tie.spec of-halves-requires varint-field-size-requires returns returns-2)

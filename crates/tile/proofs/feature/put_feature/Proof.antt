@@ -8,31 +8,31 @@ use Rattle.tile.proofs.feature.put_feature.Statement.{statement}
 use Rattle.tile.proofs.feature.put_feature.Tie as tie
 use Rattle.tile.proofs.feature.put_feature.Reads as reads
 use Rattle.tile.proofs.feature.put_parts.Reads as put-parts-reads
-use Rattle.tile.proofs.feature.word.Reads as word-reads
+use Rattle.number.proofs.wide.Reads as wide-reads
 
-shared-slice-read-word : tie.Need-shared-slice-read-word
-shared-slice-read-word c =
+shared-slice-read-wide : tie.Need-shared-slice-read-wide
+shared-slice-read-wide c =
     let s = c .before .before .before in
     omega (arith, s .pre .good)
 
-word-requires : tie.Need-word-requires
-word-requires c κs = search needs
+wide-requires : tie.Need-wide-requires
+wide-requires c κs = search needs
 
 add-tags : tie.Need-add-tags
-add-tags c = omega (arith, c .word .ensures)
+add-tags c = omega (arith, c .wide .ensures)
 
-shared-slice-read-word-2 : tie.Need-shared-slice-read-word-2
-shared-slice-read-word-2 c =
+shared-slice-read-wide-2 : tie.Need-shared-slice-read-wide-2
+shared-slice-read-wide-2 c =
     let s = c .before .before .before .before .before in
     omega (arith, s .pre .good)
 
-word-requires-2 : tie.Need-word-requires-2
-word-requires-2 c κs = search needs
+wide-requires-2 : tie.Need-wide-requires-2
+wide-requires-2 c κs = search needs
 
 add-end : tie.Need-add-end
 add-end c =
-    let at-word = c .before .before in
-    omega (arith, at-word .word .ensures, c .word2 .ensures)
+    let at-wide = c .before .before in
+    omega (arith, at-wide .wide .ensures, c .wide2 .ensures)
 
 shared-slice-read-put-parts : tie.Need-shared-slice-read-put-parts
 shared-slice-read-put-parts c =
@@ -60,10 +60,10 @@ shared-slice-read-put-parts-4 c =
 
 mul-put-parts : tie.Need-mul-put-parts
 mul-put-parts c =
-    let at-word2 = c .before .before .before .before in
-    let at-word = at-word2 .before .before in
-    let s = at-word .before .before .before .before in
-    omega (arith, record-end (s .args .words .now) _ _ _ _ (at-word .word .ensures) (at-word2 .word2 .ensures) refl refl (s .pre .good), s .good)
+    let at-wide2 = c .before .before .before .before in
+    let at-wide = at-wide2 .before .before in
+    let s = at-wide .before .before .before .before in
+    omega (arith, record-end (s .args .words .now) _ _ _ _ (at-wide .wide .ensures) (at-wide2 .wide2 .ensures) refl refl (s .pre .good), s .good)
 
 sub-put-parts : tie.Need-sub-put-parts
 sub-put-parts c = omega arith
@@ -73,10 +73,10 @@ part-put-parts-start c = omega arith
 
 part-put-parts-end : tie.Need-part-put-parts-end
 part-put-parts-end c =
-    let at-word2 = c .before .before .before .before in
-    let at-word = at-word2 .before .before in
-    let s = at-word .before .before .before .before in
-    record-end (s .args .words .now) _ _ _ _ (at-word .word .ensures) (at-word2 .word2 .ensures) refl refl (s .pre .good)
+    let at-wide2 = c .before .before .before .before in
+    let at-wide = at-wide2 .before .before in
+    let s = at-wide .before .before .before .before in
+    record-end (s .args .words .now) _ _ _ _ (at-wide .wide .ensures) (at-wide2 .wide2 .ensures) refl refl (s .pre .good)
 
 sub-put-parts-2 : tie.Need-sub-put-parts-2
 sub-put-parts-2 c = omega arith
@@ -86,18 +86,18 @@ part-put-parts-start-2 c = omega arith
 
 part-put-parts-end-2 : tie.Need-part-put-parts-end-2
 part-put-parts-end-2 c =
-    let at-word2 = c .before .before .before .before .before in
-    let at-word = at-word2 .before .before in
-    let s = at-word .before .before .before .before in
-    omega (arith, record-end (s .args .words .now) _ _ _ _ (at-word .word .ensures) (at-word2 .word2 .ensures) refl refl (s .pre .good))
+    let at-wide2 = c .before .before .before .before .before in
+    let at-wide = at-wide2 .before .before in
+    let s = at-wide .before .before .before .before in
+    omega (arith, record-end (s .args .words .now) _ _ _ _ (at-wide .wide .ensures) (at-wide2 .wide2 .ensures) refl refl (s .pre .good))
 
 put-parts-requires : tie.Need-put-parts-requires
 put-parts-requires c κs =
     let o0 = c .before .before .before .before .before .before in
-    let at-word2 = o0 .before in
-    let at-word = at-word2 .before .before in
-    let s = at-word .before .before .before .before in
-    rw (record-lent (s .args .words .now) _ _ _ _ (at-word .word .ensures) (at-word2 .word2 .ensures) refl refl) at (s .pre .room)
+    let at-wide2 = o0 .before in
+    let at-wide = at-wide2 .before .before in
+    let s = at-wide .before .before .before .before in
+    rw (record-lent (s .args .words .now) _ _ _ _ (at-wide .wide .ensures) (at-wide2 .wide2 .ensures) refl refl) at (s .pre .room)
 
 same-length : tie.Need-same-length
 same-length c = search needs
@@ -106,20 +106,20 @@ returns : tie.Need-returns
 returns c =
     let at-put-parts = c .before .before in
     let o1 = at-put-parts .before .before .before .before .before .before in
-    let at-word2 = o1 .before .before in
-    let at-word = at-word2 .before .before in
-    let s = at-word .before .before .before .before in
-    put-as _ (record-lent (s .args .words .now) _ _ _ _ (at-word .word .ensures) (at-word2 .word2 .ensures) refl refl) (at-put-parts .put-parts .ensures)
+    let at-wide2 = o1 .before .before in
+    let at-wide = at-wide2 .before .before in
+    let s = at-wide .before .before .before .before in
+    put-as _ (record-lent (s .args .words .now) _ _ _ _ (at-wide .wide .ensures) (at-wide2 .wide2 .ensures) refl refl) (at-put-parts .put-parts .ensures)
 
 pub put-feature-spec : {M : Type 1} → statement M
 put-feature-spec =
     tie.close
     (tie.spec
-    shared-slice-read-word
-    word-requires
+    shared-slice-read-wide
+    wide-requires
     add-tags
-    shared-slice-read-word-2
-    word-requires-2
+    shared-slice-read-wide-2
+    wide-requires-2
     add-end
     shared-slice-read-put-parts
     shared-slice-read-put-parts-2

@@ -10,8 +10,8 @@ use Rattle.tile.proofs.text.put_text.Reads as put-text-reads
 use Rattle.wire.proofs.fixed.put_fixed32.Reads as put-fixed32-reads
 use Rattle.wire.proofs.fixed.put_fixed64.Reads as put-fixed64-reads
 use Rattle.wire.proofs.head.put_varint_field.Reads as put-varint-field-reads
-use Rattle.wire.proofs.number.wide.Reads as wide-reads
-use Rattle.wire.proofs.number.zigzag.Reads as zigzag-reads
+use Rattle.number.proofs.of_halves.Reads as of-halves-reads
+use Rattle.wire.proofs.sint.zigzag.Reads as zigzag-reads
 
 put-text-requires : tie.Need-put-text-requires
 put-text-requires c κs =
@@ -40,8 +40,8 @@ returns-2 c =
     let at-then2 = at-put-fixed32 .before .before in
     put-as _ (is-float _ _ _ _ (at-then2 .if2 .taken)) (at-put-fixed32 .put-fixed32 .ensures)
 
-wide-requires : tie.Need-wide-requires
-wide-requires c κs = search needs
+of-halves-requires : tie.Need-of-halves-requires
+of-halves-requires c κs = search needs
 
 put-fixed64-requires : tie.Need-put-fixed64-requires
 put-fixed64-requires c κs = search needs
@@ -52,12 +52,12 @@ same-length-3 c = search needs
 returns-3 : tie.Need-returns-3
 returns-3 c =
     let at-put-fixed64 = c .before .before in
-    let at-wide = at-put-fixed64 .before .before in
-    let at-then3 = at-wide .before in
-    put-as _ (is-double _ _ _ _ _ (at-wide .wide .ensures) (at-then3 .if3 .taken)) (at-put-fixed64 .put-fixed64 .ensures)
+    let at-of-halves = at-put-fixed64 .before .before in
+    let at-then3 = at-of-halves .before in
+    put-as _ (is-double _ _ _ _ _ (at-of-halves .of-halves .ensures) (at-then3 .if3 .taken)) (at-put-fixed64 .put-fixed64 .ensures)
 
-wide-requires-2 : tie.Need-wide-requires-2
-wide-requires-2 c κs = search needs
+of-halves-requires-2 : tie.Need-of-halves-requires-2
+of-halves-requires-2 c κs = search needs
 
 put-varint-field-requires : tie.Need-put-varint-field-requires
 put-varint-field-requires c κs = search needs
@@ -68,12 +68,12 @@ same-length-4 c = search needs
 returns-4 : tie.Need-returns-4
 returns-4 c =
     let at-put-varint-field = c .before .before in
-    let at-wide2 = at-put-varint-field .before .before in
-    let at-then4 = at-wide2 .before in
-    put-as _ (is-int _ _ _ _ _ (at-wide2 .wide2 .ensures) (at-then4 .if4 .taken)) (at-put-varint-field .put-varint-field .ensures)
+    let at-of-halves2 = at-put-varint-field .before .before in
+    let at-then4 = at-of-halves2 .before in
+    put-as _ (is-int _ _ _ _ _ (at-of-halves2 .of-halves2 .ensures) (at-then4 .if4 .taken)) (at-put-varint-field .put-varint-field .ensures)
 
-wide-requires-3 : tie.Need-wide-requires-3
-wide-requires-3 c κs = search needs
+of-halves-requires-3 : tie.Need-of-halves-requires-3
+of-halves-requires-3 c κs = search needs
 
 put-varint-field-requires-2 : tie.Need-put-varint-field-requires-2
 put-varint-field-requires-2 c κs = search needs
@@ -84,12 +84,12 @@ same-length-5 c = search needs
 returns-5 : tie.Need-returns-5
 returns-5 c =
     let at-put-varint-field2 = c .before .before in
-    let at-wide3 = at-put-varint-field2 .before .before in
-    let at-then5 = at-wide3 .before in
-    put-as _ (is-uint _ _ _ _ _ (at-wide3 .wide3 .ensures) (at-then5 .if5 .taken)) (at-put-varint-field2 .put-varint-field2 .ensures)
+    let at-of-halves3 = at-put-varint-field2 .before .before in
+    let at-then5 = at-of-halves3 .before in
+    put-as _ (is-uint _ _ _ _ _ (at-of-halves3 .of-halves3 .ensures) (at-then5 .if5 .taken)) (at-put-varint-field2 .put-varint-field2 .ensures)
 
-wide-requires-4 : tie.Need-wide-requires-4
-wide-requires-4 c κs = search needs
+of-halves-requires-4 : tie.Need-of-halves-requires-4
+of-halves-requires-4 c κs = search needs
 
 zigzag-requires : tie.Need-zigzag-requires
 zigzag-requires c κs = search needs
@@ -104,9 +104,9 @@ returns-6 : tie.Need-returns-6
 returns-6 c =
     let at-put-varint-field3 = c .before .before in
     let at-zigzag = at-put-varint-field3 .before .before in
-    let at-wide4 = at-zigzag .before in
-    let at-then6 = at-wide4 .before in
-    put-as _ (is-sint _ _ _ _ _ (at-wide4 .wide4 .ensures) (at-then6 .if6 .taken) _ (at-zigzag .zigzag .ensures)) (at-put-varint-field3 .put-varint-field3 .ensures)
+    let at-of-halves4 = at-zigzag .before in
+    let at-then6 = at-of-halves4 .before in
+    put-as _ (is-sint _ _ _ _ _ (at-of-halves4 .of-halves4 .ensures) (at-then6 .if6 .taken) _ (at-zigzag .zigzag .ensures)) (at-put-varint-field3 .put-varint-field3 .ensures)
 
 put-varint-field-requires-4 : tie.Need-put-varint-field-requires-4
 put-varint-field-requires-4 c κs = search needs
@@ -135,19 +135,19 @@ put-value-spec =
     put-fixed32-requires
     same-length-2
     returns-2
-    wide-requires
+    of-halves-requires
     put-fixed64-requires
     same-length-3
     returns-3
-    wide-requires-2
+    of-halves-requires-2
     put-varint-field-requires
     same-length-4
     returns-4
-    wide-requires-3
+    of-halves-requires-3
     put-varint-field-requires-2
     same-length-5
     returns-5
-    wide-requires-4
+    of-halves-requires-4
     zigzag-requires
     put-varint-field-requires-3
     same-length-6

@@ -16,8 +16,8 @@ use Rattle.tile.proofs.value.value_size.Reads as reads
 use Rattle.tile.proofs.text.text_size.Reads as text-size-reads
 use Rattle.wire.proofs.head.head_size.Reads as head-size-reads
 use Rattle.wire.proofs.head.varint_field_size.Reads as varint-field-size-reads
-use Rattle.wire.proofs.number.wide.Reads as wide-reads
-use Rattle.wire.proofs.number.zigzag.Reads as zigzag-reads
+use Rattle.number.proofs.of_halves.Reads as of-halves-reads
+use Rattle.wire.proofs.sint.zigzag.Reads as zigzag-reads
 
 text-size-requires : tie.Need-text-size-requires
 text-size-requires c κs =
@@ -53,32 +53,32 @@ returns-3 c =
     let s = at-then3 .before .before .before .before in
     long-as (is-double _ _ (s .args .low) (s .args .high) (wide (s .args .low) (s .args .high)) refl (at-then3 .if3 .taken)) (omega (arith, c .head-size2 .ensures, head-one (Value Double), fixed64-field-long (Value Double) (wide (s .args .low) (s .args .high))))
 
-wide-requires : tie.Need-wide-requires
-wide-requires c κs = search needs
+of-halves-requires : tie.Need-of-halves-requires
+of-halves-requires c κs = search needs
 
 varint-field-size-requires : tie.Need-varint-field-size-requires
 varint-field-size-requires c κs = search needs
 
 returns-4 : tie.Need-returns-4
 returns-4 c =
-    let at-wide = c .before in
-    let at-then4 = at-wide .before in
-    long-as (is-int _ _ _ _ _ (at-wide .wide .ensures) (at-then4 .if4 .taken)) (c .varint-field-size .ensures)
+    let at-of-halves = c .before in
+    let at-then4 = at-of-halves .before in
+    long-as (is-int _ _ _ _ _ (at-of-halves .of-halves .ensures) (at-then4 .if4 .taken)) (c .varint-field-size .ensures)
 
-wide-requires-2 : tie.Need-wide-requires-2
-wide-requires-2 c κs = search needs
+of-halves-requires-2 : tie.Need-of-halves-requires-2
+of-halves-requires-2 c κs = search needs
 
 varint-field-size-requires-2 : tie.Need-varint-field-size-requires-2
 varint-field-size-requires-2 c κs = search needs
 
 returns-5 : tie.Need-returns-5
 returns-5 c =
-    let at-wide2 = c .before in
-    let at-then5 = at-wide2 .before in
-    long-as (is-uint _ _ _ _ _ (at-wide2 .wide2 .ensures) (at-then5 .if5 .taken)) (c .varint-field-size2 .ensures)
+    let at-of-halves2 = c .before in
+    let at-then5 = at-of-halves2 .before in
+    long-as (is-uint _ _ _ _ _ (at-of-halves2 .of-halves2 .ensures) (at-then5 .if5 .taken)) (c .varint-field-size2 .ensures)
 
-wide-requires-3 : tie.Need-wide-requires-3
-wide-requires-3 c κs = search needs
+of-halves-requires-3 : tie.Need-of-halves-requires-3
+of-halves-requires-3 c κs = search needs
 
 zigzag-requires : tie.Need-zigzag-requires
 zigzag-requires c κs = search needs
@@ -89,9 +89,9 @@ varint-field-size-requires-3 c κs = search needs
 returns-6 : tie.Need-returns-6
 returns-6 c =
     let at-zigzag = c .before in
-    let at-wide3 = at-zigzag .before in
-    let at-then6 = at-wide3 .before in
-    long-as (is-sint _ _ _ _ _ (at-wide3 .wide3 .ensures) (at-then6 .if6 .taken) _ (at-zigzag .zigzag .ensures)) (c .varint-field-size3 .ensures)
+    let at-of-halves3 = at-zigzag .before in
+    let at-then6 = at-of-halves3 .before in
+    long-as (is-sint _ _ _ _ _ (at-of-halves3 .of-halves3 .ensures) (at-then6 .if6 .taken) _ (at-zigzag .zigzag .ensures)) (c .varint-field-size3 .ensures)
 
 varint-field-size-requires-4 : tie.Need-varint-field-size-requires-4
 varint-field-size-requires-4 c κs = search needs
@@ -118,13 +118,13 @@ value-size-spec =
     head-size-requires-2
     add-result-2
     returns-3
-    wide-requires
+    of-halves-requires
     varint-field-size-requires
     returns-4
-    wide-requires-2
+    of-halves-requires-2
     varint-field-size-requires-2
     returns-5
-    wide-requires-3
+    of-halves-requires-3
     zigzag-requires
     varint-field-size-requires-3
     returns-6

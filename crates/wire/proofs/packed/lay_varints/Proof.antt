@@ -16,14 +16,14 @@ abbrev μ-loop : tie.MeasureT-loop
 loop-holds : tie.Need-loop-holds Inv-loop μ-loop
 loop-holds c = packing-start _ _ (c .before .before .pre)
 
-mul-widened : tie.Need-mul-widened Inv-loop μ-loop
-mul-widened c = search needs
+mul-long : tie.Need-mul-long Inv-loop μ-loop
+mul-long c = search needs
 
-shared-slice-read-widened : tie.Need-shared-slice-read-widened Inv-loop μ-loop
-shared-slice-read-widened c = search needs
+shared-slice-read-long : tie.Need-shared-slice-read-long Inv-loop μ-loop
+shared-slice-read-long c = search needs
 
-widened-requires : tie.Need-widened-requires Inv-loop μ-loop
-widened-requires c κs = search needs
+long-requires : tie.Need-long-requires Inv-loop μ-loop
+long-requires c κs = search needs
 
 sub-put-varint : tie.Need-sub-put-varint Inv-loop μ-loop
 sub-put-varint c = search (needs, packing-inside)
@@ -40,7 +40,7 @@ put-varint-requires c κs = search needs
 add-at : tie.Need-add-at Inv-loop μ-loop
 add-at c =
     let k = c .before .before .before .before .before .before in
-    omega (arith, packing-sum _ _ _ _ _ (k .before .loop .inv) (k .loop-test .taken) _ (c .before .before .before .before .widened .ensures) _ _ (c .before .before .put-varint .ensures))
+    omega (arith, packing-sum _ _ _ _ _ (k .before .loop .inv) (k .loop-test .taken) _ (c .before .before .before .before .long .ensures) _ _ (c .before .before .put-varint .ensures))
 
 add-i : tie.Need-add-i Inv-loop μ-loop
 add-i c = search needs
@@ -64,9 +64,9 @@ lay-varints-spec =
     Inv-loop
     μ-loop
     loop-holds
-    mul-widened
-    shared-slice-read-widened
-    widened-requires
+    mul-long
+    shared-slice-read-long
+    long-requires
     sub-put-varint
     part-put-varint-start
     part-put-varint-end

@@ -16,20 +16,20 @@ abbrev μ-loop : tie.MeasureT-loop
 loop-holds : tie.Need-loop-holds Inv-loop μ-loop
 loop-holds c = sizing-start _
 
-mul-widened : tie.Need-mul-widened Inv-loop μ-loop
-mul-widened c = search needs
+mul-long : tie.Need-mul-long Inv-loop μ-loop
+mul-long c = search needs
 
-shared-slice-read-widened : tie.Need-shared-slice-read-widened Inv-loop μ-loop
-shared-slice-read-widened c = search needs
+shared-slice-read-long : tie.Need-shared-slice-read-long Inv-loop μ-loop
+shared-slice-read-long c = search needs
 
-widened-requires : tie.Need-widened-requires Inv-loop μ-loop
-widened-requires c κs = search needs
+long-requires : tie.Need-long-requires Inv-loop μ-loop
+long-requires c κs = search needs
 
 varint-size-requires : tie.Need-varint-size-requires Inv-loop μ-loop
 varint-size-requires c κs = search needs
 
 add-size : tie.Need-add-size Inv-loop μ-loop
-add-size c = omega (arith, sizing-few _ _ _ (c .before .before .before .before .loop .inv) (c .before .before .before .loop-test .taken) _ (c .before .widened .ensures) _ (c .varint-size .ensures), c .before .before .before .before .before .before .good .0 .1)
+add-size c = omega (arith, sizing-few _ _ _ (c .before .before .before .before .loop .inv) (c .before .before .before .loop-test .taken) _ (c .before .long .ensures) _ (c .varint-size .ensures), c .before .before .before .before .before .before .good .0 .1)
 
 add-i : tie.Need-add-i Inv-loop μ-loop
 add-i c = search needs
@@ -50,9 +50,9 @@ varints-size-spec =
     Inv-loop
     μ-loop
     loop-holds
-    mul-widened
-    shared-slice-read-widened
-    widened-requires
+    mul-long
+    shared-slice-read-long
+    long-requires
     varint-size-requires
     add-size
     add-i
