@@ -83,6 +83,23 @@ fn add_tag(
     tag(s, o, key, v, text, keys, values, texts, features)
 }
 
+// The six whose value is no text: its content is given by its 64 bits.
+fn add_bits(
+    s: Layer,
+    key: &[u8],
+    kind: u32,
+    bits: u64,
+    keys: &mut [u32],
+    values: &mut [u32],
+    texts: &mut [u8],
+    features: &mut [u32],
+) -> Changed
+    ensures { λ r. ⌜ Does (addTag (tagBits kind (now (key .entry)) bits)) s r keys values texts features ⌝ }
+{
+    let v = value_of(kind, bits);
+    add_tag(s, key, v, b"", keys, values, texts, features)
+}
+
 // A tag whose value is a text.
 pub fn add_tag_string(
     s: Layer,
@@ -115,8 +132,8 @@ pub fn add_tag_float(
 ) -> Changed
     ensures { λ r. ⌜ Does (addTag (tagBits 2 (now (key .entry)) bits)) s r keys values texts features ⌝ }
 {
-    let v = value_of(Value::FLOAT, bits as u64);
-    add_tag(s, key, v, b"", keys, values, texts, features)
+    let wide = bits as u64;
+    add_bits(s, key, Value::FLOAT, wide, keys, values, texts, features)
 }
 
 // A tag whose value is a double, given by its bits.
@@ -131,8 +148,7 @@ pub fn add_tag_double(
 ) -> Changed
     ensures { λ r. ⌜ Does (addTag (tagBits 3 (now (key .entry)) bits)) s r keys values texts features ⌝ }
 {
-    let v = value_of(Value::DOUBLE, bits);
-    add_tag(s, key, v, b"", keys, values, texts, features)
+    add_bits(s, key, Value::DOUBLE, bits, keys, values, texts, features)
 }
 
 // A tag whose value is an int.
@@ -147,8 +163,8 @@ pub fn add_tag_int(
 ) -> Changed
     ensures { λ r. ⌜ Does (addTag (tagBits 4 (now (key .entry)) (bitsOf val))) s r keys values texts features ⌝ }
 {
-    let v = value_of(Value::INT, bits_of(val));
-    add_tag(s, key, v, b"", keys, values, texts, features)
+    let bits = bits_of(val);
+    add_bits(s, key, Value::INT, bits, keys, values, texts, features)
 }
 
 // A tag whose value is a uint.
@@ -163,8 +179,7 @@ pub fn add_tag_uint(
 ) -> Changed
     ensures { λ r. ⌜ Does (addTag (tagBits 5 (now (key .entry)) val)) s r keys values texts features ⌝ }
 {
-    let v = value_of(Value::UINT, val);
-    add_tag(s, key, v, b"", keys, values, texts, features)
+    add_bits(s, key, Value::UINT, val, keys, values, texts, features)
 }
 
 // A tag whose value is a sint.
@@ -179,8 +194,8 @@ pub fn add_tag_sint(
 ) -> Changed
     ensures { λ r. ⌜ Does (addTag (tagBits 6 (now (key .entry)) (bitsOf val))) s r keys values texts features ⌝ }
 {
-    let v = value_of(Value::SINT, bits_of(val));
-    add_tag(s, key, v, b"", keys, values, texts, features)
+    let bits = bits_of(val);
+    add_bits(s, key, Value::SINT, bits, keys, values, texts, features)
 }
 
 // A tag whose value is a bool.
@@ -195,6 +210,6 @@ pub fn add_tag_bool(
 ) -> Changed
     ensures { λ r. ⌜ Does (addTag (tagBits 7 (now (key .entry)) (bitOf val))) s r keys values texts features ⌝ }
 {
-    let v = value_of(Value::BOOL, bit_of(val));
-    add_tag(s, key, v, b"", keys, values, texts, features)
+    let bits = bit_of(val);
+    add_bits(s, key, Value::BOOL, bits, keys, values, texts, features)
 }
