@@ -90,8 +90,5 @@ alongIndex w x =
       memory = withIndex (w .memory) (cond (eqb (w .answer .values .count) 0) x (indexed (seen (w .answer .values .layer) (w .memory)) x));
     }
 
-abbrev pub allIndexed : List ℕ → List ℕ → List ℕ → List ℕ → Layer → Memory → Index → Written (Said Many) Lists
-allIndexed heads words ws bytes s m x = alongIndex (addAll 0 heads words ws bytes s m) x
-
 abbrev pub addIndexed : List ℕ → List ℕ → List ℕ → List ℕ → Layer → Memory → Index → Written (Said Many) Lists
 addIndexed heads words ws bytes s m x = alongIndex (addFeatures heads words ws bytes s m) x
