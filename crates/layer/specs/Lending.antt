@@ -75,8 +75,12 @@ DoesIndexed call s r k v t f ki vi = LeavesFeature (call (sees s k v t f)) s r (
 abbrev pub leftLists : Lent → Lent → Lent → Lent → Lent → Lent → Lists
 leftLists k v t f ki vi = withIndex (left k v t f) (leftIndex ki vi)
 
--- the answer r, the four lists and the two indexes after the call are what `call` makes of the lists lent to be read, the layer s and those at entry
-abbrev pub Adds : (List ℕ → List ℕ → List ℕ → List ℕ → Layer → Memory → Index → Written (Said Many) Lists) → Layer → Added → Lent → Lent → Lent → Lent → Lent → Lent → Lent → Lent → Lent → Lent → Type 0
+-- a call on many features: of their heads, their geometry words, their tag words and their texts, and of a layer with its lists and indexes
+abbrev pub ManyCall : Type 0
+ManyCall = List ℕ → List ℕ → List ℕ → List ℕ → Layer → Memory → Index → Written (Said Many) Lists
+
+-- the answer r, the four lists and the two indexes after the call are what `call` makes of what it was given
+abbrev pub Adds : ManyCall → Layer → Added → Lent → Lent → Lent → Lent → Lent → Lent → Lent → Lent → Lent → Lent → Type 0
 Adds call s r heads words tags bytes k v t f ki vi =
     Gives
     (call (now (heads .entry)) (now (words .entry)) (now (tags .entry)) (now (bytes .entry)) s (entered k v t f) (enteredIndex ki vi))

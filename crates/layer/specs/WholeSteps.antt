@@ -24,7 +24,7 @@ use Rattle.layer.specs.declared.Layer.{Layer}
 use Rattle.layer.specs.Held.{Memory, fits, Seen, seen, Change, refuses, holds, onto}
 use Rattle.layer.specs.State.{valid}
 use Rattle.layer.specs.Calls.{isShut, Tag, tagPut}
-use Rattle.layer.specs.TagLists.{valueGiven, textPlace, okAt, tagsOk, tagsShort, shortAt, tagsOf}
+use Rattle.layer.specs.TagLists.{tagWords, lenAt, kindAt, lowAt, highAt, valueGiven, textPlace, okAt, tagsOk, tagsShort, shortAt, tagsOf}
 use Rattle.layer.specs.Whole.{tagsPut, featurePut}
 use Rattle.layer.specs.Lookup.{Index, idx, Current, Kept}
 
@@ -32,14 +32,14 @@ use Rattle.layer.specs.Lookup.{Index, idx, Current, Kept}
 abbrev pub placeAt : List ℕ → ℕ → Place
 placeAt ws i =
     record {
-      key = record { start = getD ws i 0; len = getD ws (i + 1) 0 };
-      value = valueGiven (getD ws (i + 2) 0) (getD ws (i + 3) 0) (getD ws (i + 4) 0);
-      text = textPlace (getD ws (i + 2) 0) (getD ws (i + 3) 0) (getD ws (i + 4) 0);
+      key = record { start = getD ws i 0; len = getD ws (i + lenAt) 0 };
+      value = valueGiven (getD ws (i + kindAt) 0) (getD ws (i + lowAt) 0) (getD ws (i + highAt) 0);
+      text = textPlace (getD ws (i + kindAt) 0) (getD ws (i + lowAt) 0) (getD ws (i + highAt) 0);
     }
 
 -- five words stand at index i, and are a tag that no refusal but ROOM can meet
 pub record TagThere (bytes ws : List ℕ) (i : ℕ) : Type 0 where
-  pub words : i + 5 ≤ length ws
+  pub words : i + tagWords ≤ length ws
   pub ok : okAt (length bytes) ws i ≡ true
   pub short : shortAt ws i ≡ true
 

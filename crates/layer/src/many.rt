@@ -24,8 +24,8 @@ fn head_at(heads: &[u32], i: usize) -> Head
 {
     Head {
         kind: heads[i],
-        has_id: heads[i + 1] == 1,
-        id: number::wide(heads[i + 2], heads[i + 3]),
+        has_id: heads[i + Head::MARK] == 1,
+        id: number::wide(heads[i + Head::LOW], heads[i + Head::HIGH]),
     }
 }
 
@@ -37,15 +37,15 @@ fn is_head_list(heads: &[u32], words: usize, tags: usize) -> bool
     let mut w = words;
     let mut t = tags;
     while i < heads.len() {
-        if heads.len() - i < 6 {
+        if heads.len() - i < Head::WORDS {
             return false;
         }
-        let a = table::wide(heads[i + 4]);
-        let b = table::wide(heads[i + 5]);
-        if !((heads[i + 1] <= 1) & ((a <= w) & (b <= t))) {
+        let a = table::wide(heads[i + Head::GEOMETRY]);
+        let b = table::wide(heads[i + Head::TAGS]);
+        if !((heads[i + Head::MARK] <= 1) & ((a <= w) & (b <= t))) {
             return false;
         }
-        i += 6;
+        i += Head::WORDS;
         w -= a;
         t -= b;
     }
@@ -80,8 +80,8 @@ pub fn add_features(
     let mut g = 0;
     let mut n = 0;
     while i < heads.len() {
-        let a = w + table::wide(heads[i + 4]);
-        let b = g + table::wide(heads[i + 5]);
+        let a = w + table::wide(heads[i + Head::GEOMETRY]);
+        let b = g + table::wide(heads[i + Head::TAGS]);
         match add_known(
             t,
             stands,
@@ -100,7 +100,7 @@ pub fn add_features(
             Changed::Done(u) => t = u,
             Changed::Refused(r, _) => return Added::Refused(r, t, n),
         }
-        i += 6;
+        i += Head::WORDS;
         w = a;
         g = b;
         n += 1;

@@ -2,6 +2,7 @@
 // given by their bits, since values are equal by bits. Each call costs its STATE check, which reads the used part of every list once, and a scan of the
 // keys and of the values.
 ghost use lib.ListN.{length};
+ghost use Rattle.table.specs.Values.{floatKind, doubleKind, intKind, uintKind, sintKind, boolKind};
 ghost use Rattle.layer.specs.Calls.{tagged, addTag, bitsOf, bitOf, tagString, tagBits};
 ghost use Rattle.layer.specs.Steps.{Ready};
 ghost use Rattle.layer.specs.Lending.{Does, given, lists};
@@ -130,7 +131,7 @@ pub fn add_tag_float(
     texts: &mut [u8],
     features: &mut [u32],
 ) -> Changed
-    ensures { λ r. ⌜ Does (addTag (tagBits 2 (now (key .entry)) bits)) s r keys values texts features ⌝ }
+    ensures { λ r. ⌜ Does (addTag (tagBits floatKind (now (key .entry)) bits)) s r keys values texts features ⌝ }
 {
     let wide = bits as u64;
     add_bits(s, key, Value::FLOAT, wide, keys, values, texts, features)
@@ -146,7 +147,7 @@ pub fn add_tag_double(
     texts: &mut [u8],
     features: &mut [u32],
 ) -> Changed
-    ensures { λ r. ⌜ Does (addTag (tagBits 3 (now (key .entry)) bits)) s r keys values texts features ⌝ }
+    ensures { λ r. ⌜ Does (addTag (tagBits doubleKind (now (key .entry)) bits)) s r keys values texts features ⌝ }
 {
     add_bits(s, key, Value::DOUBLE, bits, keys, values, texts, features)
 }
@@ -161,7 +162,7 @@ pub fn add_tag_int(
     texts: &mut [u8],
     features: &mut [u32],
 ) -> Changed
-    ensures { λ r. ⌜ Does (addTag (tagBits 4 (now (key .entry)) (bitsOf val))) s r keys values texts features ⌝ }
+    ensures { λ r. ⌜ Does (addTag (tagBits intKind (now (key .entry)) (bitsOf val))) s r keys values texts features ⌝ }
 {
     let bits = bits_of(val);
     add_bits(s, key, Value::INT, bits, keys, values, texts, features)
@@ -177,7 +178,7 @@ pub fn add_tag_uint(
     texts: &mut [u8],
     features: &mut [u32],
 ) -> Changed
-    ensures { λ r. ⌜ Does (addTag (tagBits 5 (now (key .entry)) val)) s r keys values texts features ⌝ }
+    ensures { λ r. ⌜ Does (addTag (tagBits uintKind (now (key .entry)) val)) s r keys values texts features ⌝ }
 {
     add_bits(s, key, Value::UINT, val, keys, values, texts, features)
 }
@@ -192,7 +193,7 @@ pub fn add_tag_sint(
     texts: &mut [u8],
     features: &mut [u32],
 ) -> Changed
-    ensures { λ r. ⌜ Does (addTag (tagBits 6 (now (key .entry)) (bitsOf val))) s r keys values texts features ⌝ }
+    ensures { λ r. ⌜ Does (addTag (tagBits sintKind (now (key .entry)) (bitsOf val))) s r keys values texts features ⌝ }
 {
     let bits = bits_of(val);
     add_bits(s, key, Value::SINT, bits, keys, values, texts, features)
@@ -208,7 +209,7 @@ pub fn add_tag_bool(
     texts: &mut [u8],
     features: &mut [u32],
 ) -> Changed
-    ensures { λ r. ⌜ Does (addTag (tagBits 7 (now (key .entry)) (bitOf val))) s r keys values texts features ⌝ }
+    ensures { λ r. ⌜ Does (addTag (tagBits boolKind (now (key .entry)) (bitOf val))) s r keys values texts features ⌝ }
 {
     let bits = bit_of(val);
     add_bits(s, key, Value::BOOL, bits, keys, values, texts, features)

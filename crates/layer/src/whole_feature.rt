@@ -17,8 +17,10 @@ use crate::filling::put_tag_at;
 use crate::indexes::build_index;
 use crate::need::has_room;
 use crate::state::is_valid;
+use crate::tag_list::Place;
 use crate::tag_list::are_short;
 use crate::tag_list::is_tag_list;
+use records::Record;
 use refusal::Refusal;
 use words::geometry::Geometry;
 
@@ -27,6 +29,22 @@ pub struct Head {
     pub kind: u32,
     pub has_id: bool,
     pub id: u64,
+}
+
+// One of a list of heads is six words, with how many geometry words and tag words the feature has.
+impl Head {
+    pub(crate) const WORDS: usize = 6;
+
+    // Where they stand, behind the kind: the id mark, the halves of the id, and the two numbers.
+    pub(crate) const MARK: usize = 1;
+
+    pub(crate) const LOW: usize = 2;
+
+    pub(crate) const HIGH: usize = 3;
+
+    pub(crate) const GEOMETRY: usize = 4;
+
+    pub(crate) const TAGS: usize = 5;
 }
 
 // Whether a feature may be put, ROOM apart.
@@ -111,7 +129,7 @@ fn put_feature(
         keys: o.keys,
         values: o.values,
         texts: o.texts,
-        features: o.features + (6 + words.len()),
+        features: o.features + (Record::HEAD + words.len()),
     };
     let opened = Layer {
         extent: s.extent,
@@ -123,7 +141,7 @@ fn put_feature(
     let mut i = 0;
     while i < tags.len() {
         t = put_tag_at(t, o, tags, i, bytes, keys, values, texts, features, ki, vi);
-        i += 5;
+        i += Place::WORDS;
     }
     let last = t.used;
     Layer {

@@ -1,4 +1,5 @@
 -- What `add_bits` gives of the bit.
+use Rattle.table.specs.Values.{boolKind}
 use Rattle.layer.specs.Calls.{bitOf}
 use Rattle.layer.specs.Held.{mem}
 use Rattle.layer.proofs.ByKind.{tag-bits}
@@ -37,7 +38,7 @@ same-length-4 c = search needs
 returns : tie.Need-returns
 returns c =
     let g = start-before-bit-of (bit-of-before-keys (keys-before-features (c .before))) .args in
-    tag-bits 7 (bitOf (g .val)) (g .key .now) (g .s) (mem (g .keys .now) (g .values .now) (g .texts .now) (g .features .now)) _ _ _ (bit-of-before-keys (keys-before-features (c .before)) .bit-of .ensures) (keys-before-features (c .before) .before .add-bits .ensures)
+    tag-bits boolKind (bitOf (g .val)) (g .key .now) (g .s) (mem (g .keys .now) (g .values .now) (g .texts .now) (g .features .now)) _ _ _ (bit-of-before-keys (keys-before-features (c .before)) .bit-of .ensures) (keys-before-features (c .before) .before .add-bits .ensures)
 
 pub add-tag-bool-spec : {M : Type 1} → statement M
 add-tag-bool-spec =
