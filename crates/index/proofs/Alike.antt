@@ -11,7 +11,7 @@ use borrow.Author.Tests.{eqb-true}
 use Rattle.table.specs.declared.Value.{Value}
 use Rattle.table.specs.Texts.{inside, begins, sameText, textOf}
 use Rattle.table.specs.Values.{isZero, sameContent, sameValue}
-use Rattle.table.proofs.Growing.{never, both}
+use Rattle.table.proofs.Growing.{never, cond-both}
 use Rattle.index.specs.Hashes.{hashText, mixed, hashValue, hashStored}
 
 pub and-both : (a b : Bool) → (a && b) ≡ true → (a ≡ true) × (b ≡ true)
@@ -23,13 +23,13 @@ begins-take : (l key : List ℕ) → begins l key ≡ true → take (length key)
 begins-take l [] e = refl
 begins-take [] (b ∷ key) e = never e
 begins-take (x ∷ l) (b ∷ key) e =
-    let p = both (eqb x b) (begins l key) e in
+    let p = cond-both (eqb x b) (begins l key) e in
     rw (eqb-true x b (p .0), begins-take l key (p .1))
 
 pub text-is : (ts : List ℕ) (start len : ℕ) (key : List ℕ) → sameText ts start len key ≡ true → textOf ts start len ≡ key
 text-is ts start len key e =
-    let p = both (inside (length ts) start len) (cond (eqb len (length key)) (begins (drop start ts) key) false) e in
-    let q = both (eqb len (length key)) (begins (drop start ts) key) (p .1) in
+    let p = cond-both (inside (length ts) start len) (cond (eqb len (length key)) (begins (drop start ts) key) false) e in
+    let q = cond-both (eqb len (length key)) (begins (drop start ts) key) (p .1) in
     rw (eqb-true len (length key) (q .0)) (begins-take (drop start ts) key (q .1))
 
 -- ---- values
@@ -62,6 +62,6 @@ value-by ts kind low high low₂ high₂ text false e = content-by kind low high
 
 pub same-value-hash : (ts : List ℕ) (kind low high : ℕ) (v : Value) (text : List ℕ) → sameValue ts kind low high v text ≡ true → hashStored ts kind low high ≡ hashValue v text
 same-value-hash ts kind low high v text e =
-    let p = both (eqb kind (v .kind)) (cond (eqb kind 1) (sameText ts low high text) (sameContent kind low high (v .low) (v .high))) e in
+    let p = cond-both (eqb kind (v .kind)) (cond (eqb kind 1) (sameText ts low high text) (sameContent kind low high (v .low) (v .high))) e in
     let k : kind ≡ v .kind = eqb-true kind (v .kind) (p .0) in
     rw (← k) (value-by ts kind low high (v .low) (v .high) text (eqb kind 1) (p .1))

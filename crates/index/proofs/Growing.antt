@@ -15,7 +15,7 @@ use Rattle.table.specs.Values.{valueOk, valuesIn}
 use Rattle.index.specs.Hashes.{hashText, hashStored}
 use Rattle.index.specs.Chains.{slots, Indexes, pushed, maxEntry, bucketsOf}
 use Rattle.index.specs.Entries.{keyCount, keyHash, KeyIndex, valueCount, valueHash, ValueIndex}
-use Rattle.table.proofs.Growing.{never, both}
+use Rattle.table.proofs.Growing.{never, cond-both}
 use Rattle.index.proofs.Pushing.{same-buckets, pushed-is-index}
 
 -- ---- texts
@@ -28,11 +28,11 @@ text-kept ts more start len h =
 key-inside : (bytes : ℕ) (ks : List ℕ) (j : ℕ) → keysIn bytes ks ≡ true → j * 2 + 1 < length ks → getD ks (j * 2) 0 + getD ks (j * 2 + 1) 0 ≤ bytes
 key-inside bytes [] j e h = absurd (omega arith)
 key-inside bytes (a ∷ []) j e h = never e
-key-inside bytes (a ∷ b ∷ ks) zero e h = leb-true (a + b) bytes (both (inside bytes a b) (keysIn bytes ks) e .0)
+key-inside bytes (a ∷ b ∷ ks) zero e h = leb-true (a + b) bytes (cond-both (inside bytes a b) (keysIn bytes ks) e .0)
 key-inside bytes (a ∷ b ∷ ks) (suc j) e h =
     let y : suc j * 2 + 1 ≡ suc (suc (j * 2 + 1)) = omega arith in
     let z : suc j * 2 ≡ suc (suc (j * 2)) = omega arith in
-    rw (y, z) (key-inside bytes ks j (both (inside bytes a b) (keysIn bytes ks) e .1) (omega arith))
+    rw (y, z) (key-inside bytes ks j (cond-both (inside bytes a b) (keysIn bytes ks) e .1) (omega arith))
 
 pub key-text : (ks ts more : List ℕ) → keysIn (length ts) ks ≡ true → (j : ℕ) → j < keyCount ks → keyHash ks ts j ≡ keyHash ks (ts ++ more) j
 key-text ks ts more e j h =
@@ -75,12 +75,12 @@ value-inside : (bytes : ℕ) (vs : List ℕ) (j : ℕ) → valuesIn bytes vs ≡
 value-inside bytes [] j e h = absurd (omega arith)
 value-inside bytes (a ∷ []) j e h = never e
 value-inside bytes (a ∷ b ∷ []) j e h = never e
-value-inside bytes (a ∷ b ∷ c ∷ vs) zero e h = both (valueOk bytes a b c) (valuesIn bytes vs) e .0
+value-inside bytes (a ∷ b ∷ c ∷ vs) zero e h = cond-both (valueOk bytes a b c) (valuesIn bytes vs) e .0
 value-inside bytes (a ∷ b ∷ c ∷ vs) (suc j) e h =
     let x : suc j * 3 + 2 ≡ suc (suc (suc (j * 3 + 2))) = omega arith in
     let y : suc j * 3 + 1 ≡ suc (suc (suc (j * 3 + 1))) = omega arith in
     let z : suc j * 3 ≡ suc (suc (suc (j * 3))) = omega arith in
-    rw (x, y, z) (value-inside bytes vs j (both (valueOk bytes a b c) (valuesIn bytes vs) e .1) (omega arith))
+    rw (x, y, z) (value-inside bytes vs j (cond-both (valueOk bytes a b c) (valuesIn bytes vs) e .1) (omega arith))
 
 stored-by : (ts more : List ℕ) (kind low high : ℕ) (t : Bool) → eqb kind 1 ≡ t → valueOk (length ts) kind low high ≡ true → hashStored ts kind low high ≡ hashStored (ts ++ more) kind low high
 stored-by ts more kind low high true q e =

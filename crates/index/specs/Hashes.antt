@@ -7,6 +7,7 @@ use mathlib.Core.List.{List, [], _∷_}
 use lib.Dec.{eqb}
 use Rattle.table.specs.declared.Value.{Value}
 use Rattle.table.specs.Texts.{textOf}
+use Rattle.table.specs.Values.{textKind}
 
 -- r is the byte x
 pub record Octet (x r : ℕ) : Type 0 where
@@ -27,8 +28,8 @@ mixed kind low high = (kind + low % 2147483648 + high % 2147483648 * 31) * 82952
 
 -- the number of v, or of the text beside it
 abbrev pub hashValue : Value → List ℕ → ℕ
-hashValue v text = cond (eqb (v .kind) 1) (hashText text) (mixed (v .kind) (v .low) (v .high))
+hashValue v text = cond (eqb (v .kind) textKind) (hashText text) (mixed (v .kind) (v .low) (v .high))
 
 -- the number of the value stored as these three words
 abbrev pub hashStored : List ℕ → ℕ → ℕ → ℕ → ℕ
-hashStored texts kind low high = cond (eqb kind 1) (hashText (textOf texts low high)) (mixed kind low high)
+hashStored texts kind low high = cond (eqb kind textKind) (hashText (textOf texts low high)) (mixed kind low high)

@@ -9,11 +9,11 @@ use Rattle.index.specs.Chains.{serves}
 use Rattle.index.specs.Entries.{builtKeys, builtValues}
 use Rattle.layer.specs.declared.Figures.{Figures}
 use Rattle.layer.specs.declared.Layer.{Layer}
-use Rattle.layer.specs.Held.{Memory, seen, roomOf}
+use Rattle.layer.specs.Held.{mem, seen, roomOf}
 use Rattle.layer.specs.State.{valid}
-use Rattle.layer.proofs.Fitting.{Fit, fit}
-use Rattle.layer.proofs.Standing.{parts}
-use Rattle.layer.specs.Lookup.{idx, indexed}
+use Rattle.layer.specs.Lookup.{Index, idx, indexed}
+use Rattle.layer.specs.WholeSteps.{indexedBy, UsedIn}
+use Rattle.layer.proofs.Standing.{valid-fit}
 
 module _ (l k : List ℕ) (used : Bool) (t : Bool) (e : t ≡ used) where
   pub not-used : not t ≡ true → l ≡ cond used k l
@@ -22,15 +22,22 @@ module _ (l k : List ℕ) (used : Bool) (t : Bool) (e : t ≡ used) where
   pub is-used : not t ≡ false → (b : List ℕ) → b ≡ k → b ≡ cond used k l
   is-used h b f = rw (← e, not-false t h) f
 
-module _ (s : Layer) (m : Memory) (e : valid (seen s m) ≡ true) (ki vi : List ℕ) where
-  pub in-lists : Fit (s .used) (length (m .keys)) (length (m .values)) (length (m .texts)) (length (m .features))
-  in-lists = fit (s .used) (length (m .keys)) (length (m .values)) (length (m .texts)) (length (m .features)) (parts (seen s m) e .room)
+module _ (u room : Figures) (ks vs ts ki vi : List ℕ) where
+  pub both-built : (b : Bool) → b ≡ false → (kb vb : List ℕ) →
+      kb ≡ cond (serves (length ki) (room .keys)) (builtKeys ki (take (u .keys * 2) ks) (take (u .texts) ts)) ki →
+      vb ≡ cond (serves (length vi) (room .values)) (builtValues vi (take (u .values * 3) vs) (take (u .texts) ts)) vi →
+      idx kb vb ≡ cond b (idx ki vi) (indexedBy u room ks vs ts (idx ki vi))
+  both-built b h kb vb f g = rw (f, g, h)
 
-  pub both-built : (b : Bool) → b ≡ false → (room : Figures) → room ≡ roomOf (length (m .keys)) (length (m .values)) (length (m .texts)) (length (m .features)) → (kb vb : List ℕ) →
-      kb ≡ cond (serves (length ki) (room .keys)) (builtKeys ki (take (s .used .keys * 2) (m .keys)) (take (s .used .texts) (m .texts))) ki →
-      vb ≡ cond (serves (length vi) (room .values)) (builtValues vi (take (s .used .values * 3) (m .values)) (take (s .used .texts) (m .texts))) vi →
-      idx kb vb ≡ cond b (idx ki vi) (indexed (seen s m) (idx ki vi))
-  both-built b h room q kb vb f g = rw (f, g, q, h)
-
-  pub built-before : (b : Bool) → b ≡ true → idx ki vi ≡ cond b (idx ki vi) (indexed (seen s m) (idx ki vi))
+  pub built-before : (b : Bool) → b ≡ true → idx ki vi ≡ cond b (idx ki vi) (indexedBy u room ks vs ts (idx ki vi))
   built-before b h = rw h
+
+-- of a layer that breaks no rule of STATE
+module _ (s : Layer) (ks vs ts fs ki vi : List ℕ) where
+  pub used-in : valid (seen s (mem ks vs ts fs)) ≡ true → UsedIn (s .used) ks vs ts
+  used-in e = let F = valid-fit s ks vs ts fs e in record { in-keys = F .in-keys; in-values = F .in-values; in-texts = F .in-texts }
+
+  pub as-indexed : (b : Bool) (room : Figures) → room ≡ roomOf (length ks) (length vs) (length ts) (length fs) → (y : Index) →
+      y ≡ cond b (idx ki vi) (indexedBy (s .used) room ks vs ts (idx ki vi)) →
+      y ≡ cond b (idx ki vi) (indexed (seen s (mem ks vs ts fs)) (idx ki vi))
+  as-indexed b room q y e = rw q at e

@@ -1,4 +1,4 @@
--- A tag whose key and value are looked up by the indexes: what they find is what a scan finds, it has room, and what `put_by_index` leaves behind.
+-- A tag whose key and value are looked up by the indexes: what they find is what a scan finds, it has room, and what `put_tag_at` leaves behind.
 use Prim.Native.Nat.{ℕ, _*_, _≤_}
 use mathlib.Core.Path.{_≡_, refl, sym, ap, subst, _∙_}
 use mathlib.Core.Bool.{true, false}

@@ -1,14 +1,20 @@
--- The calls by kind: what a tag call gives of a value's three words, it gives of the content that they are the halves of. One law for six of the seven.
+-- The calls by kind: what `add_tag` gives of a value, it gives of the content that the value is the halves of; and so of a content that is reckoned.
 use Prim.Native.Nat.{ℕ}
-use mathlib.Core.Path.{_≡_, ap, _∙_, subst}
+use mathlib.Core.Path.{_≡_, subst}
 use mathlib.Core.List.{List, []}
 use Rattle.promise.specs.Answers.{Gives}
 use Rattle.refusal.specs.Said.{Said}
 use Rattle.table.specs.declared.Value.{Value}
 use Rattle.layer.specs.declared.Layer.{Layer}
 use Rattle.layer.specs.Held.{Memory, seen, written}
-use Rattle.layer.specs.Calls.{addTag, valueOf, tagBits}
+use Rattle.layer.specs.Calls.{Tag, addTag, valueOf, tagBits}
 
-pub tag-bits : (kind b bits : ℕ) (v : Value) → b ≡ bits → v ≡ valueOf kind b → (key : List ℕ) (s : Layer) (m : Memory) (r : Said Layer) (n : Memory) → Gives (written (addTag (record { key = key; value = v; text = [] }) (seen s m)) s m) r n → Gives (written (addTag (tagBits kind key bits) (seen s m)) s m) r n
-tag-bits kind b bits v p e key s m r n g =
-    subst (λ (x : Value). Gives (written (addTag (record { key = key; value = x; text = [] }) (seen s m)) s m) r n) (e ∙ ap (valueOf kind) p) g
+module _ (kind bits : ℕ) (key : List ℕ) (s : Layer) (m : Memory) (r : Said Layer) (n : Memory) where
+  abbrev Adds : Tag → Type 0
+  Adds t = Gives (written (addTag t (seen s m)) s m) r n
+
+  pub tag-value : (v : Value) → v ≡ valueOf kind bits → Adds (record { key = key; value = v; text = [] }) → Adds (tagBits kind key bits)
+  tag-value v e g = subst (λ (x : Value). Adds (record { key = key; value = x; text = [] })) e g
+
+  pub tag-bits : (b : ℕ) → b ≡ bits → Adds (tagBits kind key b) → Adds (tagBits kind key bits)
+  tag-bits b e g = subst (λ (x : ℕ). Adds (tagBits kind key x)) e g

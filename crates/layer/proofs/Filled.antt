@@ -1,4 +1,4 @@
--- The loop of `put_tags`: what is seen at each turn, with the tags still to come, is what all of them leave.
+-- The loop over the tags in `put_feature`: what is seen at each turn, with the tags still to come, is what all of them leave.
 use Prim.Native.Nat.{ℕ, _+_, _-_, _*_, _≤_, _<_, zero-le}
 use mathlib.Core.Path.{_≡_, refl, sym, ap, subst, _∙_}
 use mathlib.Core.Bool.{Bool, true, false}

@@ -15,7 +15,7 @@ use Rattle.table.specs.Texts.{inside, begins, sameText, textOf}
 use Rattle.table.specs.Keys.{findKey, keysIn}
 use Rattle.table.specs.Values.{isZero, sameContent, sameValue, findValue, valueOk, valuesIn}
 use Rattle.records.specs.Records.{isFound}
-use Rattle.table.proofs.Growing.{never, both}
+use Rattle.table.proofs.Growing.{never, cond-both}
 use Rattle.index.proofs.Alike.{and-both, text-is}
 use Rattle.index.proofs.Growing.{text-kept}
 use Rattle.layer.specs.TagLists.{valueGiven, textPlace}
@@ -70,7 +70,7 @@ key-kept : (ts more key ks : List ℕ) (j : ℕ) → keysIn (length ts) ks ≡ t
 key-kept ts more key [] j e = refl
 key-kept ts more key (a ∷ []) j e = refl
 key-kept ts more key (a ∷ b ∷ ks) j e =
-    let p = both (inside (length ts) a b) (keysIn (length ts) ks) e in
+    let p = cond-both (inside (length ts) a b) (keysIn (length ts) ks) e in
     let h = leb-true (a + b) (length ts) (p .0) in
     let s = same-texts (ts ++ more) ts a b a b key (omega (arith, length-append ts more)) h (text-kept ts more a b h) in
     ap (λ (t : Bool). cond t (At j) (findKey (suc j) ks (ts ++ more) key)) s ∙ ap (λ (f : Found). cond (sameText ts a b key) (At j) f) (key-kept ts more key ks (suc j) (p .1))
@@ -85,7 +85,7 @@ key-append n [] new ts key j e = key-index new ts key j 0
 key-append n (a ∷ []) new ts key j e = never e
 key-append n (a ∷ b ∷ ks) new ts key j e =
     by-found (sameText ts a b key) j (findKey (suc j) (ks ++ new) ts key) (findKey (suc j) ks ts key) (isFound (findKey 0 new ts key))
-    (key-append n ks new ts key (suc j) (both (inside n a b) (keysIn n ks) e .1))
+    (key-append n ks new ts key (suc j) (cond-both (inside n a b) (keysIn n ks) e .1))
 
 -- a key that is the text of len bytes at start was looked up (`f`), and put where it was not found
 module _ (bytes : List ℕ) (start len : ℕ) (h : start + len ≤ length bytes) (ks ts : List ℕ) (u : ℕ) (K : keysIn (length ts) ks ≡ true) (L : length ts ≡ u) where
@@ -147,13 +147,13 @@ kind-by ts kind low high low₂ high₂ a b k l h false q n e = rw q
 module _ (bytes : List ℕ) (kind low high : ℕ) where
   swap-by : (v : Value) (text : List ℕ) (t : Bool) → eqb kind 1 ≡ t → sameValue bytes kind low high v text ≡ true → (ts : List ℕ) (k l h : ℕ) → sameValue ts k l h (valueGiven kind low high) (placedText bytes (textPlace kind low high)) ≡ sameValue ts k l h v text
   swap-by v text true q e ts k l h =
-      let p = both (eqb kind (v .kind)) (cond (eqb kind 1) (sameText bytes low high text) (sameContent kind low high (v .low) (v .high))) e in
+      let p = cond-both (eqb kind (v .kind)) (cond (eqb kind 1) (sameText bytes low high text) (sameContent kind low high (v .low) (v .high))) e in
       let a : sameText bytes low high text ≡ true = rw q at (p .1) in
       let b : v .kind ≡ 1 = sym (eqb-true kind (v .kind) (p .0)) ∙ eqb-true kind 1 q in
       let c : textOf bytes low high ≡ text = text-is bytes low high text a in
       rw (q, c, b) (twice-asked (eqb k 1) (sameText ts l h text) (sameContent k l h 0 0) (sameContent k l h (v .low) (v .high)))
   swap-by v text false q e ts k l h =
-      let p = both (eqb kind (v .kind)) (cond (eqb kind 1) (sameText bytes low high text) (sameContent kind low high (v .low) (v .high))) e in
+      let p = cond-both (eqb kind (v .kind)) (cond (eqb kind 1) (sameText bytes low high text) (sameContent kind low high (v .low) (v .high))) e in
       let a : sameContent kind low high (v .low) (v .high) ≡ true = rw q at (p .1) in
       let b : v .kind ≡ kind = sym (eqb-true kind (v .kind) (p .0)) in
       rw (q, b) (kind-by ts kind low high (v .low) (v .high) [] text k l h (eqb k kind) refl q a)
@@ -178,7 +178,7 @@ value-kept ts more v text [] j e = refl
 value-kept ts more v text (a ∷ []) j e = refl
 value-kept ts more v text (a ∷ b ∷ []) j e = refl
 value-kept ts more v text (a ∷ b ∷ c ∷ vs) j e =
-    let p = both (valueOk (length ts) a b c) (valuesIn (length ts) vs) e in
+    let p = cond-both (valueOk (length ts) a b c) (valuesIn (length ts) vs) e in
     ap (λ (t : Bool). cond t (At j) (findValue (suc j) vs (ts ++ more) v text)) (entry-kept ts more a b c v text (eqb a 1) refl (p .0))
     ∙ ap (λ (f : Found). cond (sameValue ts a b c v text) (At j) f) (value-kept ts more v text vs (suc j) (p .1))
 
@@ -194,7 +194,7 @@ value-append n (a ∷ []) new ts v text j e = never e
 value-append n (a ∷ b ∷ []) new ts v text j e = never e
 value-append n (a ∷ b ∷ c ∷ vs) new ts v text j e =
     by-found (sameValue ts a b c v text) j (findValue (suc j) (vs ++ new) ts v text) (findValue (suc j) vs ts v text) (isFound (findValue 0 new ts v text))
-    (value-append n vs new ts v text (suc j) (both (valueOk n a b c) (valuesIn n vs) e .1))
+    (value-append n vs new ts v text (suc j) (cond-both (valueOk n a b c) (valuesIn n vs) e .1))
 
 -- a value as it is stored, its text where it is put, is the one that was given
 stored-by : (bytes all : List ℕ) (kind low high start : ℕ) (t : Bool) → eqb kind 1 ≡ t → valueOk (length bytes) kind low high ≡ true → start + length (placedText bytes (textPlace kind low high)) ≤ length all → textOf all start (length (placedText bytes (textPlace kind low high))) ≡ placedText bytes (textPlace kind low high) → (v : Value) (text : List ℕ) →

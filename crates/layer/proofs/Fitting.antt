@@ -11,6 +11,8 @@ use borrow.Author.Tests.{le-leb, leb-true, not-true, not-false}
 use Rattle.table.specs.declared.Found.{Found}
 use Rattle.table.specs.Keys.{keysIn}
 use Rattle.table.specs.Values.{valuesIn}
+pub use Rattle.promise.proofs.Joined.{both}
+pub use Rattle.table.proofs.Growing.{never}
 pub use Rattle.number.proofs.Least.{smaller-le}
 use Rattle.records.specs.Records.{isFound, recordsIn, oneRecord}
 use Rattle.layer.specs.declared.Figures.{Figures}
@@ -19,13 +21,6 @@ use Rattle.layer.specs.declared.Open.the-variants.{Shut, Since}
 use Rattle.layer.specs.declared.Layer.{Layer}
 use Rattle.layer.specs.Held.{mem, roomOf, fits, seen, maxKeys, maxValues, maxTexts, maxFeatureWords}
 use Rattle.layer.specs.State.{recordsOk, valid}
-
-pub never : {X : Type 0} → false ≡ true → X
-never p = absurd (let z : _≡_ {A = ℕ} 0 1 = cc in omega arith)
-
-pub both : (a b : Bool) → (a && b) ≡ true → (a ≡ true) × (b ≡ true)
-both true b e = (refl, e)
-both false b e = never e
 
 -- ---- figures
 pub record Within (a b : Figures) : Type 0 where

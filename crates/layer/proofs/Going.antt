@@ -1,4 +1,4 @@
--- The loop of `add_each`: what is left of the heads gives the rest, what is known of STATE is still so, and the indexes are right once a feature was accepted.
+-- The loop of `add_features`: what is left of the heads gives the rest, what is known of STATE is still so, and the indexes are right once a feature was accepted.
 use Prim.Native.Nat.{ℕ, suc, _+_, _-_, _≤_, _<_, zero-le}
 use mathlib.Core.Path.{_≡_, refl, sym, ap, subst, _∙_}
 use mathlib.Core.Bool.{Bool, true, false, cond, not}

@@ -1,4 +1,4 @@
--- `add_known` and `add_welcome`: a feature that a check refuses, one that has no room, and one that is put. The indexes are built with the first that is put.
+-- `add_known`: a feature that a check refuses, one that has no room, and one that is put. The indexes are built with the first that is put.
 use Prim.Native.Nat.{ℕ, _≤_}
 use mathlib.Core.Path.{_≡_, refl, sym, ap, subst, _∙_}
 use mathlib.Core.Bool.{Bool, true, false, cond, not}

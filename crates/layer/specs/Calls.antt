@@ -15,10 +15,10 @@ use Rattle.table.specs.declared.Value.{Value}
 use Rattle.table.specs.Texts.{shortText}
 use Rattle.table.specs.Keys.{findKey}
 pub use Rattle.table.specs.Keys.{indexOf}
-use Rattle.table.specs.Values.{findValue, valueOk}
+use Rattle.table.specs.Values.{textKind, findValue, valueOk}
 use Rattle.words.specs.Geometries.{isKind, maxWords}
 use Rattle.table.specs.declared.Text.{Text}
-use Rattle.records.specs.Records.{recordsIn}
+use Rattle.records.specs.Records.{headWords, markAt, tagsAt, recordsIn}
 use Rattle.layer.specs.declared.Figures.{Figures}
 use Rattle.layer.specs.declared.Open.{Open}
 use Rattle.layer.specs.declared.Open.the-variants.{Shut, Since}
@@ -54,9 +54,9 @@ newRecord kind words = recordWith kind 0 0 words
 abbrev pub opened : ℕ → List ℕ → Seen → Change
 opened kind words v =
     check (leb (length words) maxWords) Room
-    (check (fits (moreWords (v .layer .used) (6 + length words)) (v .room)) Room
+    (check (fits (moreWords (v .layer .used) (headWords + length words)) (v .room)) Room
     (holds
-    (withUsed (v .layer) (moreWords (v .layer .used) (6 + length words)) (Since (v .layer .used)))
+    (withUsed (v .layer) (moreWords (v .layer .used) (headWords + length words)) (Since (v .layer .used)))
     (withFeatures (v .held) (v .held .features ++ newRecord kind words))))
 
 abbrev pub intoFeature : ℕ → List ℕ → Seen → Change
@@ -65,7 +65,7 @@ intoFeature kind words v =
 
 -- ---- setting the id: STATE, TURN. The id mark and the two halves are words 1 to 3 of the open record
 abbrev pub marked : ℕ → ℕ → Seen → Figures → Change
-marked low high v o = holds (v .layer) (withFeatures (v .held) (lay (o .features + 1) (1 ∷ low ∷ high ∷ []) (v .held .features)))
+marked low high v o = holds (v .layer) (withFeatures (v .held) (lay (o .features + markAt) (1 ∷ low ∷ high ∷ []) (v .held .features)))
 
 abbrev pub setId : ℕ → ℕ → Seen → Change
 setId low high v = check (valid v) State (whenOpen (v .layer .feature) (λ o. marked low high v o))
@@ -82,7 +82,7 @@ abandoned v =
     (whenOpen (v .layer .feature) (λ o. holds (withUsed (v .layer) o Shut) (heldBy o (v .held))))
 
 -- ---- a tag: STATE, TEXT, TURN, ROOM
--- a key, and a value with its text, which is empty but for kind 1
+-- a key, and a value with its text, which is empty but for a text
 pub record Tag : Type 0 where
   pub key : List ℕ
   pub value : Value
@@ -90,7 +90,7 @@ pub record Tag : Type 0 where
 
 -- a value as the seven tag calls make it: a text, or a content of its kind
 abbrev pub isValue : Value → Bool
-isValue v = cond (eqb (v .kind) 1) true (valueOk 0 (v .kind) (v .low) (v .high))
+isValue v = cond (eqb (v .kind) textKind) true (valueOk 0 (v .kind) (v .low) (v .high))
 
 -- how much is put, of n
 abbrev pub moreOf : Found → ℕ → ℕ
@@ -107,7 +107,7 @@ abbrev pub keyWords : ℕ → List ℕ → List ℕ
 keyWords start key = start ∷ length key ∷ []
 
 abbrev pub storedAs : ℕ → Value → ℕ → Value
-storedAs start v len = cond (eqb (v .kind) 1) (record { kind = 1; low = start; high = len }) v
+storedAs start v len = cond (eqb (v .kind) textKind) (record { kind = textKind; low = start; high = len }) v
 
 abbrev pub wordsOf : Value → List ℕ
 wordsOf v = v .kind ∷ v .low ∷ v .high ∷ []
@@ -127,7 +127,7 @@ grownBy u kf vf key text =
 
 -- the record at index at with a tag more: its two words behind it, and its tag word count two more
 abbrev pub withTag : ℕ → ℕ → ℕ → List ℕ → List ℕ
-withTag at k v ws = set (ws ++ (k ∷ v ∷ [])) (at + 4) (getD ws (at + 4) 0 + 2)
+withTag at k v ws = set (ws ++ (k ∷ v ∷ [])) (at + tagsAt) (getD ws (at + tagsAt) 0 + 2)
 
 -- what is held after a tag: new entries go last, key before value, and so do their texts
 abbrev pub heldWith : Figures → Figures → Memory → Tag → Found → Found → Memory
@@ -182,7 +182,7 @@ abbrev pub bitOf : Bool → ℕ
 bitOf b = cond b 1 0
 
 abbrev pub tagString : List ℕ → List ℕ → Tag
-tagString key text = record { key = key; value = record { kind = 1; low = 0; high = 0 }; text = text }
+tagString key text = record { key = key; value = record { kind = textKind; low = 0; high = 0 }; text = text }
 
 abbrev pub tagBits : ℕ → List ℕ → ℕ → Tag
 tagBits kind key bits = record { key = key; value = valueOf kind bits; text = [] }
@@ -214,7 +214,7 @@ numFeatures v =
 -- how many tag words the open feature has, two a tag
 abbrev pub tagsIn : Open → Seen → Said (Told ℕ)
 tagsIn Shut v = tellsNot Turn 0 (v .layer)
-tagsIn (Since o) v = tells (getD (v .held .features) (o .features + 4) 0)
+tagsIn (Since o) v = tells (getD (v .held .features) (o .features + tagsAt) 0)
 
 abbrev pub numTags : Seen → Said (Told ℕ)
 numTags v = cond (valid v) (tagsIn (v .layer .feature) v) (tellsNot State 0 (v .layer))

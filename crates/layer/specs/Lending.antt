@@ -1,6 +1,6 @@
 -- What a call promises of the four lists lent to it, said once for every call.
 use mathlib.Core.Path.{_≡_}
-use mathlib.Core.Bool.{cond}
+use mathlib.Core.Bool.{Bool, cond}
 use mathlib.Core.List.{List}
 use lib.ListN.{length}
 use Prim.Native.Nat.{ℕ}
@@ -11,6 +11,7 @@ use Rattle.refusal.specs.Said.{Said}
 use Rattle.table.specs.declared.Found.{Found}
 use Rattle.table.specs.declared.Value.{Value}
 use Rattle.index.specs.Chains.{serves}
+use Rattle.layer.specs.declared.Figures.{Figures}
 use Rattle.layer.specs.declared.Layer.{Layer}
 use Rattle.layer.specs.declared.Changed.{Changed}
 use Rattle.layer.specs.declared.many.Added.{Added}
@@ -20,7 +21,7 @@ use Rattle.layer.specs.Calls.{Tag}
 use Rattle.layer.specs.Steps.{Puts}
 use Rattle.layer.specs.Lookup.{Index, idx}
 use Rattle.layer.specs.Many.{Many, Lists, saidAdded, withIndex}
-use Rattle.layer.specs.WholeSteps.{Leaves, LeavesFeature}
+use Rattle.layer.specs.WholeSteps.{Leaves, LeavesFeature, indexedBy}
 
 -- a lent list, at entry and at exit
 abbrev pub Lent : Type 0
@@ -74,9 +75,17 @@ DoesIndexed call s r k v t f ki vi = LeavesFeature (call (sees s k v t f)) s r (
 abbrev pub leftLists : Lent → Lent → Lent → Lent → Lent → Lent → Lists
 leftLists k v t f ki vi = withIndex (left k v t f) (leftIndex ki vi)
 
--- the answer r, the four lists and the two indexes after the call are what `call` makes of those at entry
-abbrev pub Adds : (Memory → Index → Written (Said Many) Lists) → Added → Lent → Lent → Lent → Lent → Lent → Lent → Type 0
-Adds call r k v t f ki vi = Gives (call (entered k v t f) (enteredIndex ki vi)) (saidAdded r) (leftLists k v t f ki vi)
+-- a call on many features: of their heads, their geometry words, their tag words and their texts, and of a layer with its lists and indexes
+abbrev pub ManyCall : Type 0
+ManyCall = List ℕ → List ℕ → List ℕ → List ℕ → Layer → Memory → Index → Written (Said Many) Lists
+
+-- the answer r, the four lists and the two indexes after the call are what `call` makes of what it was given
+abbrev pub Adds : ManyCall → Layer → Added → Lent → Lent → Lent → Lent → Lent → Lent → Lent → Lent → Lent → Lent → Type 0
+Adds call s r heads words tags bytes k v t f ki vi =
+    Gives
+    (call (now (heads .entry)) (now (words .entry)) (now (tags .entry)) (now (bytes .entry)) s (entered k v t f) (enteredIndex ki vi))
+    (saidAdded r)
+    (leftLists k v t f ki vi)
 
 -- an index is built where it serves, and stays as it is where it does not
 abbrev pub Builds : (List ℕ → List ℕ → List ℕ → List ℕ) → ℕ → Lent → Lent → Lent → Type 0
@@ -85,3 +94,9 @@ Builds build room entries texts list =
     cond (serves (length (now (list .entry))) room)
     (build (now (list .entry)) (now (entries .entry)) (now (texts .entry)))
     (now (list .entry))
+
+-- so are both, of the used parts, unless they are built already
+abbrev pub BuildsBoth : Figures → Bool → Figures → Lent → Lent → Lent → Lent → Lent → Type 0
+BuildsBoth u built room ks vs ts ki vi =
+    leftIndex ki vi ≡
+    cond built (enteredIndex ki vi) (indexedBy u room (now (ks .entry)) (now (vs .entry)) (now (ts .entry)) (enteredIndex ki vi))

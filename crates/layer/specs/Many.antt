@@ -9,6 +9,7 @@ use Rattle.promise.specs.Answers.{Written, kept}
 use Rattle.refusal.specs.declared.Refusal.the-variants.{Job, State}
 use Rattle.refusal.specs.Said.{Said, accepted, refused}
 use Rattle.whole.specs.Twos.{wide}
+use Rattle.records.specs.Records.{markAt}
 use Rattle.layer.specs.declared.Layer.{Layer}
 use Rattle.layer.specs.Held.{Memory, seen, Change, refuses, holds, onto}
 use Rattle.layer.specs.State.{valid}
@@ -31,8 +32,15 @@ saidAdded (Refused r s n) = refused r (record { layer = s; count = n })
 abbrev pub headOf : ℕ → ℕ → ℕ → ℕ → Head
 headOf kind mark low high = record { kind = kind; «has_id» = eqb mark 1; id = wide low high }
 
+-- where they stand behind the kind, in a head as in a record
+abbrev pub idLowAt : ℕ
+idLowAt = 2
+
+abbrev pub idHighAt : ℕ
+idHighAt = 3
+
 abbrev pub headAt : List ℕ → ℕ → Head
-headAt hs i = headOf (getD hs i 0) (getD hs (i + 1) 0) (getD hs (i + 2) 0) (getD hs (i + 3) 0)
+headAt hs i = headOf (getD hs i 0) (getD hs (i + markAt) 0) (getD hs (i + idLowAt) 0) (getD hs (i + idHighAt) 0)
 
 -- an id mark is 0 or 1, and what a feature has is there
 abbrev pub headOk : ℕ → ℕ → ℕ → ℕ → ℕ → Bool
@@ -89,9 +97,6 @@ alongIndex w x =
       answer = w .answer;
       memory = withIndex (w .memory) (cond (eqb (w .answer .values .count) 0) x (indexed (seen (w .answer .values .layer) (w .memory)) x));
     }
-
-abbrev pub allIndexed : List ℕ → List ℕ → List ℕ → List ℕ → Layer → Memory → Index → Written (Said Many) Lists
-allIndexed heads words ws bytes s m x = alongIndex (addAll 0 heads words ws bytes s m) x
 
 abbrev pub addIndexed : List ℕ → List ℕ → List ℕ → List ℕ → Layer → Memory → Index → Written (Said Many) Lists
 addIndexed heads words ws bytes s m x = alongIndex (addFeatures heads words ws bytes s m) x

@@ -15,7 +15,7 @@ use Rattle.index.specs.Hashes.{hashText, hashValue}
 use Rattle.layer.specs.declared.Figures.{Figures}
 use Rattle.layer.specs.Held.{maxKeys, maxValues, maxTexts, maxFeatureWords}
 use Rattle.layer.specs.Calls.{grownBy}
-use Rattle.layer.specs.TagLists.{valueGiven, textPlace, tagsShort, shortAt, tagsOk}
+use Rattle.layer.specs.TagLists.{tagWords, lenAt, kindAt, lowAt, highAt, valueGiven, textPlace, tagsShort, shortAt, tagsOk}
 use Rattle.layer.specs.Lookup.{keyBy, valueBy}
 use Rattle.layer.specs.WholeSteps.{TagThere}
 
@@ -91,7 +91,7 @@ needed ks vs ts bytes ws w = walked (needOf ks vs ts bytes) [] ws w
 
 -- the tag of the five words at index i
 abbrev pub stepAt : Step → List ℕ → ℕ → Figures → Figures
-stepAt step ws i w = step (take i ws) (getD ws i 0) (getD ws (i + 1) 0) (getD ws (i + 2) 0) (getD ws (i + 3) 0) (getD ws (i + 4) 0) w
+stepAt step ws i w = step (take i ws) (getD ws i 0) (getD ws (i + lenAt) 0) (getD ws (i + kindAt) 0) (getD ws (i + lowAt) 0) (getD ws (i + highAt) 0) w
 
 -- ---- what the steps ask for
 -- figures within the caps
@@ -117,7 +117,7 @@ pub record ValueAsked (start len bytes : ℕ) (l : List ℕ) (room : ℕ) (vs ts
   pub values : ValuesLooked l room vs ts
 
 pub record MostAsked (w : Figures) (ws : List ℕ) (i : ℕ) : Type 0 where
-  pub words : i + 5 ≤ length ws
+  pub words : i + tagWords ≤ length ws
   pub short : shortAt ws i ≡ true
   pub capped : Capped w
 

@@ -7,6 +7,7 @@ use lib.ListN.{length, getD, set}
 use Rattle.promise.specs.Laid.{lay}
 use Rattle.table.specs.declared.Found.{Found}
 use Rattle.table.specs.Texts.{maxBytes}
+use Rattle.records.specs.Records.{headWords, tagsAt}
 use Rattle.layer.specs.declared.Figures.{Figures}
 use Rattle.layer.specs.declared.Layer.{Layer}
 use Rattle.layer.specs.Held.{Memory, fits, roomOf, maxKeys, maxValues, maxTexts, maxFeatureWords}
@@ -36,10 +37,10 @@ pub record Puts (f : Found) (words text : List ℕ) (at start : ℕ) (es ts es�
   pub entries : es₂ ≡ lay at (putOf f words) es
   pub texts : ts₂ ≡ lay start (putOf f text) ts
 
--- the two words of a tag have room at end, and the count at index at + 4 of a record stands before them
+-- the two words of a tag have room at end, and the count of the record at index at stands before them
 pub record PairRoom (at end k v : ℕ) (fs : List ℕ) : Type 0 where
   pub in-features : end + 2 ≤ length fs
-  pub head : at + 6 + getD fs (at + 4) 0 ≤ end
+  pub head : at + headWords + getD fs (at + tagsAt) 0 ≤ end
   pub small-end : end + 2 ≤ maxFeatureWords
   pub small-key : k ≤ maxKeys
   pub small-value : v ≤ maxValues
@@ -54,7 +55,7 @@ pub record TagRoom (u o : Figures) (kf vf : Found) (key text : ℕ) (m : Memory)
 
 -- the two words of a tag at end, counted by the record at index at
 abbrev pub pairLaid : ℕ → ℕ → ℕ → ℕ → List ℕ → List ℕ
-pairLaid at end k v fs = set (lay end (k ∷ v ∷ []) fs) (at + 4) (getD fs (at + 4) 0 + 2)
+pairLaid at end k v fs = set (lay end (k ∷ v ∷ []) fs) (at + tagsAt) (getD fs (at + tagsAt) 0 + 2)
 
 -- the four lists after a tag
 abbrev pub laidTag : Figures → Figures → Found → Found → Tag → Memory → Memory
@@ -69,6 +70,6 @@ laidTag u o kf vf t m =
 -- a tag may be put: nothing but ROOM can refuse it
 pub record Ready (s : Layer) (o : Figures) (key text : ℕ) (m : Memory) : Type 0 where
   pub room : fits (s .used) (roomOf (length (m .keys)) (length (m .values)) (length (m .texts)) (length (m .features))) ≡ true
-  pub six : o .features + 6 + getD (m .features) (o .features + 4) 0 ≤ s .used .features
+  pub six : o .features + headWords + getD (m .features) (o .features + tagsAt) 0 ≤ s .used .features
   pub small-key : key ≤ maxBytes
   pub small-text : text ≤ maxBytes

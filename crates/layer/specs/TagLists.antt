@@ -8,8 +8,24 @@ use lib.Dec.{eqb}
 use Rattle.table.specs.declared.Text.{Text}
 use Rattle.table.specs.declared.Value.{Value}
 use Rattle.table.specs.Texts.{inside, shortText, textOf}
-use Rattle.table.specs.Values.{valueOk}
+use Rattle.table.specs.Values.{textKind, valueOk}
 use Rattle.layer.specs.Calls.{Tag}
+
+-- how many words, and where they stand behind the key's start
+abbrev pub tagWords : ℕ
+tagWords = 5
+
+abbrev pub lenAt : ℕ
+lenAt = 1
+
+abbrev pub kindAt : ℕ
+kindAt = 2
+
+abbrev pub lowAt : ℕ
+lowAt = 3
+
+abbrev pub highAt : ℕ
+highAt = 4
 
 -- five words are a tag: no text of it runs past so many bytes, and its value is one of the seven kinds and its content one of that kind's
 abbrev pub tagOk : ℕ → ℕ → ℕ → ℕ → ℕ → ℕ → Bool
@@ -26,11 +42,11 @@ tagsOk bytes (start ∷ len ∷ kind ∷ low ∷ high ∷ ws) = cond (tagOk byte
 
 -- the value of three words as its tag call makes it: of a text the place is found when it is stored
 abbrev pub valueGiven : ℕ → ℕ → ℕ → Value
-valueGiven kind low high = cond (eqb kind 1) (record { kind = 1; low = 0; high = 0 }) (record { kind = kind; low = low; high = high })
+valueGiven kind low high = cond (eqb kind textKind) (record { kind = textKind; low = 0; high = 0 }) (record { kind = kind; low = low; high = high })
 
 -- where the text of three words stands; what is no text has an empty one
 abbrev pub textPlace : ℕ → ℕ → ℕ → Text
-textPlace kind low high = cond (eqb kind 1) (record { start = low; len = high }) (record { start = 0; len = 0 })
+textPlace kind low high = cond (eqb kind textKind) (record { start = low; len = high }) (record { start = 0; len = 0 })
 
 -- the tag of five words
 abbrev pub tagOf : List ℕ → ℕ → ℕ → ℕ → ℕ → ℕ → Tag
@@ -43,10 +59,10 @@ tagOf bytes start len kind low high =
 
 -- the test and the tag of the five words at index i of a list
 abbrev pub okAt : ℕ → List ℕ → ℕ → Bool
-okAt bytes ws i = tagOk bytes (getD ws i 0) (getD ws (i + 1) 0) (getD ws (i + 2) 0) (getD ws (i + 3) 0) (getD ws (i + 4) 0)
+okAt bytes ws i = tagOk bytes (getD ws i 0) (getD ws (i + lenAt) 0) (getD ws (i + kindAt) 0) (getD ws (i + lowAt) 0) (getD ws (i + highAt) 0)
 
 abbrev pub tagAt : List ℕ → List ℕ → ℕ → Tag
-tagAt bytes ws i = tagOf bytes (getD ws i 0) (getD ws (i + 1) 0) (getD ws (i + 2) 0) (getD ws (i + 3) 0) (getD ws (i + 4) 0)
+tagAt bytes ws i = tagOf bytes (getD ws i 0) (getD ws (i + lenAt) 0) (getD ws (i + kindAt) 0) (getD ws (i + lowAt) 0) (getD ws (i + highAt) 0)
 
 -- the tags of a list, in their order
 abbrev pub tagsOf : List ℕ → List ℕ → List Tag
@@ -70,4 +86,4 @@ tagsShort (start ∷ len ∷ kind ∷ low ∷ []) = true
 tagsShort (start ∷ len ∷ kind ∷ low ∷ high ∷ ws) = cond (shortTag len kind low high) (tagsShort ws) false
 
 abbrev pub shortAt : List ℕ → ℕ → Bool
-shortAt ws i = shortTag (getD ws (i + 1) 0) (getD ws (i + 2) 0) (getD ws (i + 3) 0) (getD ws (i + 4) 0)
+shortAt ws i = shortTag (getD ws (i + lenAt) 0) (getD ws (i + kindAt) 0) (getD ws (i + lowAt) 0) (getD ws (i + highAt) 0)

@@ -7,6 +7,7 @@ use lib.ListN.{length}
 use lib.Dec.{leb}
 use Rattle.refusal.specs.declared.Refusal.the-variants.{Job, Kind, State, Room, Text as TextRefusal, Turn}
 use Rattle.words.specs.Geometries.{isKind, maxWords}
+use Rattle.records.specs.Records.{headWords}
 use Rattle.layer.specs.declared.Figures.{Figures}
 use Rattle.layer.specs.declared.Open.the-variants.{Shut, Since}
 use Rattle.layer.specs.declared.whole_feature.Head.{Head}
@@ -26,7 +27,7 @@ idOf f = cond (f .«has_id») (f .id) 0
 abbrev pub featureOpened : Head → List ℕ → Seen → Seen
 featureOpened f words v =
     record {
-      layer = withUsed (v .layer) (moreWords (v .layer .used) (6 + length words)) (Since (v .layer .used));
+      layer = withUsed (v .layer) (moreWords (v .layer .used) (headWords + length words)) (Since (v .layer .used));
       held = withFeatures (v .held) (v .held .features ++ recordWith (f .kind) (markOf f) (idOf f) words);
       room = v .room;
     }

@@ -1,14 +1,16 @@
 -- What the private steps of a whole feature ask for and leave behind. No promise of a public function rests on this.
-use Prim.Native.Nat.{ℕ, _+_, _≤_}
+use Prim.Native.Nat.{ℕ, _+_, _*_, _≤_}
 use mathlib.Core.Path.{_≡_}
 use mathlib.Core.Bool.{Bool, true, false, cond}
 use mathlib.Core.List.{List}
-use lib.ListN.{length, getD}
+use lib.ListN.{length, getD, take}
 use lib.Dec.{leb}
 use Rattle.refusal.specs.declared.Refusal.{Refusal}
 use Rattle.refusal.specs.declared.Refusal.the-variants.{Job, Kind, State, Room, Text as TextRefusal, Turn}
 use Rattle.table.specs.Texts.{maxBytes}
 use Rattle.words.specs.Geometries.{isKind, maxWords}
+use Rattle.index.specs.Chains.{serves}
+use Rattle.index.specs.Entries.{builtKeys, builtValues}
 use Rattle.layer.specs.declared.Figures.{Figures}
 use Rattle.layer.specs.declared.Open.{Open}
 use Rattle.layer.specs.declared.Open.the-variants.{Shut, Since}
@@ -22,22 +24,22 @@ use Rattle.layer.specs.declared.Layer.{Layer}
 use Rattle.layer.specs.Held.{Memory, fits, Seen, seen, Change, refuses, holds, onto}
 use Rattle.layer.specs.State.{valid}
 use Rattle.layer.specs.Calls.{isShut, Tag, tagPut}
-use Rattle.layer.specs.TagLists.{valueGiven, textPlace, okAt, tagsOk, tagsShort, shortAt, tagsOf}
+use Rattle.layer.specs.TagLists.{tagWords, lenAt, kindAt, lowAt, highAt, valueGiven, textPlace, okAt, tagsOk, tagsShort, shortAt, tagsOf}
 use Rattle.layer.specs.Whole.{tagsPut, featurePut}
-use Rattle.layer.specs.Lookup.{Index, Current, Kept}
+use Rattle.layer.specs.Lookup.{Index, idx, Current, Kept}
 
 -- where the parts of the tag of five words stand
 abbrev pub placeAt : List ℕ → ℕ → Place
 placeAt ws i =
     record {
-      key = record { start = getD ws i 0; len = getD ws (i + 1) 0 };
-      value = valueGiven (getD ws (i + 2) 0) (getD ws (i + 3) 0) (getD ws (i + 4) 0);
-      text = textPlace (getD ws (i + 2) 0) (getD ws (i + 3) 0) (getD ws (i + 4) 0);
+      key = record { start = getD ws i 0; len = getD ws (i + lenAt) 0 };
+      value = valueGiven (getD ws (i + kindAt) 0) (getD ws (i + lowAt) 0) (getD ws (i + highAt) 0);
+      text = textPlace (getD ws (i + kindAt) 0) (getD ws (i + lowAt) 0) (getD ws (i + highAt) 0);
     }
 
 -- five words stand at index i, and are a tag that no refusal but ROOM can meet
 pub record TagThere (bytes ws : List ℕ) (i : ℕ) : Type 0 where
-  pub words : i + 5 ≤ length ws
+  pub words : i + tagWords ≤ length ws
   pub ok : okAt (length bytes) ws i ≡ true
   pub short : shortAt ws i ≡ true
 
@@ -117,6 +119,19 @@ pub record MayPut (s : Layer) (f : Head) (words ws bytes : List ℕ) (m : Memory
   pub current : Current (seen s m) x
 
 -- ---- a whole feature
+-- the indexes of what so much of the lists holds, in tables with this room
+abbrev pub indexedBy : Figures → Figures → List ℕ → List ℕ → List ℕ → Index → Index
+indexedBy u room ks vs ts x =
+    idx
+    (cond (serves (length (x .keys)) (room .keys)) (builtKeys (x .keys) (take (u .keys * 2) ks) (take (u .texts) ts)) (x .keys))
+    (cond (serves (length (x .values)) (room .values)) (builtValues (x .values) (take (u .values * 3) vs) (take (u .texts) ts)) (x .values))
+
+-- so much of the lists is there
+pub record UsedIn (u : Figures) (ks vs ts : List ℕ) : Type 0 where
+  pub in-keys : u .keys * 2 ≤ length ks
+  pub in-values : u .values * 3 ≤ length vs
+  pub in-texts : u .texts ≤ length ts
+
 -- the indexes are those of what the layer holds where they are built, and there is no more to ask of them where they are not
 abbrev pub CurrentIf : Bool → Seen → Index → Type 0
 CurrentIf true v x = Current v x

@@ -9,6 +9,7 @@ use crate::Layer;
 use crate::Named;
 use crate::Open;
 use crate::state::is_valid;
+use records::Record;
 use refusal::Refusal;
 use table::Text;
 use table::index_of;
@@ -52,7 +53,7 @@ pub fn num_tags(s: Layer, keys: &[u32], values: &[u32], texts: &[u8], features: 
     let Open::Since(o) = f else {
         return Counted::Refused(Refusal::Turn, s);
     };
-    let at = o.features + 4;
+    let at = o.features + Record::TAGS;
     Counted::Is(number::wide(features[at]))
 }
 

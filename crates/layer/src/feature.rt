@@ -15,6 +15,7 @@ use crate::Open;
 use crate::state::is_valid;
 use number::high;
 use number::low;
+use records::Record;
 use refusal::Refusal;
 use runs::lay_words;
 use words::geometry::Geometry;
@@ -34,7 +35,7 @@ pub(crate) fn lay_record(
 {
     let head = [kind, mark, low(id), high(id), 0, words.len() as u32];
     lay_words(&head, features, at);
-    lay_words(words, features, at + 6);
+    lay_words(words, features, at + Record::HEAD);
 }
 
 // A new record at the end of the features, if it has room.
@@ -59,7 +60,7 @@ fn put_record(
         keys: used.keys,
         values: used.values,
         texts: used.texts,
-        features: used.features + (6 + n),
+        features: used.features + (Record::HEAD + n),
     };
     if !Layer::has_room_for(after, keys.len(), values.len(), texts.len(), features.len()) {
         return Changed::Refused(Refusal::Room, s);
@@ -118,7 +119,7 @@ pub fn set_id(
         return Changed::Refused(Refusal::Turn, s);
     };
     let words = [1, low(id), high(id)];
-    lay_words(&words, features, o.features + 1);
+    lay_words(&words, features, o.features + Record::MARK);
     Changed::Done(s)
 }
 

@@ -1,12 +1,9 @@
 // Many whole features in one call. STATE is checked once for all of them, since an accepted feature keeps it, so the layer is read once and not once a feature.
 ghost use mathlib.Core.Path.{_≡_};
-ghost use mathlib.Core.Bool.{true};
 ghost use Prim.Native.Nat.{_+_, _≤_};
 ghost use lib.ListN.{length};
-ghost use Rattle.layer.specs.Held.{seen};
-ghost use Rattle.layer.specs.State.{valid};
-ghost use Rattle.layer.specs.Many.{headAt, headsOk, allIndexed, addIndexed};
-ghost use Rattle.layer.specs.Lending.{lists, Adds};
+ghost use Rattle.layer.specs.Many.{headAt, headsOk, addIndexed};
+ghost use Rattle.layer.specs.Lending.{Adds};
 use crate::Changed;
 use crate::Layer;
 use crate::state::is_valid;
@@ -26,8 +23,8 @@ fn head_at(heads: &[u32], i: usize) -> Head
 {
     Head {
         kind: heads[i],
-        has_id: heads[i + 1] == 1,
-        id: number::of_halves(heads[i + 2], heads[i + 3]),
+        has_id: heads[i + Head::MARK] == 1,
+        id: number::of_halves(heads[i + Head::LOW], heads[i + Head::HIGH]),
     }
 }
 
@@ -39,77 +36,19 @@ fn is_head_list(heads: &[u32], words: usize, tags: usize) -> bool
     let mut w = words;
     let mut t = tags;
     while i < heads.len() {
-        if heads.len() - i < 6 {
+        if heads.len() - i < Head::WORDS {
             return false;
         }
-        let a = number::wide(heads[i + 4]);
-        let b = number::wide(heads[i + 5]);
-        if !((heads[i + 1] <= 1) & ((a <= w) & (b <= t))) {
+        let a = number::wide(heads[i + Head::GEOMETRY]);
+        let b = number::wide(heads[i + Head::TAGS]);
+        if !((heads[i + Head::MARK] <= 1) & ((a <= w) & (b <= t))) {
             return false;
         }
-        i += 6;
+        i += Head::WORDS;
         w -= a;
         t -= b;
     }
     (w == 0) & (t == 0)
-}
-
-// The features one after the other. One that is refused ends it.
-fn add_each(
-    s: Layer,
-    stands: bool,
-    heads: &[u32],
-    words: &[u32],
-    tags: &[u32],
-    bytes: &[u8],
-    keys: &mut [u32],
-    values: &mut [u32],
-    texts: &mut [u8],
-    features: &mut [u32],
-    ki: &mut [u32],
-    vi: &mut [u32],
-) -> Added
-    requires { ⌜ headsOk (length (now words)) (length (now tags)) (now heads) ≡ true ⌝ }
-    requires { ⌜ stands ≡ valid (seen s (lists keys values texts features)) ⌝ }
-    ensures { λ r. ⌜ Adds (allIndexed (now (heads .entry)) (now (words .entry)) (now (tags .entry)) (now (bytes .entry)) s) r keys values texts features ki vi ⌝ }
-{
-    let mut t = s;
-    let mut i = 0;
-    let mut w = 0;
-    let mut g = 0;
-    let mut n = 0;
-    while i < heads.len() {
-        let f = head_at(heads, i);
-        let a = w + number::wide(heads[i + 4]);
-        let b = g + number::wide(heads[i + 5]);
-        let built = 0 < n;
-        match add_known(
-            t,
-            stands,
-            built,
-            f,
-            &words[w..a],
-            &tags[g..b],
-            bytes,
-            keys,
-            values,
-            texts,
-            features,
-            ki,
-            vi,
-        ) {
-            Changed::Done(u) => t = u,
-            Changed::Refused(r, _) => return Added::Refused(r, t, n),
-        }
-        i += 6;
-        w = a;
-        g = b;
-        n += 1;
-    }
-    if !stands {
-        return Added::Refused(Refusal::State, t, n);
-    }
-    Added::Done(t, n)
 }
 
 // Whole features one after the other, up to the first that is refused. A feature's head is six words: its kind, its id mark (0 or 1), the low and the high half
@@ -128,24 +67,45 @@ pub fn add_features(
     ki: &mut [u32],
     vi: &mut [u32],
 ) -> Added
-    ensures { λ r. ⌜ Adds (addIndexed (now (heads .entry)) (now (words .entry)) (now (tags .entry)) (now (bytes .entry)) s) r keys values texts features ki vi ⌝ }
+    ensures { λ r. ⌜ Adds addIndexed s r heads words tags bytes keys values texts features ki vi ⌝ }
 {
     if !is_head_list(heads, words.len(), tags.len()) {
         return Added::Refused(Refusal::Job, s, 0);
     }
     let stands = is_valid(s, &keys[..], &values[..], &texts[..], &features[..]);
-    add_each(
-        s,
-        stands,
-        heads,
-        words,
-        tags,
-        bytes,
-        keys,
-        values,
-        texts,
-        features,
-        ki,
-        vi,
-    )
+    let mut t = s;
+    let mut i = 0;
+    let mut w = 0;
+    let mut g = 0;
+    let mut n = 0;
+    while i < heads.len() {
+        let a = w + number::wide(heads[i + Head::GEOMETRY]);
+        let b = g + number::wide(heads[i + Head::TAGS]);
+        match add_known(
+            t,
+            stands,
+            0 < n,
+            head_at(heads, i),
+            &words[w..a],
+            &tags[g..b],
+            bytes,
+            keys,
+            values,
+            texts,
+            features,
+            ki,
+            vi,
+        ) {
+            Changed::Done(u) => t = u,
+            Changed::Refused(r, _) => return Added::Refused(r, t, n),
+        }
+        i += Head::WORDS;
+        w = a;
+        g = b;
+        n += 1;
+    }
+    if !stands {
+        return Added::Refused(Refusal::State, t, n);
+    }
+    Added::Done(t, n)
 }

@@ -16,7 +16,9 @@ use crate::fits_in;
 use crate::lookup::find_key;
 use crate::lookup::find_value;
 use crate::putting::grown;
+use crate::tag_list::Place;
 use crate::tag_list::place_at;
+use records::Record;
 use table::Found;
 use table::Text;
 use table::Value;
@@ -26,13 +28,13 @@ fn key_given(tags: &[u32], bytes: &[u8], key: &[u8]) -> bool
     ensures { λ r. ⌜ r ≡ keyGiven (now (bytes .entry)) (now (tags .entry)) (now (key .entry)) ⌝ }
 {
     let mut i = 0;
-    while 5 <= tags.len() - i {
+    while Place::WORDS <= tags.len() - i {
         let start = number::wide(tags[i]);
-        let len = number::wide(tags[i + 1]);
+        let len = number::wide(tags[i + Place::LEN]);
         if table::same_text(bytes, start, len, key) {
             return true;
         }
-        i += 5;
+        i += Place::WORDS;
     }
     false
 }
@@ -42,14 +44,14 @@ fn value_among(tags: &[u32], bytes: &[u8], v: Value, text: &[u8]) -> bool
     ensures { λ r. ⌜ r ≡ valueAmong (now (bytes .entry)) (now (tags .entry)) v (now (text .entry)) ⌝ }
 {
     let mut i = 0;
-    while 5 <= tags.len() - i {
-        let kind = tags[i + 2];
-        let low = tags[i + 3];
-        let high = tags[i + 4];
+    while Place::WORDS <= tags.len() - i {
+        let kind = tags[i + Place::KIND];
+        let low = tags[i + Place::LOW];
+        let high = tags[i + Place::HIGH];
         if table::same_value(bytes, kind, low, high, v, text) {
             return true;
         }
-        i += 5;
+        i += Place::WORDS;
     }
     false
 }
@@ -158,12 +160,12 @@ fn is_most_met(w: Figures, tags: &[u32], room: Figures) -> bool
 {
     let mut u = w;
     let mut i = 0;
-    while 5 <= tags.len() - i {
+    while Place::WORDS <= tags.len() - i {
         if !fits_in(u, room) {
             return false;
         }
         u = most_of(u, tags, i);
-        i += 5;
+        i += Place::WORDS;
     }
     fits_in(u, room)
 }
@@ -185,7 +187,7 @@ fn is_need_met(
 {
     let mut u = w;
     let mut i = 0;
-    while 5 <= tags.len() - i {
+    while Place::WORDS <= tags.len() - i {
         if !fits_in(u, room) {
             return false;
         }
@@ -201,7 +203,7 @@ fn is_need_met(
             key_index,
             value_index,
         );
-        i += 5;
+        i += Place::WORDS;
     }
     fits_in(u, room)
 }
@@ -228,7 +230,7 @@ pub(crate) fn has_room(
         keys: u.keys,
         values: u.values,
         texts: u.texts,
-        features: u.features + (6 + words),
+        features: u.features + (Record::HEAD + words),
     };
     if is_most_met(w, tags, room) {
         return true;

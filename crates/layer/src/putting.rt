@@ -8,6 +8,7 @@ ghost use Rattle.layer.specs.Calls.{grownBy, keyWords, storedAs, valueWo
 ghost use Rattle.layer.specs.Steps.{Grows, Small, EntryRoom, PairRoom, TagRoom, pairLaid, laidTag};
 ghost use Rattle.layer.specs.Lending.{entered, left, given, Lays, lists};
 use crate::Figures;
+use records::Record;
 use runs::lay_bytes;
 use runs::lay_words;
 use table::Found;
@@ -95,10 +96,10 @@ fn put_pair(at: usize, end: usize, k: usize, v: usize, features: &mut [u32])
     requires { ⌜ PairRoom at end k v (now features) ⌝ }
     ensures { λ _. ⌜ now (features .exit) ≡ pairLaid at end k v (now (features .entry)) ⌝ }
 {
-    let count = features[at + 4];
+    let count = features[at + Record::TAGS];
     let words = [k as u32, v as u32];
     lay_words(&words, features, end);
-    features[at + 4] = count + 2;
+    features[at + Record::TAGS] = count + 2;
 }
 
 // A tag that has room: the key, then the value, then the two words.

@@ -15,14 +15,32 @@ pub(crate) struct Place {
     pub(crate) text: Text,
 }
 
+// A tag of the list is five words.
+impl Place {
+    pub(crate) const WORDS: usize = 5;
+
+    // Where they stand, behind the key's start: the key's length, the value's kind, and the start and the length of its text or the halves of its content.
+    pub(crate) const LEN: usize = 1;
+
+    pub(crate) const KIND: usize = 2;
+
+    pub(crate) const LOW: usize = 3;
+
+    pub(crate) const HIGH: usize = 4;
+}
+
 // Whether the five words at index i are a tag whose texts lie within so many bytes.
 fn tag_ok(tags: &[u32], i: usize, bytes: usize) -> bool
     requires { ⌜ i + 5 ≤ length (now tags) ⌝ }
     ensures { λ r. ⌜ r ≡ okAt bytes (now (tags .entry)) i ⌝ }
 {
     let start = number::wide(tags[i]);
-    let len = number::wide(tags[i + 1]);
-    let value = [tags[i + 2], tags[i + 3], tags[i + 4]];
+    let len = number::wide(tags[i + Place::LEN]);
+    let value = [
+        tags[i + Place::KIND],
+        tags[i + Place::LOW],
+        tags[i + Place::HIGH],
+    ];
     runs::has_room(start, len, bytes) & table::values_in(&value, bytes)
 }
 
@@ -32,13 +50,13 @@ pub(crate) fn is_tag_list(tags: &[u32], bytes: usize) -> bool
 {
     let mut i = 0;
     while i < tags.len() {
-        if tags.len() - i < 5 {
+        if tags.len() - i < Place::WORDS {
             return false;
         }
         if !tag_ok(tags, i, bytes) {
             return false;
         }
-        i += 5;
+        i += Place::WORDS;
     }
     true
 }
@@ -79,8 +97,12 @@ fn is_short(tags: &[u32], i: usize) -> bool
     requires { ⌜ i + 5 ≤ length (now tags) ⌝ }
     ensures { λ r. ⌜ r ≡ shortAt (now (tags .entry)) i ⌝ }
 {
-    let len = number::wide(tags[i + 1]);
-    let text = text_of(tags[i + 2], tags[i + 3], tags[i + 4]);
+    let len = number::wide(tags[i + Place::LEN]);
+    let text = text_of(
+        tags[i + Place::KIND],
+        tags[i + Place::LOW],
+        tags[i + Place::HIGH],
+    );
     Text::may_have(len) & Text::may_have(text.len)
 }
 
@@ -90,13 +112,13 @@ pub(crate) fn are_short(tags: &[u32]) -> bool
 {
     let mut i = 0;
     while i < tags.len() {
-        if tags.len() - i < 5 {
+        if tags.len() - i < Place::WORDS {
             return true;
         }
         if !is_short(tags, i) {
             return false;
         }
-        i += 5;
+        i += Place::WORDS;
     }
     true
 }
@@ -107,10 +129,10 @@ pub(crate) fn place_at(tags: &[u32], i: usize) -> Place
     ensures { λ r. ⌜ r ≡ placeAt (now (tags .entry)) i ⌝ }
 {
     let start = number::wide(tags[i]);
-    let len = number::wide(tags[i + 1]);
-    let kind = tags[i + 2];
-    let low = tags[i + 3];
-    let high = tags[i + 4];
+    let len = number::wide(tags[i + Place::LEN]);
+    let kind = tags[i + Place::KIND];
+    let low = tags[i + Place::LOW];
+    let high = tags[i + Place::HIGH];
     Place {
         key: Text {
             start: start,

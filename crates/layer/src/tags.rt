@@ -2,6 +2,7 @@
 // given by their bits, since values are equal by bits. Each call costs its STATE check, which reads the used part of every list once, and a scan of the
 // keys and of the values.
 ghost use lib.ListN.{length};
+ghost use Rattle.table.specs.Values.{floatKind, doubleKind, intKind, uintKind, sintKind, boolKind};
 ghost use Rattle.layer.specs.Calls.{tagged, addTag, bitsOf, bitOf, tagString, tagBits};
 ghost use Rattle.layer.specs.Steps.{Ready};
 ghost use Rattle.layer.specs.Lending.{Does, given, lists};
@@ -83,6 +84,23 @@ fn add_tag(
     tag(s, o, key, v, text, keys, values, texts, features)
 }
 
+// The six whose value is no text: its content is given by its 64 bits.
+fn add_bits(
+    s: Layer,
+    key: &[u8],
+    kind: u32,
+    bits: u64,
+    keys: &mut [u32],
+    values: &mut [u32],
+    texts: &mut [u8],
+    features: &mut [u32],
+) -> Changed
+    ensures { λ r. ⌜ Does (addTag (tagBits kind (now (key .entry)) bits)) s r keys values texts features ⌝ }
+{
+    let v = value_of(kind, bits);
+    add_tag(s, key, v, b"", keys, values, texts, features)
+}
+
 // A tag whose value is a text.
 pub fn add_tag_string(
     s: Layer,
@@ -113,10 +131,10 @@ pub fn add_tag_float(
     texts: &mut [u8],
     features: &mut [u32],
 ) -> Changed
-    ensures { λ r. ⌜ Does (addTag (tagBits 2 (now (key .entry)) bits)) s r keys values texts features ⌝ }
+    ensures { λ r. ⌜ Does (addTag (tagBits floatKind (now (key .entry)) bits)) s r keys values texts features ⌝ }
 {
-    let v = value_of(Value::FLOAT, bits as u64);
-    add_tag(s, key, v, b"", keys, values, texts, features)
+    let wide = bits as u64;
+    add_bits(s, key, Value::FLOAT, wide, keys, values, texts, features)
 }
 
 // A tag whose value is a double, given by its bits.
@@ -129,10 +147,9 @@ pub fn add_tag_double(
     texts: &mut [u8],
     features: &mut [u32],
 ) -> Changed
-    ensures { λ r. ⌜ Does (addTag (tagBits 3 (now (key .entry)) bits)) s r keys values texts features ⌝ }
+    ensures { λ r. ⌜ Does (addTag (tagBits doubleKind (now (key .entry)) bits)) s r keys values texts features ⌝ }
 {
-    let v = value_of(Value::DOUBLE, bits);
-    add_tag(s, key, v, b"", keys, values, texts, features)
+    add_bits(s, key, Value::DOUBLE, bits, keys, values, texts, features)
 }
 
 // A tag whose value is an int.
@@ -145,10 +162,10 @@ pub fn add_tag_int(
     texts: &mut [u8],
     features: &mut [u32],
 ) -> Changed
-    ensures { λ r. ⌜ Does (addTag (tagBits 4 (now (key .entry)) (bitsOf val))) s r keys values texts features ⌝ }
+    ensures { λ r. ⌜ Does (addTag (tagBits intKind (now (key .entry)) (bitsOf val))) s r keys values texts features ⌝ }
 {
-    let v = value_of(Value::INT, bits_of(val));
-    add_tag(s, key, v, b"", keys, values, texts, features)
+    let bits = bits_of(val);
+    add_bits(s, key, Value::INT, bits, keys, values, texts, features)
 }
 
 // A tag whose value is a uint.
@@ -161,10 +178,9 @@ pub fn add_tag_uint(
     texts: &mut [u8],
     features: &mut [u32],
 ) -> Changed
-    ensures { λ r. ⌜ Does (addTag (tagBits 5 (now (key .entry)) val)) s r keys values texts features ⌝ }
+    ensures { λ r. ⌜ Does (addTag (tagBits uintKind (now (key .entry)) val)) s r keys values texts features ⌝ }
 {
-    let v = value_of(Value::UINT, val);
-    add_tag(s, key, v, b"", keys, values, texts, features)
+    add_bits(s, key, Value::UINT, val, keys, values, texts, features)
 }
 
 // A tag whose value is a sint.
@@ -177,10 +193,10 @@ pub fn add_tag_sint(
     texts: &mut [u8],
     features: &mut [u32],
 ) -> Changed
-    ensures { λ r. ⌜ Does (addTag (tagBits 6 (now (key .entry)) (bitsOf val))) s r keys values texts features ⌝ }
+    ensures { λ r. ⌜ Does (addTag (tagBits sintKind (now (key .entry)) (bitsOf val))) s r keys values texts features ⌝ }
 {
-    let v = value_of(Value::SINT, bits_of(val));
-    add_tag(s, key, v, b"", keys, values, texts, features)
+    let bits = bits_of(val);
+    add_bits(s, key, Value::SINT, bits, keys, values, texts, features)
 }
 
 // A tag whose value is a bool.
@@ -193,8 +209,8 @@ pub fn add_tag_bool(
     texts: &mut [u8],
     features: &mut [u32],
 ) -> Changed
-    ensures { λ r. ⌜ Does (addTag (tagBits 7 (now (key .entry)) (bitOf val))) s r keys values texts features ⌝ }
+    ensures { λ r. ⌜ Does (addTag (tagBits boolKind (now (key .entry)) (bitOf val))) s r keys values texts features ⌝ }
 {
-    let v = value_of(Value::BOOL, bit_of(val));
-    add_tag(s, key, v, b"", keys, values, texts, features)
+    let bits = bit_of(val);
+    add_bits(s, key, Value::BOOL, bits, keys, values, texts, features)
 }

@@ -6,19 +6,21 @@ ghost use lib.ListN.{length};
 ghost use Rattle.layer.specs.TagLists.{tagsOf};
 ghost use Rattle.layer.specs.Whole.{markOf, idOf, featurePut, addFeature};
 ghost use Rattle.layer.specs.Lookup.{idx};
-ghost use Rattle.layer.specs.WholeSteps.{asks, MayPut, Known, Given};
+ghost use Rattle.layer.specs.WholeSteps.{asks, MayPut, Known};
 ghost use Rattle.layer.specs.Lending.{Does, DoesIndexed, Fills, lists};
 use crate::Changed;
 use crate::Figures;
 use crate::Layer;
 use crate::Open;
 use crate::feature::lay_record;
-use crate::filling::put_tags;
+use crate::filling::put_tag_at;
 use crate::indexes::build_index;
 use crate::need::has_room;
 use crate::state::is_valid;
+use crate::tag_list::Place;
 use crate::tag_list::are_short;
 use crate::tag_list::is_tag_list;
+use records::Record;
 use refusal::Refusal;
 use words::geometry::Geometry;
 
@@ -27,6 +29,22 @@ pub struct Head {
     pub kind: u32,
     pub has_id: bool,
     pub id: u64,
+}
+
+// One of a list of heads is six words, with how many geometry words and tag words the feature has.
+impl Head {
+    pub(crate) const WORDS: usize = 6;
+
+    // Where they stand, behind the kind: the id mark, the halves of the id, and the two numbers.
+    pub(crate) const MARK: usize = 1;
+
+    pub(crate) const LOW: usize = 2;
+
+    pub(crate) const HIGH: usize = 3;
+
+    pub(crate) const GEOMETRY: usize = 4;
+
+    pub(crate) const TAGS: usize = 5;
 }
 
 // Whether a feature may be put, ROOM apart.
@@ -86,7 +104,7 @@ fn id_of(f: Head) -> u64
     0
 }
 
-// A feature that has room: its record, then its tags.
+// A feature that has room: its record, then its tags one after the other.
 fn put_feature(
     s: Layer,
     f: Head,
@@ -111,7 +129,7 @@ fn put_feature(
         keys: o.keys,
         values: o.values,
         texts: o.texts,
-        features: o.features + (6 + words.len()),
+        features: o.features + (Record::HEAD + words.len()),
     };
     let opened = Layer {
         extent: s.extent,
@@ -119,18 +137,12 @@ fn put_feature(
         used: used,
         feature: Open::Since(o),
     };
-    let t = put_tags(
-        opened,
-        o,
-        tags,
-        bytes,
-        keys,
-        values,
-        texts,
-        features,
-        ki,
-        vi,
-    );
+    let mut t = opened;
+    let mut i = 0;
+    while i < tags.len() {
+        t = put_tag_at(t, o, tags, i, bytes, keys, values, texts, features, ki, vi);
+        i += Place::WORDS;
+    }
     let last = t.used;
     Layer {
         extent: t.extent,
@@ -150,66 +162,8 @@ fn reach(built: bool, len: usize) -> usize
     0
 }
 
-// A feature that only ROOM can refuse. The indexes are built when the first one is accepted.
-fn add_welcome(
-    s: Layer,
-    built: bool,
-    f: Head,
-    words: &[u32],
-    tags: &[u32],
-    bytes: &[u8],
-    keys: &mut [u32],
-    values: &mut [u32],
-    texts: &mut [u8],
-    features: &mut [u32],
-    ki: &mut [u32],
-    vi: &mut [u32],
-) -> Changed
-    requires { ⌜ Given s built f (now words) (now tags) (now bytes) (lists keys values texts features) (idx (now ki) (now vi)) ⌝ }
-    ensures { λ r. ⌜ DoesIndexed (addFeature f (now (words .entry)) (now (tags .entry)) (now (bytes .entry))) s r keys values texts features ki vi ⌝ }
-{
-    let a = reach(built, ki.len());
-    let b = reach(built, vi.len());
-    if !has_room(
-        s,
-        words.len(),
-        tags,
-        bytes,
-        &keys[..],
-        &values[..],
-        &texts[..],
-        &features[..],
-        &ki[..a],
-        &vi[..b],
-    ) {
-        return Changed::Refused(Refusal::Room, s);
-    }
-    build_index(
-        s,
-        built,
-        &keys[..],
-        &values[..],
-        &texts[..],
-        &features[..],
-        ki,
-        vi,
-    );
-    Changed::Done(put_feature(
-        s,
-        f,
-        words,
-        tags,
-        bytes,
-        keys,
-        values,
-        texts,
-        features,
-        ki,
-        vi,
-    ))
-}
-
-// A whole feature, where it is known whether the layer breaks no rule of STATE: whoever adds many asks once.
+// A whole feature, where it is known whether the layer breaks no rule of STATE: whoever adds many asks once. The indexes are built when the first one is
+// accepted.
 pub(crate) fn add_known(
     s: Layer,
     stands: bool,
@@ -230,22 +184,41 @@ pub(crate) fn add_known(
 {
     let q = s.feature;
     match first_refusal(q, stands, f.kind, words.len(), tags, bytes.len()) {
-        Asked::Barred(r) => Changed::Refused(r, s),
-        Asked::Fine => add_welcome(
-            s,
-            built,
-            f,
-            words,
-            tags,
-            bytes,
-            keys,
-            values,
-            texts,
-            features,
-            ki,
-            vi,
-        ),
+        Asked::Barred(r) => return Changed::Refused(r, s),
+        Asked::Fine => {}
     }
+    let a = reach(built, ki.len());
+    let b = reach(built, vi.len());
+    if !has_room(
+        s,
+        words.len(),
+        tags,
+        bytes,
+        &keys[..],
+        &values[..],
+        &texts[..],
+        &features[..],
+        &ki[..a],
+        &vi[..b],
+    ) {
+        return Changed::Refused(Refusal::Room, s);
+    }
+    let u = s.used;
+    let room = Layer::room(keys.len(), values.len(), texts.len(), features.len());
+    build_index(u, built, room, &keys[..], &values[..], &texts[..], ki, vi);
+    Changed::Done(put_feature(
+        s,
+        f,
+        words,
+        tags,
+        bytes,
+        keys,
+        values,
+        texts,
+        features,
+        ki,
+        vi,
+    ))
 }
 
 // A whole feature of this head, with these geometry words and tags. The tags are five words each: where the key starts and how long it is, the value's kind,

@@ -10,6 +10,19 @@ use Rattle.words.specs.Geometries.{isKind}
 use Rattle.table.specs.declared.Found.{Found}
 use Rattle.table.specs.declared.Found.the-variants.{At, Nothing}
 
+-- the words before the geometry, and where three of them stand: the id mark, which the halves of the id follow, and how many tag and geometry words there are
+abbrev pub headWords : ℕ
+headWords = 6
+
+abbrev pub markAt : ℕ
+markAt = 1
+
+abbrev pub tagsAt : ℕ
+tagsAt = 4
+
+abbrev pub geometryAt : ℕ
+geometryAt = 5
+
 abbrev pub headOk : ℕ → ℕ → Bool
 headOk kind mark = isKind kind && leb mark 1
 
@@ -41,7 +54,7 @@ recordLength (a ∷ b ∷ c ∷ []) = Nothing
 recordLength (a ∷ b ∷ c ∷ d ∷ []) = Nothing
 recordLength (a ∷ b ∷ c ∷ d ∷ e ∷ []) = Nothing
 recordLength (kind ∷ mark ∷ low ∷ high ∷ tags ∷ geometry ∷ ws) =
-    cond (headOk kind mark) (cond (leb (tags + geometry) (length ws)) (At (6 + tags + geometry)) Nothing) Nothing
+    cond (headOk kind mark) (cond (leb (tags + geometry) (length ws)) (At (headWords + tags + geometry)) Nothing) Nothing
 
 -- where the record at index i ends
 abbrev pub endFrom : ℕ → Found → Found

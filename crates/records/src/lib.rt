@@ -5,6 +5,21 @@ ghost use Rattle.records.specs.Records.{headOk, recordEnd, recordsIn, on
 use table::Found;
 use words::geometry::Geometry;
 
+// A feature record, by its words.
+pub struct Record;
+
+impl Record {
+    // The words before its geometry.
+    pub const HEAD: usize = 6;
+
+    // Where they stand: the id mark, which the halves of the id follow, and how many tag words and geometry words there are.
+    pub const MARK: usize = 1;
+
+    pub const TAGS: usize = 4;
+
+    pub const GEOMETRY: usize = 5;
+}
+
 // Whether a record may start with this kind and this id mark.
 fn head_ok(kind: u32, mark: u32) -> bool
     ensures { λ r. ⌜ r ≡ headOk kind mark ⌝ }
@@ -17,18 +32,18 @@ fn head_ok(kind: u32, mark: u32) -> bool
 pub fn record_end(ws: &[u32], i: usize) -> Found
     ensures { λ r. ⌜ r ≡ recordEnd (now (ws .entry)) i ⌝ }
 {
-    if ws.len() < 6 {
+    if ws.len() < Record::HEAD {
         return Found::Nothing;
     }
-    if ws.len() - 6 < i {
+    if ws.len() - Record::HEAD < i {
         return Found::Nothing;
     }
-    if !head_ok(ws[i], ws[i + 1]) {
+    if !head_ok(ws[i], ws[i + Record::MARK]) {
         return Found::Nothing;
     }
-    let tags = number::wide(ws[i + 4]);
-    let geometry = number::wide(ws[i + 5]);
-    let long = 6 + tags + geometry;
+    let tags = number::wide(ws[i + Record::TAGS]);
+    let geometry = number::wide(ws[i + Record::GEOMETRY]);
+    let long = Record::HEAD + tags + geometry;
     if ws.len() - i < long {
         return Found::Nothing;
     }

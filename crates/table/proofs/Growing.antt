@@ -13,9 +13,9 @@ use Rattle.table.specs.Values.{valueOk, valuesIn}
 pub never : {X : Type 0} → false ≡ true → X
 never p = absurd (let z : _≡_ {A = ℕ} 0 1 = cc in omega arith)
 
-pub both : (a b : Bool) → cond a b false ≡ true → (a ≡ true) × (b ≡ true)
-both true b e = (refl, e)
-both false b e = never e
+pub cond-both : (a b : Bool) → cond a b false ≡ true → (a ≡ true) × (b ≡ true)
+cond-both true b e = (refl, e)
+cond-both false b e = never e
 
 wider : (bytes more start len : ℕ) → bytes ≤ more → inside bytes start len ≡ true → inside more start len ≡ true
 wider bytes more start len h e = le-leb (start + len) more (omega (arith, leb-true (start + len) bytes e))
@@ -25,7 +25,7 @@ module _ (bytes more : ℕ) (h : bytes ≤ more) where
   keys-more [] new e f = f
   keys-more (a ∷ []) new e f = never e
   keys-more (a ∷ b ∷ ks) new e f =
-      let p = both (inside bytes a b) (keysIn bytes ks) e in
+      let p = cond-both (inside bytes a b) (keysIn bytes ks) e in
       rw (wider bytes more a b h (p .0)) (keys-more ks new (p .1) f)
 
   value-wider : (kind low high : ℕ) (t : Bool) → eqb kind 1 ≡ t → valueOk bytes kind low high ≡ true → valueOk more kind low high ≡ true
@@ -37,5 +37,5 @@ module _ (bytes more : ℕ) (h : bytes ≤ more) where
   values-more (a ∷ []) new e f = never e
   values-more (a ∷ b ∷ []) new e f = never e
   values-more (a ∷ b ∷ c ∷ vs) new e f =
-      let p = both (valueOk bytes a b c) (valuesIn bytes vs) e in
+      let p = cond-both (valueOk bytes a b c) (valuesIn bytes vs) e in
       rw (value-wider a b c (eqb a 1) refl (p .0)) (values-more vs new (p .1) f)

@@ -10,11 +10,33 @@ use Rattle.table.specs.declared.Found.the-variants.{At, Nothing}
 use Rattle.table.specs.declared.Value.{Value}
 use Rattle.table.specs.Texts.{inside, sameText}
 
+-- the seven kinds, by document 01's numbers
+abbrev pub textKind : ℕ
+textKind = 1
+
+abbrev pub floatKind : ℕ
+floatKind = 2
+
+abbrev pub doubleKind : ℕ
+doubleKind = 3
+
+abbrev pub intKind : ℕ
+intKind = 4
+
+abbrev pub uintKind : ℕ
+uintKind = 5
+
+abbrev pub sintKind : ℕ
+sintKind = 6
+
+abbrev pub boolKind : ℕ
+boolKind = 7
+
 -- 0.0 and -0.0: all bits but the sign are 0
 abbrev pub isZero : ℕ → ℕ → ℕ → Bool
 isZero kind low high =
-    cond (eqb kind 2) (eqb (low % 2147483648) 0 && eqb high 0)
-    (cond (eqb kind 3) (eqb low 0 && eqb (high % 2147483648) 0) false)
+    cond (eqb kind floatKind) (eqb (low % 2147483648) 0 && eqb high 0)
+    (cond (eqb kind doubleKind) (eqb low 0 && eqb (high % 2147483648) 0) false)
 
 -- two contents of one kind: equal, or both a zero
 abbrev pub sameContent : ℕ → ℕ → ℕ → ℕ → ℕ → Bool
@@ -24,7 +46,7 @@ sameContent kind low high low₂ high₂ = cond (eqb low low₂ && eqb high high
 abbrev pub sameValue : List ℕ → ℕ → ℕ → ℕ → Value → List ℕ → Bool
 sameValue texts kind low high v text =
     cond (eqb kind (v .kind))
-    (cond (eqb kind 1) (sameText texts low high text) (sameContent kind low high (v .low) (v .high)))
+    (cond (eqb kind textKind) (sameText texts low high text) (sameContent kind low high (v .low) (v .high)))
     false
 
 -- the first value that is v; the first of these values has the index j
@@ -37,9 +59,9 @@ findValue j (kind ∷ low ∷ high ∷ values) texts v text = cond (sameValue te
 -- STATE: a text within so many bytes, a float's high half 0, a bool's content 0 or 1, and no kind but 1 to 7
 abbrev pub valueOk : ℕ → ℕ → ℕ → ℕ → Bool
 valueOk bytes kind low high =
-    cond (eqb kind 1) (inside bytes low high)
-    (cond (eqb kind 2) (eqb high 0)
-    (cond (eqb kind 7) (leb low 1 && eqb high 0) (leb 3 kind && leb kind 6)))
+    cond (eqb kind textKind) (inside bytes low high)
+    (cond (eqb kind floatKind) (eqb high 0)
+    (cond (eqb kind boolKind) (leb low 1 && eqb high 0) (leb doubleKind kind && leb kind sintKind)))
 
 -- every value is one
 abbrev pub valuesIn : ℕ → List ℕ → Bool

@@ -16,6 +16,19 @@ Inv-loop index₀ keys texts n j₀ index j = (n ≡ length keys / 2) × Built i
 abbrev μ-loop : tie.MeasureT-loop
 μ-loop index₀ keys texts n j₀ index j = n - j
 
+-- the places on the way
+abbrev shared-slice-known4-before-slice-known3 : (tie.After-slice-known3 Inv-loop μ-loop) → (tie.After-shared-slice-known4 Inv-loop μ-loop)
+shared-slice-known4-before-slice-known3 c = c .before .before .before .before .before .before
+
+abbrev index-before-shared-slice-known4 : (tie.After-shared-slice-known4 Inv-loop μ-loop) → (tie.After-index Inv-loop μ-loop)
+index-before-shared-slice-known4 c = c .before .before .before .before .before .before
+
+abbrev start-before-index : (tie.After-index Inv-loop μ-loop) → (tie.Start Inv-loop μ-loop)
+start-before-index c = c .before .before .before .before .before .before
+
+abbrev shared-slice-known2-before-loop : (tie.After-loop Inv-loop μ-loop) → (tie.After-shared-slice-known2 Inv-loop μ-loop)
+shared-slice-known2-before-loop c = c .before .before .before .before .before .before
+
 clear-requires : tie.Need-clear-requires Inv-loop μ-loop
 clear-requires c κs = search needs
 
@@ -62,15 +75,16 @@ loop-less : tie.Need-loop-less Inv-loop μ-loop
 loop-less c = search needs
 
 loop-again : tie.Need-loop-again Inv-loop μ-loop
-loop-again c = let t = c .before .before .before .before .before .before .before .before .before .before in
-    let g = t .before .before .before .before .before .before .before .before .args in
-    (t .loop .inv .0, build-turn _ _ (keyHash (g .keys .now) (g .texts .now)) _ _ (t .loop .inv .1) (omega arith) _ (key-hashed (g .keys .now) (g .texts .now) (t .loop .j) _ _ (c .before .before .before .before .before .before .before .wide .ensures) (c .before .before .before .before .before .wide2 .ensures) _ (c .before .before .before .before .hash-part .ensures)) _ (c .before .before .push .ensures))
+loop-again c = let h = shared-slice-known4-before-slice-known3 c in
+    let t = h .before .before .before .before in
+    let g = start-before-index (index-before-shared-slice-known4 h) .args in
+    (t .loop .inv .0, build-turn _ _ (keyHash (g .keys .now) (g .texts .now)) _ _ (t .loop .inv .1) (omega arith) _ (key-hashed (g .keys .now) (g .texts .now) (t .loop .j) _ _ (h .before .wide .ensures) (c .before .before .before .before .before .wide2 .ensures) _ (c .before .before .before .before .hash-part .ensures)) _ (c .before .before .push .ensures))
 
 same-length : tie.Need-same-length Inv-loop μ-loop
 same-length c = search needs
 
 returns : tie.Need-returns Inv-loop μ-loop
-returns c = let g = c .before .before .before .before .before .before .before .before .before .args in
+returns c = let g = shared-slice-known2-before-loop c .before .before .before .args in
     build-done _ _ (keyHash (g .keys .now) (g .texts .now)) _ _ (c .before .loop .inv .1) (omega arith) (g .index .now) (c .before .before .before .before .clear .ensures)
 
 pub build-keys-spec : {M : Type 1} → statement M

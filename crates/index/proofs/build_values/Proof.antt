@@ -15,6 +15,16 @@ Inv-loop index₀ values texts n j₀ index j = (n ≡ length values / 3) × Bui
 abbrev μ-loop : tie.MeasureT-loop
 μ-loop index₀ values texts n j₀ index j = n - j
 
+-- the places on the way
+abbrev in-loop-before-push : (tie.After-push Inv-loop μ-loop) → (tie.In-loop Inv-loop μ-loop)
+in-loop-before-push c = c .before .before .before .before .before .before
+
+abbrev shared-slice-known2-before-in-loop : (tie.In-loop Inv-loop μ-loop) → (tie.After-shared-slice-known2 Inv-loop μ-loop)
+shared-slice-known2-before-in-loop c = c .before .before .before .before .before .before
+
+abbrev shared-slice-known2-before-loop : (tie.After-loop Inv-loop μ-loop) → (tie.After-shared-slice-known2 Inv-loop μ-loop)
+shared-slice-known2-before-loop c = c .before .before .before .before .before .before
+
 clear-requires : tie.Need-clear-requires Inv-loop μ-loop
 clear-requires c κs = search needs
 
@@ -67,15 +77,15 @@ loop-less : tie.Need-loop-less Inv-loop μ-loop
 loop-less c = search needs
 
 loop-again : tie.Need-loop-again Inv-loop μ-loop
-loop-again c = let t = c .before .before .before .before .before .before .before .before .before in
-    let g = t .before .before .before .before .before .before .before .before .args in
+loop-again c = let t = in-loop-before-push (c .before .before) .before in
+    let g = shared-slice-known2-before-in-loop (in-loop-before-push (c .before .before)) .before .before .before .args in
     (t .loop .inv .0, build-turn _ _ (valueHash (g .values .now) (g .texts .now)) _ _ (t .loop .inv .1) (omega arith) _ (c .before .before .before .before .hash-stored .ensures) _ (c .before .before .push .ensures))
 
 same-length : tie.Need-same-length Inv-loop μ-loop
 same-length c = search needs
 
 returns : tie.Need-returns Inv-loop μ-loop
-returns c = let g = c .before .before .before .before .before .before .before .before .before .args in
+returns c = let g = shared-slice-known2-before-loop c .before .before .before .args in
     build-done _ _ (valueHash (g .values .now) (g .texts .now)) _ _ (c .before .loop .inv .1) (omega arith) (g .index .now) (c .before .before .before .before .clear .ensures)
 
 pub build-values-spec : {M : Type 1} → statement M

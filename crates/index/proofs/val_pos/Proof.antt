@@ -7,6 +7,10 @@ use borrow.Author.Needs.{needs}
 use Rattle.index.proofs.val_pos.Statement.{statement}
 use Rattle.index.proofs.val_pos.Tie as tie
 
+-- the places on the way
+abbrev shared-slice-known3-before-walk-values : tie.After-walk-values → tie.After-shared-slice-known3
+shared-slice-known3-before-walk-values c = c .before .before .before .before .before .before
+
 returns : tie.Need-returns
 returns c = search (needs, walked-nowhere)
 
@@ -32,7 +36,7 @@ found-requires : tie.Need-found-requires
 found-requires c κs = search needs
 
 returns-2 : tie.Need-returns-2
-returns-2 c = let g = c .before .before .before .before .before .before .before .before .before .before .args in
+returns-2 c = let g = shared-slice-known3-before-walk-values (c .before) .before .before .before .args in
     walked-is (g .index .now) (valueAt (g .values .now) (g .texts .now) (g .v) (g .text .now)) (length (g .values .now) / 3) (g .hash) _ (c .before .before .before .before .smaller .ensures) _ (c .before .before .wide .ensures) _ (c .before .walk-values .ensures) _ (c .found .ensures)
 
 pub val-pos-spec : {M : Type 1} → statement M

@@ -13,6 +13,10 @@ Inv-loop index keys texts key limit head slots₀ below₀ cur₀ best₀ below 
 abbrev μ-loop : tie.MeasureT-loop
 μ-loop index keys texts key limit head slots₀ below₀ cur₀ best₀ below cur best = below
 
+-- where the walk begins, seen from a turn
+abbrev start : (tie.In-loop Inv-loop μ-loop) → (tie.Start Inv-loop μ-loop)
+start c = c .before .before .before .before .before .before
+
 loop-holds : tie.Need-loop-holds Inv-loop μ-loop
 loop-holds c = begin _ _ _ _
 
@@ -76,7 +80,7 @@ loop-again c = let h = c .before .before in
     let k = w .before .before in
     let e = k .before .before in
     let I = e .before .before .loop .inv in
-    let g = e .before .before .before .before .before .before .before .args in
+    let g = start (e .before) .args in
     turn _ _ _ _ _ (e .before .before .loop .cur) _ I (omega arith) (e .if1 .left) _ (key-asked (g .keys .now) (g .texts .now) (g .key .now) (e .before .before .loop .cur - 1) _ _ (k .wide .ensures) (w .wide2 .ensures) _ (h .before .same-text .ensures)) _ (h .choose .ensures) _ (c .wide3 .ensures)
 
 returns-2 : tie.Need-returns-2 Inv-loop μ-loop

@@ -13,6 +13,10 @@ Inv-loop heads words tags i₀ w₀ t₀ i w t = Inv words tags heads i w t
 abbrev μ-loop : tie.MeasureT-loop
 μ-loop heads words tags i₀ w₀ t₀ i w t = length heads - i
 
+-- the places on the way
+abbrev in-turn : (tie.After-shared-slice-known4 Inv-loop μ-loop) → (tie.In-loop Inv-loop μ-loop)
+in-turn c = c .before .before .before .before .before .before
+
 loop-holds : tie.Need-loop-holds Inv-loop μ-loop
 loop-holds c = start _ _ _
 
@@ -56,22 +60,22 @@ shared-slice-read-if2 : tie.Need-shared-slice-read-if2 Inv-loop μ-loop
 shared-slice-read-if2 c = search needs
 
 returns-2 : tie.Need-returns-2 Inv-loop μ-loop
-returns-2 c = past _ _ (c .before .before .before .before .before .before .before .before .before .before .args .heads .now) (c .before .before .before .before .before .before .before .before .loop .i) _ _ (c .before .before .before .before .before .before .before .before .loop .inv) _ _ (c .before .before .before .before .wide .ensures .same) (c .before .before .wide2 .ensures .same) (c .before .before .before .before .before .before .if1 .left) (c .if2 .taken)
+returns-2 c = let l = in-turn (c .before) .before in past _ _ (l .before .before .args .heads .now) (l .loop .i) _ _ (l .loop .inv) _ _ (c .before .before .before .before .wide .ensures .same) (c .before .before .wide2 .ensures .same) (c .before .before .before .before .before .before .if1 .left) (c .if2 .taken)
 
 add-i : tie.Need-add-i Inv-loop μ-loop
 add-i c = search needs
 
 sub-w : tie.Need-sub-w Inv-loop μ-loop
-sub-w c = omega (arith, words-there _ _ (c .before .before .before .before .before .before .before .before .before .before .args .heads .now) (c .before .before .before .before .before .before .before .before .loop .i) _ _ (c .before .before .before .before .before .before .before .before .loop .inv) _ _ (c .before .before .before .before .wide .ensures .same) (c .before .before .wide2 .ensures .same) (c .before .before .before .before .before .before .if1 .left) (c .if2 .left))
+sub-w c = let l = in-turn (c .before) .before in omega (arith, words-there _ _ (l .before .before .args .heads .now) (l .loop .i) _ _ (l .loop .inv) _ _ (c .before .before .before .before .wide .ensures .same) (c .before .before .wide2 .ensures .same) (c .before .before .before .before .before .before .if1 .left) (c .if2 .left))
 
 sub-t : tie.Need-sub-t Inv-loop μ-loop
-sub-t c = omega (arith, tags-there _ _ (c .before .before .before .before .before .before .before .before .before .before .args .heads .now) (c .before .before .before .before .before .before .before .before .loop .i) _ _ (c .before .before .before .before .before .before .before .before .loop .inv) _ _ (c .before .before .before .before .wide .ensures .same) (c .before .before .wide2 .ensures .same) (c .before .before .before .before .before .before .if1 .left) (c .if2 .left))
+sub-t c = let l = in-turn (c .before) .before in omega (arith, tags-there _ _ (l .before .before .args .heads .now) (l .loop .i) _ _ (l .loop .inv) _ _ (c .before .before .before .before .wide .ensures .same) (c .before .before .wide2 .ensures .same) (c .before .before .before .before .before .before .if1 .left) (c .if2 .left))
 
 loop-less : tie.Need-loop-less Inv-loop μ-loop
 loop-less c = search needs
 
 loop-again : tie.Need-loop-again Inv-loop μ-loop
-loop-again c = further _ _ (c .before .before .before .before .before .before .before .before .before .before .args .heads .now) (c .before .before .before .before .before .before .before .before .loop .i) _ _ (c .before .before .before .before .before .before .before .before .loop .inv) _ _ (c .before .before .before .before .wide .ensures .same) (c .before .before .wide2 .ensures .same) (c .before .before .before .before .before .before .if1 .left) (c .if2 .left)
+loop-again c = let l = in-turn (c .before) .before in further _ _ (l .before .before .args .heads .now) (l .loop .i) _ _ (l .loop .inv) _ _ (c .before .before .before .before .wide .ensures .same) (c .before .before .wide2 .ensures .same) (c .before .before .before .before .before .before .if1 .left) (c .if2 .left)
 
 returns-3 : tie.Need-returns-3 Inv-loop μ-loop
 returns-3 c = ends _ _ _ _ _ _ (c .before .loop .inv) (omega (arith, c))

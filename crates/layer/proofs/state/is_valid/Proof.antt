@@ -8,7 +8,17 @@ use borrow.Author.Needs.{needs}
 use Rattle.layer.proofs.state.is_valid.Statement.{statement}
 use Rattle.layer.proofs.state.is_valid.Tie as tie
 
-at-fit : (c : tie.Else1) → Fit (c .before .before .before .before .before .before .before .args .s .used) (length (c .before .before .before .before .before .before .before .args .keys .now)) (length (c .before .before .before .before .before .before .before .args .values .now)) (length (c .before .before .before .before .before .before .before .args .texts .now)) (length (c .before .before .before .before .before .before .before .args .features .now))
+-- the places on the way
+abbrev start-before-has-room-for : tie.After-has-room-for → tie.Start
+start-before-has-room-for c = c .before .before .before .before .before .before
+
+abbrev struct-known2-before-records-ok-arg : tie.After-records-ok-arg → tie.After-struct-known2
+struct-known2-before-records-ok-arg c = c .before .before .before .before .before .before
+
+abbrev shared-slice-known3-before-struct-known2 : tie.After-struct-known2 → tie.After-shared-slice-known3
+shared-slice-known3-before-struct-known2 c = c .before .before .before .before .before .before
+
+at-fit : (c : tie.Else1) → let g = start-before-has-room-for (c .before) .args in Fit (g .s .used) (length (g .keys .now)) (length (g .values .now)) (length (g .texts .now)) (length (g .features .now))
 at-fit c = told-fit _ _ _ _ _ _ (c .before .has-room-for .ensures) (c .if1 .left)
 
 has-room-for-requires : tie.Need-has-room-for-requires
@@ -36,13 +46,16 @@ values-in-requires : tie.Need-values-in-requires
 values-in-requires c κs = search needs
 
 slice-aggregate-records-ok : tie.Need-slice-aggregate-records-ok
-slice-aggregate-records-ok c = sym (length-take-le _ _ (at-fit (c .before .before .before .before .before .before .before .before) .in-features))
+slice-aggregate-records-ok c = sym (length-take-le _ _ (at-fit (struct-known2-before-records-ok-arg c .before .before) .in-features))
 
 records-ok-requires : tie.Need-records-ok-requires
-records-ok-requires c κs = length-take-le _ _ (at-fit (c .before .before .before .before .before .before .before .before) .in-features)
+records-ok-requires c κs = length-take-le _ _ (at-fit (struct-known2-before-records-ok-arg c .before .before) .in-features)
 
 returns-2 : tie.Need-returns-2
-returns-2 c = valid-is (c .before .before .before .before .before .before .before .before .before .before .before .before .before .before .before .before .args .s) (c .before .before .before .before .before .before .before .before .before .before .before .before .before .before .before .before .args .keys .now) (c .before .before .before .before .before .before .before .before .before .before .before .before .before .before .before .before .args .values .now) (c .before .before .before .before .before .before .before .before .before .before .before .before .before .before .before .before .args .texts .now) (c .before .before .before .before .before .before .before .before .before .before .before .before .before .before .before .before .args .features .now) _ (c .before .before .before .before .before .before .before .before .before .before .has-room-for .ensures) (c .before .before .before .before .before .before .before .before .before .if1 .left) _ _ _ (c .before .before .before .before .keys-in .ensures) (c .before .before .values-in .ensures) (c .records-ok .ensures)
+returns-2 c =
+    let k = struct-known2-before-records-ok-arg (c .before) in
+    let g = shared-slice-known3-before-struct-known2 k .before .before .before .args in
+    valid-is (g .s) (g .keys .now) (g .values .now) (g .texts .now) (g .features .now) _ (k .before .before .before .has-room-for .ensures) (k .before .before .if1 .left) _ _ _ (c .before .before .before .before .keys-in .ensures) (c .before .before .values-in .ensures) (c .records-ok .ensures)
 
 pub is-valid-spec : {M : Type 1} → statement M
 is-valid-spec =
