@@ -21,7 +21,8 @@ use Rattle.wire.specs.declared.field.Field.the-variants.{LayerName, LayerFeatur
 use Rattle.wire.specs.declared.field.Field.the-variants.{FeatureType, FeatureGeometry, Value}
 use Rattle.wire.specs.Schema.{varintType, kindNumber, kindType, numberOf, typeOf, keyOf, head}
 use Rattle.wire.specs.Fields.{varintField, fixed32Field, fixed64Field, delimited, varints, packedField}
-use Rattle.tile.specs.Texts.{textOf, textField}
+use Rattle.table.specs.Texts.{textOf}
+use Rattle.tile.specs.Texts.{textField}
 use Rattle.tile.specs.Values.{valueMessage}
 use Rattle.tile.specs.Features.{idField, featureMessage, recordSize, recordMessage}
 use Rattle.tile.specs.Entries.{keyFields, valueFields, featureFields}
