@@ -1,5 +1,5 @@
--- Document 01, "Tags and rollback": "Later calls answer as if that feature had never been opened." Every call that there is on a layer and its lists: those that
--- change it, alone or as whole features, the questions, and adding it to a tile. What each answers, and what it leaves.
+-- Document 01, "Tags and rollback": "Later calls answer as if that feature had never been opened." Every call that there is on a layer and its lists: those
+-- that change it, alone or as whole features, the questions, and adding it to a tile. What each answers, and what it leaves.
 use Prim.Native.Nat.{ℕ}
 use mathlib.Core.Bool.{Bool}
 use mathlib.Core.List.{List, [], _∷_}

@@ -3,13 +3,16 @@ pub mod ByName
 pub mod Promises
 pub mod Words
 pub mod Clips
+pub mod Points
 pub mod Encoding
 pub mod Jobs
 pub mod Reading
 pub mod Tables
 pub mod Layers
+pub mod TagCalls
 pub mod Features
 pub mod Wire
+pub mod LayerMessages
 pub mod Messages
 pub mod Tiles
 pub mod Programs

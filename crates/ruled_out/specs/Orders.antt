@@ -1,5 +1,5 @@
--- Two checks exchanged, for the calls where no edit of the code says so without another shape of the proof: document 01, "Refusals by number": the first check that
--- fails is the answer, in the table's order.
+-- Two checks exchanged, for the calls where no edit of the code says so without another shape of the proof: document 01, "Refusals by number": the first
+-- check that fails is the answer, in the table's order.
 use Prim.Native.Nat.{ℕ}
 use mathlib.Core.Path.{_≡_, ap}
 use mathlib.Core.Bool.{cond}

@@ -78,7 +78,8 @@ cut-before-command h = let e : _≡_ {A = ℕ} 8 9 = ap faultOf (h 0 11 origin [
 -- STEP is asked before CUT, of the pairs that are there
 pub step-before-cut : ((turns word : ℕ) (c : Cursor) (ws : List ℕ) → commands (suc turns) c (word ∷ ws)
     ≡ cond (not (isId (word % 8))) (faulty NoCommand)
-    (andThen (command word c (take (params word) ws)) (λ c′. cond (ltb (length ws) (params word)) (faulty Cut) (commands turns c′ (drop (params word) ws))))) → ⊥
+    (andThen (command word c (take (params word) ws))
+    (λ c′. cond (ltb (length ws) (params word)) (faulty Cut) (commands turns c′ (drop (params word) ws))))) → ⊥
 unfolding commands drawn unparam
 step-before-cut h = let e : _≡_ {A = ℕ} 9 10 = ap faultOf (h 0 25 origin (4294967294 ∷ 0 ∷ 2 ∷ 0 ∷ [])) in omega arith
 

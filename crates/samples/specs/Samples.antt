@@ -114,7 +114,8 @@ samples =
       asked = job 3 (box 10) (pos 0 ∷ pos 0 ∷ pos 4 ∷ pos 0 ∷ pos 4 ∷ pos 4 ∷ pos 4 ∷ pos 4 ∷ pos 8 ∷ pos 4 ∷ pos 8 ∷ pos 8 ∷ []) (3 ∷ 6 ∷ []);
       expected =
           words 0 (9 ∷ 0 ∷ 0 ∷ 18 ∷ 8 ∷ 0 ∷ 0 ∷ 8 ∷ 15 ∷ 18 ∷ 8 ∷ 0 ∷ 0 ∷ 8 ∷ 15 ∷ [])
-          (pos 1 ∷ pos 0 ∷ pos 0 ∷ pos 2 ∷ pos 4 ∷ pos 0 ∷ pos 2 ∷ pos 4 ∷ pos 4 ∷ pos 7 ∷ pos 4 ∷ pos 4 ∷ pos 2 ∷ pos 8 ∷ pos 4 ∷ pos 2 ∷ pos 8 ∷ pos 8 ∷ pos 7 ∷ pos 8 ∷ pos 8 ∷ []);
+          (pos 1 ∷ pos 0 ∷ pos 0 ∷ pos 2 ∷ pos 4 ∷ pos 0 ∷ pos 2 ∷ pos 4 ∷ pos 4 ∷ pos 7 ∷ pos 4 ∷ pos 4
+          ∷ pos 2 ∷ pos 8 ∷ pos 4 ∷ pos 2 ∷ pos 8 ∷ pos 8 ∷ pos 7 ∷ pos 8 ∷ pos 8 ∷ []);
     } ∷
     -- a line that crosses the box
     record {
@@ -147,5 +148,6 @@ samples =
 
 -- ---- each sample is given as it is expected
 pub samples-hold : map (λ (s : Sample). gives (s .asked)) samples ≡ map (λ (s : Sample). s .expected) samples
-unfolding encodedJob isJob valid isCoord isGood emission boundary added finished completed clip overlap cuts crossAtX clipped param unparam drawn commands traceFrom addLayer validTile validLayer layerField layerBytes nameAt textField delimited varintField head varint
+unfolding encodedJob isJob valid isCoord isGood emission boundary added finished completed clip overlap cuts crossAtX clipped
+    param unparam drawn commands traceFrom addLayer validTile validLayer layerField layerBytes nameAt textField delimited varintField head varint
 samples-hold = refl

@@ -26,7 +26,9 @@ use Rattle.tile.proofs.Texts.{text-short}
 use Rattle.tile.proofs.Values.{value-short}
 use Rattle.tile.specs.Features.{recordMessage, recordSize}
 use Rattle.tile.proofs.Features.{record-short}
-use Rattle.tile.specs.Entries.{keyFields, valueFields, featureFields}
+use Rattle.tile.specs.Entries.{keyFields, valueFields, featureField, featureFields}
+use Rattle.tile.specs.Steps.{KeyAt, keyAt, ValueAt, valueAt}
+use Rattle.tile.proofs.Looping.{Next, Walk}
 
 -- both of two tests, one in the other
 twice : (a b : Bool) → cond a b false ≡ true → (a ≡ true) × (b ≡ true)
@@ -34,39 +36,44 @@ twice true b e = (refl, e)
 twice false b e = never e
 
 -- ---- keys
-abbrev pub keyAt : List ℕ → List ℕ → ℕ → List ℕ
-keyAt texts keys i = textField LayerKey texts (getD keys i 0) (getD keys (i + 1) 0)
+-- the keys from an index on
+abbrev pub keysNext : List ℕ → List ℕ → ℕ → Type 0
+keysNext texts keys i =
+    Next (KeyAt texts keys i) (λ (j : ℕ). keysIn (length texts) (drop j keys) ≡ true) (λ (j : ℕ). keyFields texts (drop j keys)) (keyAt texts keys i) (length keys) i 2
 
--- the key at index i, and those behind it
-pub record KeyAt (texts keys : List ℕ) (i : ℕ) : Type 0 where
-  pub within : i + 2 ≤ length keys
-  pub inside-is : inside (length texts) (getD keys i 0) (getD keys (i + 1) 0) ≡ true
-  pub rest : keysIn (length texts) (drop (i + 2) keys) ≡ true
-  pub fields : keyFields texts (drop i keys) ≡ keyAt texts keys i ++ keyFields texts (drop (i + 2) keys)
-
-key-front : (texts l : List ℕ) → 0 < length l → keysIn (length texts) l ≡ true → KeyAt texts l 0
+key-front : (texts l : List ℕ) → 0 < length l → keysIn (length texts) l ≡ true → keysNext texts l 0
 key-front texts [] h e = absurd (omega arith)
 key-front texts (a ∷ []) h e = never e
 key-front texts (a ∷ b ∷ l) h e =
     let p = twice (inside (length texts) a b) (keysIn (length texts) l) e in
-    record { within = omega arith; inside-is = p .0; rest = p .1; fields = refl }
+    record { some = omega arith; within = omega arith; entry = record { within = omega arith; inside-is = p .0 }; rest = p .1; parts = refl }
 
-module _ (texts keys : List ℕ) (i : ℕ) where
-  pub key-at : i < length keys → keysIn (length texts) (drop i keys) ≡ true → KeyAt texts keys i
-  key-at h e =
+module _ (texts keys : List ℕ) where
+  pub key-next : (i : ℕ) → i < length keys → keysIn (length texts) (drop i keys) ≡ true → keysNext texts keys i
+  key-next i h e =
       let K = key-front texts (drop i keys) (rw length-drop (omega arith)) e in
       let a : getD (drop i keys) 0 0 ≡ getD keys i 0 = getD-drop i keys 0 0 ∙ ap (λ (n : ℕ). getD keys n 0) (omega arith) in
       let b : getD (drop i keys) 1 0 ≡ getD keys (i + 1) 0 = getD-drop i keys 1 0 in
       let d : drop 2 (drop i keys) ≡ drop (i + 2) keys = drop-drop 2 i keys in
+      let w : i + 2 ≤ length keys = omega (arith, K .within, length-drop i keys) in
       record {
-        within = omega (arith, K .within, length-drop i keys);
-        inside-is = rw (a, b) at (K .inside-is);
+        some = omega arith;
+        within = w;
+        entry = record { within = w; inside-is = rw (a, b) at (K .entry .inside-is) };
         rest = rw d at (K .rest);
-        fields = rw (a, b, d) at (K .fields);
+        parts = rw (a, b, d) at (K .parts);
       }
 
-  pub key-end : length keys ≤ i → keyFields texts (drop i keys) ≡ []
-  key-end h = ap (keyFields texts) (drop-of-length-le keys {i = i} h)
+  abbrev pub keyWalk : Walk (length keys)
+  keyWalk = record {
+    good = λ (i : ℕ). keysIn (length texts) (drop i keys) ≡ true;
+    fields = λ (i : ℕ). keyFields texts (drop i keys);
+    whole = KeyAt texts keys;
+    field = keyAt texts keys;
+    words = λ (i : ℕ). 2;
+    next = key-next;
+    none = λ (i : ℕ) (h : length keys ≤ i). ap (keyFields texts) (drop-of-length-le keys {i = i} h);
+  }
 
 pub keys-short : (texts keys : List ℕ) (most : ℕ) → length texts ≤ most → length (keyFields texts keys) * 2 ≤ length keys * (11 + most)
 keys-short texts [] most h = omega arith
@@ -74,41 +81,46 @@ keys-short texts (a ∷ []) most h = omega arith
 keys-short texts (a ∷ b ∷ keys) most h = omega (arith, length-append (textField LayerKey texts a b) (keyFields texts keys), text-short LayerKey texts a b, keys-short texts keys most h)
 
 -- ---- values
-abbrev pub valueAt : List ℕ → List ℕ → ℕ → List ℕ
-valueAt texts values i = delimited LayerValue (valueMessage texts (getD values i 0) (getD values (i + 1) 0) (getD values (i + 2) 0))
+-- the values from an index on
+abbrev pub valuesNext : List ℕ → List ℕ → ℕ → Type 0
+valuesNext texts values i =
+    Next (ValueAt texts values i) (λ (j : ℕ). valuesIn (length texts) (drop j values) ≡ true) (λ (j : ℕ). valueFields texts (drop j values)) (valueAt texts values i) (length values) i 3
 
--- the value at index i, and those behind it
-pub record ValueAt (texts values : List ℕ) (i : ℕ) : Type 0 where
-  pub within : i + 3 ≤ length values
-  pub ok : valueOk (length texts) (getD values i 0) (getD values (i + 1) 0) (getD values (i + 2) 0) ≡ true
-  pub rest : valuesIn (length texts) (drop (i + 3) values) ≡ true
-  pub fields : valueFields texts (drop i values) ≡ valueAt texts values i ++ valueFields texts (drop (i + 3) values)
-
-value-front : (texts l : List ℕ) → 0 < length l → valuesIn (length texts) l ≡ true → ValueAt texts l 0
+value-front : (texts l : List ℕ) → 0 < length l → valuesIn (length texts) l ≡ true → valuesNext texts l 0
 value-front texts [] h e = absurd (omega arith)
 value-front texts (a ∷ []) h e = never e
 value-front texts (a ∷ b ∷ []) h e = never e
 value-front texts (a ∷ b ∷ c ∷ l) h e =
     let p = twice (valueOk (length texts) a b c) (valuesIn (length texts) l) e in
-    record { within = omega arith; ok = p .0; rest = p .1; fields = refl }
+    record { some = omega arith; within = omega arith; entry = record { within = omega arith; ok = p .0 }; rest = p .1; parts = refl }
 
-module _ (texts values : List ℕ) (i : ℕ) where
-  pub value-at : i < length values → valuesIn (length texts) (drop i values) ≡ true → ValueAt texts values i
-  value-at h e =
+module _ (texts values : List ℕ) where
+  pub value-next : (i : ℕ) → i < length values → valuesIn (length texts) (drop i values) ≡ true → valuesNext texts values i
+  value-next i h e =
       let K = value-front texts (drop i values) (rw length-drop (omega arith)) e in
       let a : getD (drop i values) 0 0 ≡ getD values i 0 = getD-drop i values 0 0 ∙ ap (λ (n : ℕ). getD values n 0) (omega arith) in
       let b : getD (drop i values) 1 0 ≡ getD values (i + 1) 0 = getD-drop i values 1 0 in
       let c : getD (drop i values) 2 0 ≡ getD values (i + 2) 0 = getD-drop i values 2 0 in
       let d : drop 3 (drop i values) ≡ drop (i + 3) values = drop-drop 3 i values in
+      let w : i + 3 ≤ length values = omega (arith, K .within, length-drop i values) in
       record {
-        within = omega (arith, K .within, length-drop i values);
-        ok = rw (a, b, c) at (K .ok);
+        some = omega arith;
+        within = w;
+        entry = record { within = w; ok = rw (a, b, c) at (K .entry .ok) };
         rest = rw d at (K .rest);
-        fields = rw (a, b, c, d) at (K .fields);
+        parts = rw (a, b, c, d) at (K .parts);
       }
 
-  pub value-end : length values ≤ i → valueFields texts (drop i values) ≡ []
-  value-end h = ap (valueFields texts) (drop-of-length-le values {i = i} h)
+  abbrev pub valueWalk : Walk (length values)
+  valueWalk = record {
+    good = λ (i : ℕ). valuesIn (length texts) (drop i values) ≡ true;
+    fields = λ (i : ℕ). valueFields texts (drop i values);
+    whole = ValueAt texts values;
+    field = valueAt texts values;
+    words = λ (i : ℕ). 3;
+    next = value-next;
+    none = λ (i : ℕ) (h : length values ≤ i). ap (valueFields texts) (drop-of-length-le values {i = i} h);
+  }
 
 field-short : (texts : List ℕ) (kind low high : ℕ) → length (delimited LayerValue (valueMessage texts kind low high)) ≤ 22 + length texts
 field-short texts kind low high = omega (arith, delimited-long LayerValue (valueMessage texts kind low high), varint-field-short LayerValue (length (valueMessage texts kind low high)), value-short texts kind low high)
@@ -161,34 +173,36 @@ front-found n (a ∷ b ∷ c ∷ d ∷ x ∷ y ∷ ws) h e = by (headOk a b) e
         (omega (arith, p .0), record { met = suc n; found = rw (k, ← drop-drop (x + y) 6 (a ∷ b ∷ c ∷ d ∷ x ∷ y ∷ ws)) (p .1) })
     by false f = never f
 
-abbrev pub featureAt : List ℕ → ℕ → List ℕ
-featureAt features i = delimited LayerFeature (recordMessage (midOf i (length features - i) features))
+-- the words from index i on, as `&features[i..]` lends them, and the field of the record at their front
+abbrev pub fromAt : List ℕ → ℕ → List ℕ
+fromAt features i = midOf i (length features - i) features
 
--- the record at index i, of n words, and those behind it
-pub record FeatureAt (features : List ℕ) (i n : ℕ) : Type 0 where
-  pub some : 0 < n
-  pub whole : recordSize (midOf i (length features - i) features) ≤ length (midOf i (length features - i) features)
-  pub within : i + n ≤ length features
-  pub rest : Follow (drop (i + n) features)
-  pub fields : featureFields 0 (drop i features) ≡ featureAt features i ++ featureFields 0 (drop (i + n) features)
-
-module _ (features : List ℕ) (i : ℕ) where
-  pub feature-at : (n : ℕ) → n ≡ recordSize (midOf i (length features - i) features) → i < length features → Follow (drop i features) → FeatureAt features i n
-  feature-at n e h F =
+-- the records from an index on
+module _ (features : List ℕ) where
+  pub feature-next : (i : ℕ) → i < length features → Follow (drop i features)
+      → Next (recordSize (fromAt features i) ≤ length (fromAt features i)) (λ (j : ℕ). Follow (drop j features)) (λ (j : ℕ). featureFields 0 (drop j features)) (featureField (fromAt features i)) (length features) i (recordSize (fromAt features i))
+  feature-next i h F =
       let o : 0 < length (drop i features) = rw length-drop (omega arith) in
       let p = front-found (F .met) (drop i features) o (F .found) in
-      let f : n ≡ recordSize (drop i features) = rw (lent i features) at e in
-      rw f
+      rw (lent i features)
       (record {
         some = omega arith;
-        whole = rw (lent i features) (p .0);
         within = omega (arith, p .0, length-drop i features);
+        entry = p .0;
         rest = rw (← drop-drop (recordSize (drop i features)) i features) (p .1);
-        fields = rw (← drop-drop (recordSize (drop i features)) i features, lent i features) (front-fields (drop i features) o);
+        parts = rw (← drop-drop (recordSize (drop i features)) i features) (front-fields (drop i features) o);
       })
 
-  pub feature-end : length features ≤ i → featureFields 0 (drop i features) ≡ []
-  feature-end h = ap (featureFields 0) (drop-of-length-le features {i = i} h)
+  abbrev pub featureWalk : Walk (length features)
+  featureWalk = record {
+    good = λ (i : ℕ). Follow (drop i features);
+    fields = λ (i : ℕ). featureFields 0 (drop i features);
+    whole = λ (i : ℕ). recordSize (fromAt features i) ≤ length (fromAt features i);
+    field = λ (i : ℕ). featureField (fromAt features i);
+    words = λ (i : ℕ). recordSize (fromAt features i);
+    next = feature-next;
+    none = λ (i : ℕ) (h : length features ≤ i). ap (featureFields 0) (drop-of-length-le features {i = i} h);
+  }
 
 -- twelve bytes a word at most: a head, a length, and ten bytes a word of the record
 pub features-short : (n left : ℕ) (ws : List ℕ) → isFound (recordsIn n left ws) ≡ true → length (featureFields left ws) ≤ (length ws - left) * 12

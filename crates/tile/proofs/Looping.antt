@@ -1,8 +1,9 @@
 -- The loop over a list of entries, once for every kind of entry: of the whole fields those of the entries from index i on are the rest, and those entries are as
 -- they should be.
---     sizing-start sizing-sum sizing-turn sizing-end                    their size
---     laying-start laying-turn laying-end, and what a turn needs: laying-inside laying-room laying-sum laying-long    their bytes
-use Prim.Native.Nat.{ℕ, _+_, _-_, _≤_}
+--     Walk                                                              what such a loop is over
+--     sizing-start sizing-entry sizing-within sizing-sum sizing-turn sizing-end                    the entries' size
+--     laying-start laying-turn laying-end, and what a turn needs: laying-entry laying-inside laying-sum laying-long    their bytes
+use Prim.Native.Nat.{ℕ, _+_, _-_, _≤_, _<_}
 use mathlib.Core.Path.{_≡_, ap}
 use mathlib.Core.List.{List, [], _++_}
 use native.Mathlib.Omega.{arith}
@@ -11,53 +12,90 @@ use borrow.Rule.Slice.PartMut.{midOf, putMid}
 use Rattle.promise.specs.Answers.{Gives}
 use Rattle.wire.specs.Puts.{put}
 use Rattle.wire.proofs.Running.{Run, run-start, run-inside, run-room, run-long, run-sum, run-turn, run-end}
+use Rattle.tile.specs.Steps.{Writable}
+
+-- an entry of so many words stands at index i of n words: it is whole, its field comes first of those from i on, and the entries behind it are as they should be
+pub record Next (whole : Type 0) (good : ℕ → Type 0) (fields : ℕ → List ℕ) (field : List ℕ) (n i words : ℕ) : Type 0 where
+  pub some : 0 < words
+  pub within : i + words ≤ n
+  pub entry : whole
+  pub rest : good (i + words)
+  pub parts : fields i ≡ field ++ fields (i + words)
+
+-- what a loop over n words is over: what is known of the entries from an index on, and their fields; what is known of the entry there, its field, and its words
+pub record Walk (n : ℕ) : Type 1 where
+  pub good : ℕ → Type 0
+  pub fields : ℕ → List ℕ
+  pub whole : ℕ → Type 0
+  pub field : ℕ → List ℕ
+  pub words : ℕ → ℕ
+  pub next : (i : ℕ) → i < n → good i → Next (whole i) good fields (field i) n i (words i)
+  pub none : (i : ℕ) → n ≤ i → fields i ≡ []
 
 -- ---- sizes
-pub record Sizing (good : Type 0) (whole rest : List ℕ) (size i n : ℕ) : Type 0 where
-  pub sound : good
+pub record Sizing {n : ℕ} (W : Walk n) (size i : ℕ) : Type 0 where
+  pub sound : W .good i
   pub within : i ≤ n
-  pub total : length whole ≡ size + length rest
+  pub total : length (W .fields 0) ≡ size + length (W .fields i)
 
-pub sizing-start : {P : Type 0} (whole : List ℕ) (n : ℕ) → P → Sizing P whole whole 0 0 n
-sizing-start whole n p = record { sound = p; within = omega arith; total = omega arith }
+module _ {n : ℕ} {W : Walk n} where
+  pub sizing-start : W .good 0 → Sizing W 0 0
+  sizing-start p = record { sound = p; within = omega arith; total = omega arith }
 
-module _ {P : Type 0} {whole rest : List ℕ} {size i n : ℕ} (I : Sizing P whole rest size i n) where
-  module _ (part after : List ℕ) {k : ℕ} (e : rest ≡ part ++ after) (q : k ≡ length part) where
-    pub sizing-sum : size + k ≤ length whole
-    sizing-sum = omega (arith, I .total, ap length e, length-append part after)
+  module _ {size i : ℕ} (I : Sizing W size i) where
+    module _ (h : i < n) where
+      here : Next (W .whole i) (W .good) (W .fields) (W .field i) n i (W .words i)
+      here = W .next i h (I .sound)
 
-    pub sizing-turn : {Q : Type 0} → Q → (j : ℕ) → j ≤ n → Sizing Q whole after (size + k) j n
-    sizing-turn p j h = record { sound = p; within = h; total = omega (arith, I .total, ap length e, length-append part after) }
+      pub sizing-entry : W .whole i
+      sizing-entry = here .entry
 
-  pub sizing-end : rest ≡ [] → size ≡ length whole
-  sizing-end e = omega (arith, I .total, ap length e)
+      pub sizing-within : (i < i + W .words i) × (i + W .words i ≤ n)
+      sizing-within = (omega (arith, here .some), here .within)
+
+      module _ {k : ℕ} (q : k ≡ length (W .field i)) where
+        pub sizing-sum : size + k ≤ length (W .fields 0)
+        sizing-sum = omega (arith, I .total, ap length (here .parts), length-append (W .field i) (W .fields (i + W .words i)))
+
+        pub sizing-turn : Sizing W (size + k) (i + W .words i)
+        sizing-turn = record { sound = here .rest; within = here .within; total = omega (arith, I .total, ap length (here .parts), length-append (W .field i) (W .fields (i + W .words i))) }
+
+    pub sizing-end : n ≤ i → size ≡ length (W .fields 0)
+    sizing-end h = omega (arith, I .total, ap length (W .none i h))
 
 -- ---- bytes
-pub record Laying (good : Type 0) (whole rest out₀ out : List ℕ) (at i n : ℕ) : Type 0 where
-  pub sound : good
+pub record Laying {n : ℕ} (W : Walk n) (out₀ out : List ℕ) (at i : ℕ) : Type 0 where
+  pub sound : W .good i
   pub within : i ≤ n
-  pub run : Run whole rest out₀ out at
+  pub run : Run (W .fields 0) (W .fields i) out₀ out at
 
-pub laying-start : {P : Type 0} (whole out : List ℕ) (n : ℕ) → P → length whole ≤ length out → Laying P whole whole out out 0 0 n
-laying-start whole out n p h = record { sound = p; within = omega arith; run = run-start whole out h }
+module _ {n : ℕ} {W : Walk n} where
+  pub laying-start : {out : List ℕ} → Writable (W .good 0) (W .fields 0) (length out) → Laying W out out 0 0
+  laying-start {out = out} p = record { sound = p .good; within = omega arith; run = run-start (W .fields 0) out (p .room) }
 
-module _ {P : Type 0} {whole rest out₀ out : List ℕ} {at i n : ℕ} (I : Laying P whole rest out₀ out at i n) where
-  pub laying-inside : at ≤ length out
-  laying-inside = run-inside (I .run)
+  module _ {out₀ out : List ℕ} {at i : ℕ} (I : Laying W out₀ out at i) where
+    pub laying-inside : at ≤ length out
+    laying-inside = run-inside (I .run)
 
-  pub laying-long : length out ≡ length out₀
-  laying-long = run-long (I .run)
+    pub laying-long : length out ≡ length out₀
+    laying-long = run-long (I .run)
 
-  module _ (part after : List ℕ) (e : rest ≡ part ++ after) where
-    pub laying-room : length part ≤ length (midOf at (length out - at) out)
-    laying-room = run-room (I .run) part after e
+    module _ (h : i < n) where
+      there : Next (W .whole i) (W .good) (W .fields) (W .field i) n i (W .words i)
+      there = W .next i h (I .sound)
 
-    module _ {k : ℕ} {ys : List ℕ} (g : Gives (put part (midOf at (length out - at) out)) k ys) where
-      pub laying-sum : at + k ≤ length out₀
-      laying-sum = run-sum (I .run) part after e g
+      pub laying-within : (i < i + W .words i) × (i + W .words i ≤ n)
+      laying-within = (omega (arith, there .some), there .within)
 
-      pub laying-turn : {Q : Type 0} → Q → (j : ℕ) → j ≤ n → Laying Q whole after out₀ (putMid at (length out - at) out ys) (at + k) j n
-      laying-turn p j h = record { sound = p; within = h; run = run-turn (I .run) part after e g }
+      pub laying-entry : Writable (W .whole i) (W .field i) (length (midOf at (length out - at) out))
+      laying-entry = record { good = there .entry; room = run-room (I .run) (W .field i) (W .fields (i + W .words i)) (there .parts) }
 
-  pub laying-end : rest ≡ [] → Gives (put whole out₀) at out
-  laying-end e = run-end (I .run) e
+      module _ {k : ℕ} {ys : List ℕ} (g : Gives (put (W .field i) (midOf at (length out - at) out)) k ys) where
+        pub laying-sum : at + k ≤ length out₀
+        laying-sum = run-sum (I .run) (W .field i) (W .fields (i + W .words i)) (there .parts) g
+
+        pub laying-turn : Laying W out₀ (putMid at (length out - at) out ys) (at + k) (i + W .words i)
+        laying-turn = record { sound = there .rest; within = there .within; run = run-turn (I .run) (W .field i) (W .fields (i + W .words i)) (there .parts) g }
+
+    pub laying-end : n ≤ i → Gives (put (W .fields 0) out₀) at out
+    laying-end h = run-end (I .run) (W .none i h)

@@ -10,8 +10,8 @@ use borrow.Rule.Slice.PartMut.{midOf}
 use Rattle.wire.specs.declared.field.Field.{Field}
 use Rattle.wire.specs.Fields.{delimited}
 use Rattle.wire.proofs.Fields.{delimited-long, varint-field-short}
-use Rattle.table.specs.Texts.{inside}
-use Rattle.tile.specs.Texts.{textOf, textField}
+use Rattle.table.specs.Texts.{inside, textOf}
+use Rattle.tile.specs.Texts.{textField}
 
 pub text-field : (field : Field) (texts : List ℕ) (start len : ℕ) → textField field texts start len ≡ delimited field (textOf texts start len)
 unfolding textField

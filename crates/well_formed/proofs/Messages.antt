@@ -13,7 +13,8 @@ use Rattle.wire.specs.Schema.{numberOf, typeOf, delimitedType}
 use Rattle.whole.specs.Twos.{wide}
 use Rattle.wire.specs.Numbers.{zigzag}
 use Rattle.wire.proofs.Numbers.{zigzag-fits}
-use Rattle.tile.specs.Texts.{textOf, textField}
+use Rattle.table.specs.Texts.{textOf}
+use Rattle.tile.specs.Texts.{textField}
 use Rattle.tile.specs.Values.{valueMessage}
 use Rattle.tile.proofs.Texts.{text-field}
 use Rattle.tile.proofs.Values.{value-short}

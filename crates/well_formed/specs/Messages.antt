@@ -45,4 +45,5 @@ pub data WellFormed : Kind → List ℕ → Type 0 where
   field : (kind : Kind) (key : ℕ) (head content rest : List ℕ) → Reads head key → 0 < key / 8 → inside kind (key / 8) ≡ plain
       → Content (key % 8) content → WellFormed kind rest → WellFormed kind (head ++ (content ++ rest))
   nested : (kind within : Kind) (key : ℕ) (head lead bytes rest : List ℕ) → Reads head key → 0 < key / 8 → inside kind (key / 8) ≡ message within
-      → key % 8 ≡ delimitedType → Reads lead (length bytes) → WellFormed within bytes → WellFormed kind rest → WellFormed kind (head ++ ((lead ++ bytes) ++ rest))
+      → key % 8 ≡ delimitedType → Reads lead (length bytes) → WellFormed within bytes → WellFormed kind rest
+      → WellFormed kind (head ++ ((lead ++ bytes) ++ rest))

@@ -1,81 +1,39 @@
 -- After each turn the size so far and that of the keys to come are that of all.
 use native.Mathlib.Omega.{arith}
 use Prim.Native.Nat.{_-_}
-use mathlib.Core.Path.{_≡_}
-use mathlib.Core.Bool.{true}
-use lib.ListN.{length, drop}
-use Rattle.table.specs.Keys.{keysIn}
-use Rattle.tile.specs.Entries.{keyFields}
-use Prim.Native.Nat.{ℕ}
-use mathlib.Core.List.{List}
-use Rattle.tile.proofs.Looping.{Sizing, sizing-start, sizing-sum, sizing-turn, sizing-end}
-use Rattle.tile.proofs.Entries.{keyAt, KeyAt, key-at, key-end}
+use lib.ListN.{length}
+use Rattle.tile.proofs.Looping.{Sizing, sizing-start, sizing-entry, sizing-within, sizing-sum, sizing-turn, sizing-end}
+use Rattle.tile.proofs.Entries.{keyWalk}
+use borrow.Author.Needs.{needs}
 use Rattle.tile.proofs.key_fields.keys_size.Statement.{statement}
 use Rattle.tile.proofs.key_fields.keys_size.Tie as tie
-use Rattle.tile.proofs.key_fields.keys_size.Reads as reads
-use Rattle.tile.proofs.key_fields.field_size.Reads as field-size-reads
 
 abbrev Inv-loop : tie.InvT-loop
-Inv-loop texts keys i₀ size₀ i size = Sizing (keysIn (length texts) (drop i keys) ≡ true) (keyFields texts keys) (keyFields texts (drop i keys)) size i (length keys)
+Inv-loop texts keys i₀ size₀ i size = Sizing (keyWalk texts keys) size i
 
 abbrev μ-loop : tie.MeasureT-loop
 μ-loop texts keys i₀ size₀ i size = length keys - i
 
-abbrev at-start : tie.In-loop Inv-loop μ-loop → tie.Start Inv-loop μ-loop
-at-start k = k .before .before .before .before
-
--- the key that this turn is about
-here : (k : tie.In-loop Inv-loop μ-loop) → KeyAt (at-start k .args .texts .now) (at-start k .args .keys .now) (k .before .loop .i)
-here k = key-at _ _ _ (k .loop-test .taken) (k .before .loop .inv .sound)
-
-abbrev field : tie.In-loop Inv-loop μ-loop → List ℕ
-field k = keyAt (at-start k .args .texts .now) (at-start k .args .keys .now) (k .before .loop .i)
-
 loop-holds : tie.Need-loop-holds Inv-loop μ-loop
-loop-holds c = sizing-start _ _ (c .before .before .pre .good)
-
-mul-field-size : tie.Need-mul-field-size Inv-loop μ-loop
-mul-field-size c = omega (arith, here c, at-start c .good)
-
-shared-slice-read-field-size : tie.Need-shared-slice-read-field-size Inv-loop μ-loop
-shared-slice-read-field-size c = omega (arith, here (c .before))
-
-add-field-size : tie.Need-add-field-size Inv-loop μ-loop
-add-field-size c = let k = c .before in omega (arith, here k, at-start k .good)
-
-mul-field-size-2 : tie.Need-mul-field-size-2 Inv-loop μ-loop
-mul-field-size-2 c = let k = c .before in omega (arith, here k, at-start k .good)
-
-shared-slice-read-field-size-2 : tie.Need-shared-slice-read-field-size-2 Inv-loop μ-loop
-shared-slice-read-field-size-2 c = omega (arith, here (c .before .before))
+loop-holds c = sizing-start (c .before .before .pre .good)
 
 field-size-requires : tie.Need-field-size-requires Inv-loop μ-loop
-field-size-requires c κs = here (c .before .before) .inside-is
+field-size-requires c κs = sizing-entry (c .before .loop .inv) (c .loop-test .taken)
 
 add-size : tie.Need-add-size Inv-loop μ-loop
-add-size c =
-    let k = c .before .before .before in
-    let l = k .before in
-    let s = l .before .before .before in
-    omega (arith, sizing-sum (l .loop .inv) (field k) _ (here k .fields) (c .field-size .ensures), s .pre .room)
+add-size c = omega (arith, sizing-sum (c .before .before .loop .inv) (c .before .loop-test .taken) (c .field-size .ensures), c .before .before .before .before .before .pre .room)
 
 add-i : tie.Need-add-i Inv-loop μ-loop
-add-i c = let k = c .before .before .before in omega (arith, here k, at-start k .good)
+add-i c = omega (arith, sizing-within (c .before .before .loop .inv) (c .before .loop-test .taken), c .before .before .before .before .before .good)
 
 loop-less : tie.Need-loop-less Inv-loop μ-loop
-loop-less c = omega (arith, here (c .before .before .before))
+loop-less c = omega (arith, sizing-within (c .before .before .loop .inv) (c .before .loop-test .taken))
 
 loop-again : tie.Need-loop-again Inv-loop μ-loop
-loop-again c =
-    let k = c .before .before .before in
-    let l = k .before in
-    sizing-turn (l .loop .inv) (field k) _ (here k .fields) (c .field-size .ensures) (here k .rest) _ (here k .within)
+loop-again c = sizing-turn (c .before .before .loop .inv) (c .before .loop-test .taken) (c .field-size .ensures)
 
 returns : tie.Need-returns Inv-loop μ-loop
-returns c =
-    let l = c .before in
-    let s = l .before .before .before in
-    sizing-end (l .loop .inv) (key-end (s .args .texts .now) (s .args .keys .now) (l .loop .i) (c .loop-test .left))
+returns c = sizing-end (c .before .loop .inv) (c .loop-test .left)
 
 pub keys-size-spec : {M : Type 1} → statement M
 keys-size-spec =
@@ -84,11 +42,6 @@ keys-size-spec =
     Inv-loop
     μ-loop
     loop-holds
-    mul-field-size
-    shared-slice-read-field-size
-    add-field-size
-    mul-field-size-2
-    shared-slice-read-field-size-2
     field-size-requires
     add-size
     add-i
