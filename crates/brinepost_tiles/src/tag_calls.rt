@@ -1,4 +1,5 @@
 // A tag of the open feature, from C: a call for each kind of value. Floats and doubles are given by their bits. Each refuses STATE, TEXT, TURN and ROOM.
+ghost use Rattle.table.specs.Values.{floatKind, doubleKind, intKind, uintKind, sintKind, boolKind};
 ghost use Rattle.layer.specs.Calls.{addTag, tagString, tagBits, bitsOf, bitOf};
 ghost use Rattle.brinepost_tiles.specs.Calls.{isTrue};
 ghost use Rattle.brinepost_tiles.specs.Lending.{Called};
@@ -36,7 +37,7 @@ pub extern "C" fn bp_add_tag_float(
     texts: &mut [u8],
     features: &mut [u32],
 ) -> BpChanged
-    ensures { λ r. ⌜ Called (addTag (tagBits 2 (now (key .entry)) bits)) given r keys values texts features ⌝ }
+    ensures { λ r. ⌜ Called (addTag (tagBits floatKind (now (key .entry)) bits)) given r keys values texts features ⌝ }
 {
     let s = layer_of(given);
     let r = layer::tags::add_tag_float(s, key, bits, keys, values, texts, features);
@@ -54,7 +55,7 @@ pub extern "C" fn bp_add_tag_double(
     texts: &mut [u8],
     features: &mut [u32],
 ) -> BpChanged
-    ensures { λ r. ⌜ Called (addTag (tagBits 3 (now (key .entry)) bits)) given r keys values texts features ⌝ }
+    ensures { λ r. ⌜ Called (addTag (tagBits doubleKind (now (key .entry)) bits)) given r keys values texts features ⌝ }
 {
     let s = layer_of(given);
     let r = layer::tags::add_tag_double(s, key, bits, keys, values, texts, features);
@@ -72,7 +73,7 @@ pub extern "C" fn bp_add_tag_int(
     texts: &mut [u8],
     features: &mut [u32],
 ) -> BpChanged
-    ensures { λ r. ⌜ Called (addTag (tagBits 4 (now (key .entry)) (bitsOf val))) given r keys values texts features ⌝ }
+    ensures { λ r. ⌜ Called (addTag (tagBits intKind (now (key .entry)) (bitsOf val))) given r keys values texts features ⌝ }
 {
     let s = layer_of(given);
     let r = layer::tags::add_tag_int(s, key, val, keys, values, texts, features);
@@ -90,7 +91,7 @@ pub extern "C" fn bp_add_tag_uint(
     texts: &mut [u8],
     features: &mut [u32],
 ) -> BpChanged
-    ensures { λ r. ⌜ Called (addTag (tagBits 5 (now (key .entry)) val)) given r keys values texts features ⌝ }
+    ensures { λ r. ⌜ Called (addTag (tagBits uintKind (now (key .entry)) val)) given r keys values texts features ⌝ }
 {
     let s = layer_of(given);
     let r = layer::tags::add_tag_uint(s, key, val, keys, values, texts, features);
@@ -108,7 +109,7 @@ pub extern "C" fn bp_add_tag_sint(
     texts: &mut [u8],
     features: &mut [u32],
 ) -> BpChanged
-    ensures { λ r. ⌜ Called (addTag (tagBits 6 (now (key .entry)) (bitsOf val))) given r keys values texts features ⌝ }
+    ensures { λ r. ⌜ Called (addTag (tagBits sintKind (now (key .entry)) (bitsOf val))) given r keys values texts features ⌝ }
 {
     let s = layer_of(given);
     let r = layer::tags::add_tag_sint(s, key, val, keys, values, texts, features);
@@ -126,7 +127,7 @@ pub extern "C" fn bp_add_tag_bool(
     texts: &mut [u8],
     features: &mut [u32],
 ) -> BpChanged
-    ensures { λ r. ⌜ Called (addTag (tagBits 7 (now (key .entry)) (bitOf (isTrue val)))) given r keys values texts features ⌝ }
+    ensures { λ r. ⌜ Called (addTag (tagBits boolKind (now (key .entry)) (bitOf (isTrue val)))) given r keys values texts features ⌝ }
 {
     let s = layer_of(given);
     let r = layer::tags::add_tag_bool(s, key, val != 0, keys, values, texts, features);

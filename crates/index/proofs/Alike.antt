@@ -11,12 +11,9 @@ use borrow.Author.Tests.{eqb-true}
 use Rattle.table.specs.declared.Value.{Value}
 use Rattle.table.specs.Texts.{inside, begins, sameText, textOf}
 use Rattle.table.specs.Values.{isZero, sameContent, sameValue}
+use Rattle.promise.proofs.Joined.{both}
 use Rattle.table.proofs.Growing.{never, cond-both}
 use Rattle.index.specs.Hashes.{hashText, mixed, hashValue, hashStored}
-
-pub and-both : (a b : Bool) → (a && b) ≡ true → (a ≡ true) × (b ≡ true)
-and-both true b e = (refl, e)
-and-both false b e = never e
 
 -- ---- texts
 begins-take : (l key : List ℕ) → begins l key ≡ true → take (length key) l ≡ key
@@ -35,10 +32,10 @@ text-is ts start len key e =
 -- ---- values
 zero-by : (kind low high : ℕ) (t u : Bool) → cond t (eqb (low % 2147483648) 0 && eqb high 0) (cond u (eqb low 0 && eqb (high % 2147483648) 0) false) ≡ true → (low % 2147483648 ≡ 0) × (high % 2147483648 ≡ 0)
 zero-by kind low high true u e =
-    let p = and-both (eqb (low % 2147483648) 0) (eqb high 0) e in
+    let p = both (eqb (low % 2147483648) 0) (eqb high 0) e in
     (eqb-true (low % 2147483648) 0 (p .0), omega (arith, eqb-true high 0 (p .1)))
 zero-by kind low high false true e =
-    let p = and-both (eqb low 0) (eqb (high % 2147483648) 0) e in
+    let p = both (eqb low 0) (eqb (high % 2147483648) 0) e in
     (omega (arith, eqb-true low 0 (p .0)), eqb-true (high % 2147483648) 0 (p .1))
 zero-by kind low high false false e = never e
 
@@ -48,10 +45,10 @@ zero-halves kind low high e = zero-by kind low high (eqb kind 2) (eqb kind 3) e
 content-by : (kind low high low₂ high₂ : ℕ) (t : Bool) → (eqb low low₂ && eqb high high₂) ≡ t → cond t true (isZero kind low high && isZero kind low₂ high₂) ≡ true → mixed kind low high ≡ mixed kind low₂ high₂
 unfolding mixed
 content-by kind low high low₂ high₂ true q e =
-    let p = and-both (eqb low low₂) (eqb high high₂) q in
+    let p = both (eqb low low₂) (eqb high high₂) q in
     rw (eqb-true low low₂ (p .0), eqb-true high high₂ (p .1))
 content-by kind low high low₂ high₂ false q e =
-    let p = and-both (isZero kind low high) (isZero kind low₂ high₂) e in
+    let p = both (isZero kind low high) (isZero kind low₂ high₂) e in
     let a = zero-halves kind low high (p .0) in
     let b = zero-halves kind low₂ high₂ (p .1) in
     rw (a .0, a .1, b .0, b .1)

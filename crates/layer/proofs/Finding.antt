@@ -16,7 +16,8 @@ use Rattle.table.specs.Keys.{findKey, keysIn}
 use Rattle.table.specs.Values.{isZero, sameContent, sameValue, findValue, valueOk, valuesIn}
 use Rattle.records.specs.Records.{isFound}
 use Rattle.table.proofs.Growing.{never, cond-both}
-use Rattle.index.proofs.Alike.{and-both, text-is}
+use Rattle.promise.proofs.Joined.{both}
+use Rattle.index.proofs.Alike.{text-is}
 use Rattle.index.proofs.Growing.{text-kept}
 use Rattle.layer.specs.TagLists.{valueGiven, textPlace}
 use Rattle.layer.specs.Calls.{storedAs}
@@ -119,14 +120,14 @@ zero-by false a b e f = rw e (and-true a)
 zero-content : (kind l h low high : ℕ) → isZero kind low high ≡ true → sameContent kind l h low high ≡ isZero kind l h
 zero-content kind l h low high z =
     zero-by (eqb l low && eqb h high) (isZero kind l h) (isZero kind low high) z
-    (λ q. let p = and-both (eqb l low) (eqb h high) q in rw (eqb-true l low (p .0), eqb-true h high (p .1)) z)
+    (λ q. let p = both (eqb l low) (eqb h high) q in rw (eqb-true l low (p .0), eqb-true h high (p .1)) z)
 
 content-by : (kind l h low high low₂ high₂ : ℕ) (t : Bool) → (eqb low low₂ && eqb high high₂) ≡ t → cond t true (isZero kind low high && isZero kind low₂ high₂) ≡ true → sameContent kind l h low high ≡ sameContent kind l h low₂ high₂
 content-by kind l h low high low₂ high₂ true q e =
-    let p = and-both (eqb low low₂) (eqb high high₂) q in
+    let p = both (eqb low low₂) (eqb high high₂) q in
     rw (eqb-true low low₂ (p .0), eqb-true high high₂ (p .1))
 content-by kind l h low high low₂ high₂ false q e =
-    let p = and-both (isZero kind low high) (isZero kind low₂ high₂) e in
+    let p = both (isZero kind low high) (isZero kind low₂ high₂) e in
     zero-content kind l h low high (p .0) ∙ sym (zero-content kind l h low₂ high₂ (p .1))
 
 content-swap : (kind l h low high low₂ high₂ : ℕ) → sameContent kind low high low₂ high₂ ≡ true → sameContent kind l h low high ≡ sameContent kind l h low₂ high₂

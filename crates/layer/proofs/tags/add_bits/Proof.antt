@@ -1,19 +1,8 @@
 -- What `add_tag` gives of the value's three words.
-use Rattle.layer.specs.Held.{mem}
 use Rattle.layer.proofs.ByKind.{tag-value}
 use borrow.Author.Needs.{needs}
 use Rattle.layer.proofs.tags.add_bits.Statement.{statement}
 use Rattle.layer.proofs.tags.add_bits.Tie as tie
-
--- the places on the way
-abbrev add-tag-before-slice-known7 : tie.After-slice-known7 → tie.After-add-tag
-add-tag-before-slice-known7 c = c .before .before .before .before .before .before
-
-abbrev value-of-before-add-tag : tie.After-add-tag → tie.After-value-of
-value-of-before-add-tag c = c .before .before .before .before .before .before
-
-abbrev start-before-value-of : tie.After-value-of → tie.Start
-start-before-value-of c = c .before .before .before .before .before .before
 
 value-of-requires : tie.Need-value-of-requires
 value-of-requires c κs = search needs
@@ -37,9 +26,7 @@ same-length-4 : tie.Need-same-length-4
 same-length-4 c = search needs
 
 returns : tie.Need-returns
-returns c =
-    let g = start-before-value-of (value-of-before-add-tag (add-tag-before-slice-known7 (c .before .before))) .args in
-    tag-value (g .kind) (g .bits) (g .key .now) (g .s) (mem (g .keys .now) (g .values .now) (g .texts .now) (g .features .now)) _ _ _ (value-of-before-add-tag (add-tag-before-slice-known7 (c .before .before)) .value-of .ensures) (add-tag-before-slice-known7 (c .before .before) .add-tag .ensures)
+returns c = search (needs, tag-value)
 
 pub add-bits-spec : {M : Type 1} → statement M
 add-bits-spec =
