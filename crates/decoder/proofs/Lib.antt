@@ -6,6 +6,5 @@ mod Steps
 mod Turns
 mod Structure
 mod Sizes
-mod Stores
 mod Walks
 mod Decodes

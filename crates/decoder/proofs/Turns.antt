@@ -25,7 +25,7 @@ use Rattle.decoder.specs.declared.Turn.the-variants.{Drew, Began, Refuse
 use Rattle.decoder.specs.Vertices.{Cursor, faulty, vertex, onto}
 use Rattle.decoder.specs.ReadingWords.{isClose, moved, inI32, within}
 use Rattle.decoder.specs.Walking.{headOf, steppedTo, begun, walk, cursorOf, ahead, Stands, Turned}
-use Rattle.decoder.proofs.Steps.{held}
+use Rattle.whole.proofs.Machine.{i32-back}
 
 -- ---- the element at j, and those from k = j + 1 on
 pub from-here : (l : List ℕ) (j k : ℕ) → k ≡ suc j → j < length l → drop j l ≡ getD l j 0 ∷ drop k l
@@ -53,7 +53,7 @@ module _ (pen : Pen) (ws : List ℕ) (z : pen .left ≡ 0) (S : Stands pen ws) (
   module _ (fx : mag (pen .x) < 2 ^ 31) (fy : mag (pen .y) < 2 ^ 31) where
     pub begin-close : r ≡ Close → Turned pen ws (Drew (record { at = pen .at + 1; left = 0; id = 7; x = toZ w32 (ofZ w32 (pen .x)); y = toZ w32 (ofZ w32 (pen .y)) }))
     begin-close f =
-        rw (held (pen .x) fx, held (pen .y) fy)
+        rw (i32-back (pen .x) fx, i32-back (pen .y) fy)
         (record { same = starts Close f; goes = record { more = omega arith; there = omega (arith, S .here); known = λ k. omega arith } })
 
   module _ (id count left : ℕ) (f : r ≡ Draw id count) (w : left ≡ count) where
@@ -66,7 +66,7 @@ module _ (pen : Pen) (ws : List ℕ) (z : pen .left ≡ 0) (S : Stands pen ws) (
         Turned pen ws (Began (record { at = pen .at + 1; left = left; id = id; x = toZ w32 (ofZ w32 (pen .x)); y = toZ w32 (ofZ w32 (pen .y)) }))
     begin-draw fx fy h =
         let k : 2 * count ≤ length ws - (pen .at + 1) = omega arith in
-        rw (held (pen .x) fx, held (pen .y) fy, w)
+        rw (i32-back (pen .x) fx, i32-back (pen .y) fy, w)
         (record {
           same = starts (Draw id count) f ∙ rw (length-drop, le-ltb (length ws - (pen .at + 1)) (2 * count) k);
           goes = record { more = omega arith; there = omega (arith, S .here); known = λ j. draw-id (getD ws (pen .at) 0) id count (sym e ∙ f) };
@@ -83,7 +83,7 @@ out-by false z e = refl
 
 module _ (place : ℤ) (word : ℕ) (f : mag place < 2 ^ 31) (r : Moved) (e : r ≡ steppedTo (toZ w32 (ofZ w32 place)) word) where
   stepped : steppedTo place word ≡ r
-  stepped = sym (rw (held place f) at e)
+  stepped = sym (rw (i32-back place f) at e)
 
   step-in : (x : ℤ) → r ≡ To x → (inI32 (place +ℤ unparam word) ≡ true) × (place +ℤ unparam word ≡ x)
   step-in x h = to-by (inI32 (place +ℤ unparam word)) (place +ℤ unparam word) x (stepped ∙ h)
@@ -125,7 +125,7 @@ module _ (pen : Pen) (ws : List ℕ) (n : pen .left ≡ 0 → ⊥) (S : Stands p
       draw-done y k mx my =
           let (t, i) = step-in (pen .x) _ fx r e x h in
           let (u, j) = step-in (pen .y) _ fy q g y k in
-          rw (held x mx, held y my, ← i, ← j)
+          rw (i32-back x mx, i32-back y my, ← i, ← j)
           (record { same = pairs ∙ rw (t, u); goes = record { more = omega arith; there = by (pen .left) n (S .there); known = λ s. s } })
         where
           by : (left : ℕ) → (left ≡ 0 → ⊥) → pen .at + 2 * left ≤ length ws → pen .at + 2 + 2 * (left - 1) ≤ length ws

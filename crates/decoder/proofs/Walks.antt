@@ -18,7 +18,7 @@ use Rattle.decoder.specs.declared.Turn.the-variants.{Drew, Began, Refuse
 use Rattle.decoder.specs.Vertices.{Vertex, Trace, traced, faulty, origin, vertex, onto, numbers}
 use Rattle.decoder.specs.ReadingWords.{trace}
 use Rattle.decoder.specs.Walking.{outset, walk, cursorOf, ahead, Stands, Turned, Further, Goes, turned, sizeOf, HasRoom, filled}
-use Rattle.decoder.proofs.Steps.{held}
+use Rattle.whole.proofs.Machine.{i32-back}
 use Rattle.decoder.proofs.Traces.{onto-nil, onto-onto, numbers-length, numbers-append}
 use Rattle.decoder.proofs.Structure.{structure}
 
@@ -148,7 +148,7 @@ module _ (ws : List ℕ) (out₀ out : List ℤ) (pen : Pen) (n : ℕ) (L : Laid
       pub laid-drew : mag (next .x) < 2 ^ 31 → mag (next .y) < 2 ^ 31 → (out′ : List ℤ) →
           out′ ≡ lay n (pos (next .id) ∷ toZ w32 (ofZ w32 (next .x)) ∷ toZ w32 (ofZ w32 (next .y)) ∷ []) out → Laid ws out₀ out′ next (n + 3)
       laid-drew fx fy out′ stored =
-          let g : out′ ≡ lay n (pos (next .id) ∷ next .x ∷ next .y ∷ []) out = rw (held (next .x) fx, held (next .y) fy) at stored in
+          let g : out′ ≡ lay n (pos (next .id) ∷ next .x ∷ next .y ∷ []) out = rw (i32-back (next .x) fx, i32-back (next .y) fy) at stored in
           let k : 0 + length (numbers (L .done)) ≡ n = omega (arith, numbers-length (L .done), L .count) in
           let h : 0 + length (numbers (L .done)) ≤ length out₀ = omega (arith, L .count, L .room) in
           record {

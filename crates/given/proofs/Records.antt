@@ -7,10 +7,11 @@ use native.Mathlib.Omega.{arith}
 use lib.ListN.{length, getD, set, drop, length-append, take-append-drop}
 use lib.Seq.{take-at, drop-at, take-append-seam, drop-append-seam, take-set-le, drop-set-add, getD-append-add}
 use Rattle.promise.specs.Laid.{lay}
+use Rattle.promise.proofs.Laying.{lay-behind}
 use Rattle.layer.specs.Calls.{withTag}
-use Rattle.layer.proofs.Keeping.{take-lay-before, drop-lay-add}
 use Rattle.tile.specs.Features.{recordMessage, featureMessage as storedMessage}
 use Rattle.tile.specs.Entries.{featureFields}
+use Rattle.tile.proofs.Entries.{passed}
 use Rattle.given.specs.Given.{Content, Tag, Feature, allTags}
 use Rattle.given.specs.Messages.{each, tagIndices, featureMessage, featureField}
 use Rattle.given.specs.Layout.{markOf, numberOf, recordFrom, recordOf}
@@ -61,16 +62,10 @@ set-behind p q i x =
     sym (take-append-drop (length p) (set (p ++ q) (length p + i) x))
     ∙ rw (take-set-le (length p) (p ++ q) (length p + i) x (omega arith), take-append-seam p q, drop-set-add (length p) (p ++ q) i x, drop-append-seam p q)
 
-lay-behind : (p q run : List ℕ) (i n : ℕ) → length p ≡ n → n + i + length run ≤ length (p ++ q) → lay (n + i) run (p ++ q) ≡ p ++ lay i run q
-lay-behind p q run i n e h =
-    sym (take-append-drop n (lay (n + i) run (p ++ q)))
-    ∙ rw (take-lay-before n (n + i) run (p ++ q) (omega arith) h, drop-lay-add n i run (p ++ q) h, take-at p q n e, drop-at p q n e)
-
 module _ (before : List ℕ) (kind : ℕ) (id : Option ℕ) (geometry indices : List ℕ) where
   pub id-laid : (n : ℕ) → lay (length before + 1) (1 ∷ n % 4294967296 ∷ n / 4294967296 ∷ []) (before ++ recordFrom kind id geometry indices) ≡ before ++ recordFrom kind (some n) geometry indices
   id-laid n =
       lay-behind before (recordFrom kind id geometry indices) (1 ∷ n % 4294967296 ∷ n / 4294967296 ∷ []) 1 (length before) refl
-      (omega (arith, length-append before (recordFrom kind id geometry indices)))
 
   pub tag-laid : (k v : ℕ) → withTag (length before) k v (before ++ recordFrom kind id geometry indices) ≡ before ++ recordFrom kind id geometry (indices ++ (k ∷ v ∷ []))
   tag-laid k v =
@@ -80,11 +75,6 @@ module _ (before : List ℕ) (kind : ℕ) (id : Option ℕ) (geometry indices : 
       rw (append-assoc before r pair, set-behind before (r ++ pair) 4 (getD (before ++ r) (length before + 4) 0 + 2), getD-append-add before r 4 0, e, append-assoc geometry indices pair)
 
 -- ---- the fields
-passed : (n : ℕ) (ws : List ℕ) → featureFields n ws ≡ featureFields 0 (drop n ws)
-passed zero ws = refl
-passed (suc n) [] = refl
-passed (suc n) (w ∷ ws) = passed n ws
-
 module _ (kind : ℕ) (id : Option ℕ) (geometry indices behind : List ℕ) where
   record-message : recordMessage (recordFrom kind id geometry indices ++ behind) ≡ storedMessage kind (markOf id) (numberOf id % 4294967296) (numberOf id / 4294967296) indices geometry
   unfolding recordMessage

@@ -3,6 +3,7 @@
 --     take-lay drop-lay                  the list up to the run's end, and from there on
 --     lay-before lay-inside lay-after    each element: before, in and after the run
 --     lay-next lay-over                  a run laid behind a run; a run laid over one of its length
+--     lay-behind                         a run laid behind some elements
 --     lay-one lay-store                  one store; a run stored element by element
 use mathlib.Core.Path.{_≡_, sym, _∙_, ap}
 use mathlib.Core.List.{List, [], _∷_, _++_, append-assoc, append-nil}
@@ -10,7 +11,7 @@ use Prim.Native.Nat.{ℕ, suc, _+_, _-_, _<_, _≤_}
 use native.Mathlib.Numerals.{add-one}
 use native.Mathlib.Omega.{arith}
 use lib.ListN.{length, take, drop, getD, set, length-append, length-drop, take-append-drop, List·getD-append}
-use lib.Seq.{length-take-le, take-suc, drop-cons, set-at, take-at, drop-at, drop-drop, getD-append-add, getD-take, getD-drop, set-split}
+use lib.Seq.{length-take-le, take-suc, drop-cons, set-at, take-at, drop-at, take-append-add, drop-append-add, drop-drop, getD-append-add, getD-take, getD-drop, set-split}
 use Rattle.promise.specs.Laid.{lay}
 
 module _ {E : Type 0} where
@@ -67,6 +68,12 @@ module _ {E : Type 0} where
       let f : take at (lay at run l) ≡ take at l = ap (take at) (append-assoc (take at l) run (drop (at + length run) l)) ∙ take-at (take at l) (run ++ drop (at + length run) l) at (length-take-le at l k) in
       let g : drop (at + length over) (lay at run l) ≡ drop (at + length over) l = rw e (drop-lay at run l h) in
       rw (f, g)
+
+  -- what stands before the place is left as it is
+  pub lay-behind : (before l run : List E) (i n : ℕ) → length before ≡ n → lay (n + i) run (before ++ l) ≡ before ++ lay i run l
+  lay-behind before l run i n e =
+      let k : length before + i + length run ≡ length before + (i + length run) = omega arith in
+      rw (← e, k, take-append-add before l i, drop-append-add before l (i + length run)) (simp append-assoc)
 
   -- one store
   pub lay-one : (l : List E) (i : ℕ) (a : E) → i < length l → set l i a ≡ lay i (a ∷ []) l

@@ -1,6 +1,8 @@
 pub mod Unique
 pub mod Laying
 pub mod Parts
+pub mod Fronts
+pub mod Running
 pub mod Copying
 pub mod Cases
 pub mod Joined

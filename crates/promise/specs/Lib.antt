@@ -1,3 +1,4 @@
 pub mod Answers
 pub mod Laid
+pub mod Puts
 pub mod Widened

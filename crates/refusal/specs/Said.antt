@@ -1,5 +1,5 @@
--- What an answer says in document 01's own terms, whatever enum carries it: the refusal's number and place, both zero where the call is accepted, and the values.
--- For each answer enum a definition `said…` gives these case by case, and the promises are about them.
+-- What an answer says in document 01's own terms, whatever enum carries it: the refusal's number and place, both zero where the call is accepted, and the
+-- values. For each answer enum a definition `said…` gives these case by case, and the promises are about them.
 use Prim.Native.Nat.{ℕ}
 use Rattle.refusal.specs.declared.Refusal.{Refusal}
 use Rattle.refusal.specs.Refusals.{numberOf, placeOf}

@@ -9,6 +9,7 @@ use lib.Seq.{take-at, drop-at}
 use lib.Dec.{leb, eqb}
 use borrow.Author.Tests.{le-leb, leb-true}
 use Rattle.promise.specs.Laid.{lay}
+use Rattle.promise.proofs.Laying.{lay-behind}
 use Rattle.refusal.specs.declared.Refusal.{Refusal}
 use Rattle.refusal.specs.declared.Refusal.the-variants.{Job, Kind, State, Room, Text as TextRefusal, Turn}
 use Rattle.table.specs.Texts.{inside, shortText, maxBytes}
@@ -25,7 +26,7 @@ use Rattle.layer.specs.Calls.{isShut, moreWords, withUsed, withFeatures, newRec
 use Rattle.layer.specs.TagLists.{tagOk, tagsOk, textPlace, shortTag, tagsShort, tagOf, tagsOf}
 use Rattle.layer.specs.Whole.{featureOpened, tagsPut, featureShut, featurePut, addFeature}
 use Rattle.layer.proofs.Fitting.{both}
-use Rattle.layer.proofs.Keeping.{Lengths, Sound, sound, fine, is-shut, take-lay-before, drop-lay-add, tag-sound, opened-sound}
+use Rattle.layer.proofs.Keeping.{Lengths, Sound, sound, fine, is-shut, tag-sound, opened-sound}
 use Rattle.layer.proofs.Listing.{yes}
 use Rattle.layer.proofs.Growth.{tags-grow, fits-before, same-feature, same-room}
 use Rattle.layer.proofs.Filled.{value-given}
@@ -74,11 +75,6 @@ tags-run bytes (start ∷ len ∷ kind ∷ low ∷ high ∷ ws) e s o u f S h re
     ∙ tags-run bytes ws (p .1) (q .1) o w f (tag-sound u S o f t (r .0) (keyFound t u) (valueFound t u)) h rest
 
 -- ---- the id
-lay-behind : (p q run : List ℕ) (i n : ℕ) → length p ≡ n → n + i + length run ≤ length (p ++ q) → lay (n + i) run (p ++ q) ≡ p ++ lay i run q
-lay-behind p q run i n e h =
-    sym (take-append-drop n (lay (n + i) run (p ++ q)))
-    ∙ rw (take-lay-before n (n + i) run (p ++ q) (omega arith) h, drop-lay-add n i run (p ++ q) h, take-at p q n e, drop-at p q n e)
-
 module _ (f : Head) (words : List ℕ) (v : Seen) (S : Sound v) (k : isKind (f .kind) ≡ true) (s : v .layer .feature ≡ Shut) where
   abbrev begun : Seen
   begun = next (holds (withUsed (v .layer) (moreWords (v .layer .used) (6 + length words)) (Since (v .layer .used))) (withFeatures (v .held) (v .held .features ++ newRecord (f .kind) words))) v
@@ -89,7 +85,6 @@ module _ (f : Head) (words : List ℕ) (v : Seen) (S : Sound v) (k : isKind (f .
   id-laid : (id : ℕ) → lay (v .layer .used .features + 1) (1 ∷ id % 4294967296 ∷ id / 4294967296 ∷ []) (v .held .features ++ newRecord (f .kind) words) ≡ v .held .features ++ recordWith (f .kind) 1 id words
   id-laid id =
       lay-behind (v .held .features) (newRecord (f .kind) words) (1 ∷ id % 4294967296 ∷ id / 4294967296 ∷ []) 1 (v .layer .used .features) (S .lengths .features)
-      (omega (arith, length-append (v .held .features) (newRecord (f .kind) words), S .lengths .features))
 
   id-run : fits (begun .layer .used) (v .room) ≡ true → (has : Bool) (id : ℕ) (rest : List Call) → runs (idCalls has id ++ rest) begun ≡ runs rest (featureOpened (record { kind = f .kind; «has_id» = has; id = id }) words v)
   id-run h true id rest =

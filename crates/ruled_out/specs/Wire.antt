@@ -12,7 +12,7 @@ use Rattle.promise.specs.Laid.{lay}
 use Rattle.whole.specs.Twos.{signed32}
 use Rattle.words.specs.Params.{param}
 use Rattle.wire.specs.Varints.{varintOf, varint}
-use Rattle.wire.specs.Puts.{put}
+use Rattle.promise.specs.Puts.{put}
 use Rattle.wire.specs.Numbers.{little, fixed32, fixed64, zigzag}
 use Rattle.wire.specs.Reading.{good, behind, readOf, readVarint}
 use Rattle.wire.specs.declared.field.ValueKind.the-variants.{Text, Float, Double}

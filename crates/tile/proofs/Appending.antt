@@ -14,9 +14,9 @@ use Rattle.promise.specs.Laid.{lay}
 use Rattle.refusal.specs.declared.Refusal.the-variants.{Room}
 use Rattle.runs.specs.Fitting.{laidIn}
 use Rattle.runs.proofs.Laws.{laid-fits}
-use Rattle.wire.specs.Puts.{put}
+use Rattle.promise.specs.Puts.{put}
 use Rattle.promise.proofs.Parts.{lent, home, lent-long, lay-front}
-use Rattle.wire.proofs.Fronts.{put-fits}
+use Rattle.promise.proofs.Fronts.{put-fits}
 use Rattle.layer.specs.declared.Layer.{Layer}
 use Rattle.layer.specs.Held.{Seen, mem, seen}
 use Rattle.layer.proofs.Fitting.{smaller-le}

@@ -26,8 +26,7 @@ use Rattle.tile.proofs.Texts.{text-short}
 use Rattle.tile.proofs.Values.{value-short}
 use Rattle.tile.specs.Features.{recordMessage, recordSize}
 use Rattle.tile.proofs.Features.{record-short}
-use Rattle.tile.specs.Entries.{keyFields, valueFields, featureField, featureFields}
-use Rattle.tile.specs.Steps.{KeyAt, keyAt, ValueAt, valueAt}
+use Rattle.tile.specs.Entries.{keyFields, valueField, valueFields, featureField, featureFields}
 use Rattle.tile.proofs.Looping.{Next, Walk}
 
 -- both of two tests, one in the other
@@ -36,17 +35,24 @@ twice true b e = (refl, e)
 twice false b e = never e
 
 -- ---- keys
+-- the key whose words stand at an index: that its text lies within the texts, and its field
+abbrev pub keyInside : List ℕ → List ℕ → ℕ → Type 0
+keyInside texts keys i = inside (length texts) (getD keys i 0) (getD keys (i + 1) 0) ≡ true
+
+abbrev pub keyAt : List ℕ → List ℕ → ℕ → List ℕ
+keyAt texts keys i = textField LayerKey texts (getD keys i 0) (getD keys (i + 1) 0)
+
 -- the keys from an index on
 abbrev pub keysNext : List ℕ → List ℕ → ℕ → Type 0
 keysNext texts keys i =
-    Next (KeyAt texts keys i) (λ (j : ℕ). keysIn (length texts) (drop j keys) ≡ true) (λ (j : ℕ). keyFields texts (drop j keys)) (keyAt texts keys i) (length keys) i 2
+    Next (keyInside texts keys i) (λ (j : ℕ). keysIn (length texts) (drop j keys) ≡ true) (λ (j : ℕ). keyFields texts (drop j keys)) (keyAt texts keys i) (length keys) i 2
 
 key-front : (texts l : List ℕ) → 0 < length l → keysIn (length texts) l ≡ true → keysNext texts l 0
 key-front texts [] h e = absurd (omega arith)
 key-front texts (a ∷ []) h e = never e
 key-front texts (a ∷ b ∷ l) h e =
     let p = twice (inside (length texts) a b) (keysIn (length texts) l) e in
-    record { some = omega arith; within = omega arith; entry = record { within = omega arith; inside-is = p .0 }; rest = p .1; parts = refl }
+    record { some = omega arith; within = omega arith; entry = p .0; rest = p .1; parts = refl }
 
 module _ (texts keys : List ℕ) where
   pub key-next : (i : ℕ) → i < length keys → keysIn (length texts) (drop i keys) ≡ true → keysNext texts keys i
@@ -55,11 +61,10 @@ module _ (texts keys : List ℕ) where
       let a : getD (drop i keys) 0 0 ≡ getD keys i 0 = getD-drop i keys 0 0 ∙ ap (λ (n : ℕ). getD keys n 0) (omega arith) in
       let b : getD (drop i keys) 1 0 ≡ getD keys (i + 1) 0 = getD-drop i keys 1 0 in
       let d : drop 2 (drop i keys) ≡ drop (i + 2) keys = drop-drop 2 i keys in
-      let w : i + 2 ≤ length keys = omega (arith, K .within, length-drop i keys) in
       record {
         some = omega arith;
-        within = w;
-        entry = record { within = w; inside-is = rw (a, b) at (K .entry .inside-is) };
+        within = omega (arith, K .within, length-drop i keys);
+        entry = rw (a, b) at (K .entry);
         rest = rw d at (K .rest);
         parts = rw (a, b, d) at (K .parts);
       }
@@ -68,7 +73,7 @@ module _ (texts keys : List ℕ) where
   keyWalk = record {
     good = λ (i : ℕ). keysIn (length texts) (drop i keys) ≡ true;
     fields = λ (i : ℕ). keyFields texts (drop i keys);
-    whole = KeyAt texts keys;
+    whole = keyInside texts keys;
     field = keyAt texts keys;
     words = λ (i : ℕ). 2;
     next = key-next;
@@ -81,10 +86,17 @@ keys-short texts (a ∷ []) most h = omega arith
 keys-short texts (a ∷ b ∷ keys) most h = omega (arith, length-append (textField LayerKey texts a b) (keyFields texts keys), text-short LayerKey texts a b, keys-short texts keys most h)
 
 -- ---- values
+-- the value whose words stand at an index: that it is one, and its field
+abbrev pub valueGood : List ℕ → List ℕ → ℕ → Type 0
+valueGood texts values i = valueOk (length texts) (getD values i 0) (getD values (i + 1) 0) (getD values (i + 2) 0) ≡ true
+
+abbrev pub valueAt : List ℕ → List ℕ → ℕ → List ℕ
+valueAt texts values i = valueField texts (getD values i 0) (getD values (i + 1) 0) (getD values (i + 2) 0)
+
 -- the values from an index on
 abbrev pub valuesNext : List ℕ → List ℕ → ℕ → Type 0
 valuesNext texts values i =
-    Next (ValueAt texts values i) (λ (j : ℕ). valuesIn (length texts) (drop j values) ≡ true) (λ (j : ℕ). valueFields texts (drop j values)) (valueAt texts values i) (length values) i 3
+    Next (valueGood texts values i) (λ (j : ℕ). valuesIn (length texts) (drop j values) ≡ true) (λ (j : ℕ). valueFields texts (drop j values)) (valueAt texts values i) (length values) i 3
 
 value-front : (texts l : List ℕ) → 0 < length l → valuesIn (length texts) l ≡ true → valuesNext texts l 0
 value-front texts [] h e = absurd (omega arith)
@@ -92,7 +104,7 @@ value-front texts (a ∷ []) h e = never e
 value-front texts (a ∷ b ∷ []) h e = never e
 value-front texts (a ∷ b ∷ c ∷ l) h e =
     let p = twice (valueOk (length texts) a b c) (valuesIn (length texts) l) e in
-    record { some = omega arith; within = omega arith; entry = record { within = omega arith; ok = p .0 }; rest = p .1; parts = refl }
+    record { some = omega arith; within = omega arith; entry = p .0; rest = p .1; parts = refl }
 
 module _ (texts values : List ℕ) where
   pub value-next : (i : ℕ) → i < length values → valuesIn (length texts) (drop i values) ≡ true → valuesNext texts values i
@@ -102,11 +114,10 @@ module _ (texts values : List ℕ) where
       let b : getD (drop i values) 1 0 ≡ getD values (i + 1) 0 = getD-drop i values 1 0 in
       let c : getD (drop i values) 2 0 ≡ getD values (i + 2) 0 = getD-drop i values 2 0 in
       let d : drop 3 (drop i values) ≡ drop (i + 3) values = drop-drop 3 i values in
-      let w : i + 3 ≤ length values = omega (arith, K .within, length-drop i values) in
       record {
         some = omega arith;
-        within = w;
-        entry = record { within = w; ok = rw (a, b, c) at (K .entry .ok) };
+        within = omega (arith, K .within, length-drop i values);
+        entry = rw (a, b, c) at (K .entry);
         rest = rw d at (K .rest);
         parts = rw (a, b, c, d) at (K .parts);
       }
@@ -115,7 +126,7 @@ module _ (texts values : List ℕ) where
   valueWalk = record {
     good = λ (i : ℕ). valuesIn (length texts) (drop i values) ≡ true;
     fields = λ (i : ℕ). valueFields texts (drop i values);
-    whole = ValueAt texts values;
+    whole = valueGood texts values;
     field = valueAt texts values;
     words = λ (i : ℕ). 3;
     next = value-next;
@@ -138,7 +149,7 @@ pub record Follow (ws : List ℕ) : Type 0 where
   pub found : isFound (recordsIn met 0 ws) ≡ true
 
 -- the words that are still to come, passed over
-passed : (n : ℕ) (ws : List ℕ) → featureFields n ws ≡ featureFields 0 (drop n ws)
+pub passed : (n : ℕ) (ws : List ℕ) → featureFields n ws ≡ featureFields 0 (drop n ws)
 passed zero ws = refl
 passed (suc n) [] = refl
 passed (suc n) (w ∷ ws) = passed n ws

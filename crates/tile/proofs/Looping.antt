@@ -10,8 +10,8 @@ use native.Mathlib.Omega.{arith}
 use lib.ListN.{length, length-append}
 use borrow.Rule.Slice.PartMut.{midOf, putMid}
 use Rattle.promise.specs.Answers.{Gives}
-use Rattle.wire.specs.Puts.{put}
-use Rattle.wire.proofs.Running.{Run, run-start, run-inside, run-room, run-long, run-sum, run-turn, run-end}
+use Rattle.promise.specs.Puts.{put}
+use Rattle.promise.proofs.Running.{Run, run-start, run-inside, run-room, run-long, run-sum, run-turn, run-end}
 use Rattle.tile.specs.Steps.{Writable}
 
 -- an entry of so many words stands at index i of n words: it is whole, its field comes first of those from i on, and the entries behind it are as they should be

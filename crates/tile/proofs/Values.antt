@@ -6,7 +6,7 @@ use mathlib.Core.List.{List}
 use native.Mathlib.Omega.{arith}
 use borrow.Author.Tests.{ne-eqb}
 use lib.Dec.{eqb}
-use lib.ListN.{length, getD}
+use lib.ListN.{length}
 use Rattle.wire.specs.declared.field.ValueKind.the-variants.{Text, Float, Double, Int, Uint, Sint, Bool as Truth}
 use Rattle.wire.specs.declared.field.Field.the-variants.{Value}
 use Rattle.whole.specs.Twos.{wide}
@@ -18,10 +18,6 @@ use Rattle.table.specs.Values.{valueOk}
 use Rattle.tile.specs.Texts.{textField}
 use Rattle.tile.specs.Values.{valueMessage}
 use Rattle.tile.proofs.Texts.{text-short}
-
--- the message of the value whose words stand at an index
-abbrev pub messageAt : List ℕ → List ℕ → ℕ → List ℕ
-messageAt texts values i = valueMessage texts (getD values i 0) (getD values (i + 1) 0) (getD values (i + 2) 0)
 
 -- a text lies within the texts
 pub text-inside : (bytes kind low high : ℕ) → kind ≡ 1 → valueOk bytes kind low high ≡ true → inside bytes low high ≡ true

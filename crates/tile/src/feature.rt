@@ -3,7 +3,7 @@ ghost use mathlib.Core.Path.{_≡_};
 ghost use Prim.Native.Nat.{_+_, _≤_};
 ghost use lib.ListN.{length};
 ghost use Rattle.promise.specs.Answers.{Gives};
-ghost use Rattle.wire.specs.Puts.{put};
+ghost use Rattle.promise.specs.Puts.{put};
 ghost use Rattle.tile.specs.Features.{idField, featureMessage, recordMessage, recordSize};
 ghost use Rattle.tile.specs.Steps.{Writable};
 use number::of_halves;

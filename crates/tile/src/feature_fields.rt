@@ -4,7 +4,7 @@ ghost use mathlib.Core.Bool.{true};
 ghost use Prim.Native.Nat.{_≤_};
 ghost use lib.ListN.{length};
 ghost use Rattle.promise.specs.Answers.{Gives};
-ghost use Rattle.wire.specs.Puts.{put};
+ghost use Rattle.promise.specs.Puts.{put};
 ghost use Rattle.records.specs.Records.{follow};
 ghost use Rattle.tile.specs.Features.{recordSize};
 ghost use Rattle.tile.specs.Entries.{featureField, featureFields};

@@ -3,7 +3,7 @@ ghost use mathlib.Core.Path.{_≡_};
 ghost use mathlib.Core.Bool.{true};
 ghost use lib.ListN.{length};
 ghost use Rattle.promise.specs.Answers.{Gives};
-ghost use Rattle.wire.specs.Puts.{put};
+ghost use Rattle.promise.specs.Puts.{put};
 ghost use Rattle.layer.specs.Held.{heldBy, seen};
 ghost use Rattle.layer.specs.State.{valid};
 ghost use Rattle.tile.specs.Layers.{layerBytes, layerField};

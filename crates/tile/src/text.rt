@@ -4,7 +4,7 @@ ghost use mathlib.Core.Bool.{true};
 ghost use lib.ListN.{length};
 ghost use Rattle.promise.specs.Answers.{Gives};
 ghost use Rattle.wire.specs.Fields.{delimited};
-ghost use Rattle.wire.specs.Puts.{put};
+ghost use Rattle.promise.specs.Puts.{put};
 ghost use Rattle.table.specs.Texts.{inside};
 ghost use Rattle.tile.specs.Texts.{textField};
 ghost use Rattle.tile.specs.Steps.{Writable};

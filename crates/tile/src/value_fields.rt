@@ -3,32 +3,28 @@ ghost use mathlib.Core.Path.{_≡_};
 ghost use mathlib.Core.Bool.{true};
 ghost use lib.ListN.{length};
 ghost use Rattle.promise.specs.Answers.{Gives};
-ghost use Rattle.wire.specs.Puts.{put};
-ghost use Rattle.table.specs.Values.{valuesIn};
-ghost use Rattle.tile.specs.Entries.{valueFields};
-ghost use Rattle.tile.specs.Steps.{valueAt, ValueAt, Writable, maxSize};
+ghost use Rattle.promise.specs.Puts.{put};
+ghost use Rattle.table.specs.Values.{valueOk, valuesIn};
+ghost use Rattle.tile.specs.Entries.{valueField, valueFields};
+ghost use Rattle.tile.specs.Steps.{Writable, maxSize};
 use crate::value::put_value;
 use crate::value::value_size;
 use wire::field::Field;
 use wire::head::put_varint_field;
 use wire::head::varint_field_size;
 
-// Of the value whose words stand at an index.
-fn field_size(texts: &[u8], values: &[u32], i: usize) -> usize
-    requires { ⌜ ValueAt (now texts) (now values) i ⌝ }
-    ensures { λ r. ⌜ r ≡ length (valueAt (now (texts .entry)) (now (values .entry)) i) ⌝ }
+fn field_size(texts: &[u8], kind: u32, low: u32, high: u32) -> usize
+    requires { ⌜ valueOk (length (now texts)) kind low high ≡ true ⌝ }
+    ensures { λ r. ⌜ r ≡ length (valueField (now (texts .entry)) kind low high) ⌝ }
 {
-    let size = value_size(texts, values[i], values[i + 1], values[i + 2]);
+    let size = value_size(texts, kind, low, high);
     varint_field_size(Field::LayerValue, size as u64) + size
 }
 
-fn put_field(texts: &[u8], values: &[u32], i: usize, out: &mut [u8]) -> usize
-    requires { ⌜ Writable (ValueAt (now texts) (now values) i) (valueAt (now texts) (now values) i) (length (now out)) ⌝ }
-    ensures { λ r. ⌜ Gives (put (valueAt (now (texts .entry)) (now (values .entry)) i) (now (out .entry))) r (now (out .exit)) ⌝ }
+fn put_field(texts: &[u8], kind: u32, low: u32, high: u32, out: &mut [u8]) -> usize
+    requires { ⌜ Writable (valueOk (length (now texts)) kind low high ≡ true) (valueField (now texts) kind low high) (length (now out)) ⌝ }
+    ensures { λ r. ⌜ Gives (put (valueField (now (texts .entry)) kind low high) (now (out .entry))) r (now (out .exit)) ⌝ }
 {
-    let kind = values[i];
-    let low = values[i + 1];
-    let high = values[i + 2];
     let size = value_size(texts, kind, low, high);
     let at = put_varint_field(Field::LayerValue, size as u64, out);
     let count = put_value(texts, kind, low, high, &mut out[at..]);
@@ -42,7 +38,7 @@ pub(crate) fn values_size(texts: &[u8], values: &[u32]) -> usize
     let mut i = 0;
     let mut size = 0;
     while i < values.len() {
-        let more = field_size(texts, values, i);
+        let more = field_size(texts, values[i], values[i + 1], values[i + 2]);
         size += more;
         i += 3;
     }
@@ -56,7 +52,13 @@ pub(crate) fn put_values(texts: &[u8], values: &[u32], out: &mut [u8]) -> usize
     let mut i = 0;
     let mut at = 0;
     while i < values.len() {
-        let count = put_field(texts, values, i, &mut out[at..]);
+        let count = put_field(
+            texts,
+            values[i],
+            values[i + 1],
+            values[i + 2],
+            &mut out[at..],
+        );
         at += count;
         i += 3;
     }

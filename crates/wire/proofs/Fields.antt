@@ -10,7 +10,7 @@ use Rattle.wire.specs.Varints.{varint}
 use Rattle.wire.specs.Schema.{keyOf, head}
 use Rattle.wire.specs.Numbers.{fixed32, fixed64}
 use Rattle.wire.specs.Fields.{varintField, fixed32Field, fixed64Field, delimited, varints, packedField}
-use Rattle.wire.specs.Puts.{put}
+use Rattle.promise.specs.Puts.{put}
 use Rattle.wire.proofs.Varints.{varint-ten, varint-five}
 use Rattle.wire.proofs.Schema.{head-one}
 

@@ -1,5 +1,3 @@
-pub mod Fronts
-pub mod Running
 pub mod Varints
 pub mod Numbers
 pub mod Readback

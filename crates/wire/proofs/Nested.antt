@@ -10,8 +10,8 @@ use borrow.Rule.Slice.PartMut.{midOf, putMid}
 use Rattle.promise.specs.Answers.{Gives}
 use Rattle.wire.specs.declared.field.Field.{Field}
 use Rattle.wire.specs.Fields.{varintField, delimited}
-use Rattle.wire.specs.Puts.{put}
-use Rattle.wire.proofs.Fronts.{both-inside, both-room, both-sum, both-done}
+use Rattle.promise.specs.Puts.{put}
+use Rattle.promise.proofs.Fronts.{both-inside, both-room, both-sum, both-done}
 use Rattle.wire.proofs.Fields.{message-parts, delimited-long}
 
 module _ (field : Field) (body : List ℕ) (size : ℕ) (e : size ≡ length body) where

@@ -10,10 +10,10 @@ use Rattle.promise.specs.Answers.{Gives}
 use Rattle.promise.specs.Widened.{Wide}
 use Rattle.wire.specs.Varints.{varint}
 use Rattle.wire.specs.Fields.{varints}
-use Rattle.wire.specs.Puts.{put, Puts}
+use Rattle.promise.specs.Puts.{put, Puts}
 use Rattle.wire.proofs.Varints.{varint-five}
-use Rattle.wire.proofs.Fronts.{put-fits}
-use Rattle.wire.proofs.Running.{Run, run-start, run-inside, run-long, run-sum, run-turn, run-end}
+use Rattle.promise.proofs.Fronts.{put-fits}
+use Rattle.promise.proofs.Running.{Run, run-start, run-inside, run-long, run-sum, run-turn, run-end}
 
 next : (l : List ℕ) (j k : ℕ) → k ≡ suc j → j < length l → drop j l ≡ getD l j 0 ∷ drop k l
 next l j k e h = rw e (drop-cons l j 0 h)

@@ -13,7 +13,7 @@ use lib.Seq.{take-suc-set, drop-set-lt, length-take-le, drop-drop}
 use lib.Dec.{ltb}
 use Rattle.promise.proofs.Parts.{lay-front}
 use Rattle.wire.specs.Varints.{varintOf, varint}
-use Rattle.wire.specs.Puts.{Puts}
+use Rattle.promise.specs.Puts.{Puts}
 
 -- what so many groups of seven bits can hold, one more than the largest
 abbrev pub limit : ℕ → ℕ

@@ -1,4 +1,3 @@
-pub mod Puts
 pub mod Varints
 pub mod Numbers
 pub mod Reading

@@ -5,7 +5,7 @@ ghost use mathlib.Core.List.{_++_};
 ghost use Rattle.promise.specs.Answers.{Gives};
 ghost use Rattle.wire.specs.Schema.{head};
 ghost use Rattle.wire.specs.Fields.{fixed32Field, fixed64Field};
-ghost use Rattle.wire.specs.Puts.{put};
+ghost use Rattle.promise.specs.Puts.{put};
 use crate::field::Field;
 use crate::head::head_size;
 use crate::head::put_head;

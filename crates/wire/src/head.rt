@@ -4,7 +4,7 @@ ghost use lib.ListN.{length};
 ghost use Rattle.promise.specs.Answers.{Gives};
 ghost use Rattle.wire.specs.Schema.{head};
 ghost use Rattle.wire.specs.Fields.{varintField};
-ghost use Rattle.wire.specs.Puts.{put};
+ghost use Rattle.promise.specs.Puts.{put};
 use crate::field::Field;
 use crate::varint::put_varint;
 use crate::varint::varint_size;

@@ -3,7 +3,7 @@ ghost use Prim.Native.Nat.{_≤_};
 ghost use lib.ListN.{length};
 ghost use Rattle.promise.specs.Answers.{Gives};
 ghost use Rattle.wire.specs.Fields.{delimited};
-ghost use Rattle.wire.specs.Puts.{put, Puts};
+ghost use Rattle.promise.specs.Puts.{put, Puts};
 use crate::field::Field;
 use crate::head::put_varint_field;
 use crate::head::varint_field_size;

@@ -4,7 +4,7 @@ ghost use Prim.Native.Nat.{_+_, _%_, _≤_};
 ghost use lib.ListN.{length};
 ghost use Rattle.promise.specs.Answers.{Gives};
 ghost use Rattle.wire.specs.Varints.{varint};
-ghost use Rattle.wire.specs.Puts.{put, Puts};
+ghost use Rattle.promise.specs.Puts.{put, Puts};
 
 pub fn varint_size(n: u64) -> usize
     ensures { λ r. ⌜ r ≡ length (varint n) ⌝ }

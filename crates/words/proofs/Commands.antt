@@ -1,14 +1,17 @@
 -- Laws of command words: encoding and decoding undo each other, and an answer is known by what it says.
-use mathlib.Core.Path.{_≡_, refl, sym, ap}
-use mathlib.Core.Bool.{true, false}
+use mathlib.Core.Path.{_≡_, refl, sym, _∙_, ap}
+use mathlib.Core.Bool.{Bool, true, false, cond}
 use Prim.Native.Nat.{ℕ, _/_, _%_, _≤_}
 use native.Mathlib.Omega.{arith}
 use borrow.Author.Tests.{ne-eqb}
 use lib.Dec.{eqb}
-use Rattle.refusal.specs.Said.{Said, accepted}
+use Rattle.refusal.specs.declared.Refusal.{Refusal}
+use Rattle.refusal.specs.declared.Refusal.the-variants.{Command as NoCommand}
+use Rattle.refusal.specs.Said.{Said, accepted, refused}
 use Rattle.refusal.proofs.Laws.{one-refusal, never-both}
 use Rattle.words.specs.declared.command.Command.{Command}
 use Rattle.words.specs.declared.command.Command.the-variants.{MoveTo, LineTo, ClosePath}
+use Rattle.words.specs.declared.command.CommandInt.{CommandInt}
 use Rattle.words.specs.declared.command.CommandWord.{CommandWord}
 use Rattle.words.specs.declared.command.CommandWord.the-variants.{Word, Refused as WordRefused}
 use Rattle.words.specs.declared.command.CommandRead.{CommandRead}
@@ -71,3 +74,24 @@ module _ (word : ℕ) where
 
   pub says-none : (word % 8 ≡ 1 → ⊥) → (word % 8 ≡ 2 → ⊥) → (word % 8 ≡ 7 → ⊥) → isId (word % 8) ≡ false
   says-none a b c = rw (ne-eqb (word % 8) 1 a, ne-eqb (word % 8) 2 b, ne-eqb (word % 8) 7 c)
+
+-- ---- the word that was decoded, by what `decode` answered
+abbrev none : IdCount
+none = record { id = 0; count = 0 }
+
+heard-not : (t : Bool) (x : IdCount) (k : Refusal) → refused k none ≡ cond t (accepted x) (refused NoCommand none) → t ≡ false
+heard-not true x k e = absurd (never-both k (sym e))
+heard-not false x k e = refl
+
+heard : (t : Bool) (x v : IdCount) → accepted v ≡ cond t (accepted x) (refused NoCommand none) → (t ≡ true) × (v ≡ x)
+heard true x v e = (refl, ap (λ (s : Said IdCount). s .values) e)
+heard false x v e = absurd (never-both NoCommand e)
+
+module _ (word : ℕ) (r : CommandRead) (said : saidCommand r ≡ decoded word) where
+  pub decoded-none : (k : Refusal) → r ≡ ReadRefused k → isId (word % 8) ≡ false
+  decoded-none k e = heard-not (isId (word % 8)) (record { id = word % 8; count = word / 8 }) k (ap saidCommand (sym e) ∙ said)
+
+  pub decoded-some : (c : CommandInt) → r ≡ Read c → (isId (word % 8) ≡ true) × (idOf (c .id) ≡ word % 8) × (c .count ≡ word / 8)
+  decoded-some c e =
+      let (t, v) = heard (isId (word % 8)) (record { id = word % 8; count = word / 8 }) (record { id = idOf (c .id); count = c .count }) (ap saidCommand (sym e) ∙ said) in
+      (t, ap (λ (x : IdCount). x .id) v, ap (λ (x : IdCount). x .count) v)

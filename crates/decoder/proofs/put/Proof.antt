@@ -4,7 +4,7 @@ use lib.ListN.{length-set}
 use mir.Syntax.{w32}
 use mir.Facts.{toZ-ofZ, toZ-pos}
 use borrow.Author.Needs.{needs}
-use Rattle.decoder.proofs.Stores.{lay-three}
+use Rattle.promise.proofs.Stores.{three-stores}
 use Rattle.decoder.proofs.put.Statement.{statement}
 use Rattle.decoder.proofs.put.Tie as tie
 
@@ -40,7 +40,7 @@ same-length c = search needs
 
 returns : tie.Need-returns
 returns c =
-    rw (toZ-pos w32 {n = c .args .id} (omega arith), toZ-ofZ (c .fits .x), toZ-ofZ (c .fits .y)) (lay-three (c .args .out .now) (c .args .at) _ _ _ (omega arith))
+    rw (toZ-pos w32 {n = c .args .id} (omega arith), toZ-ofZ (c .fits .x), toZ-ofZ (c .fits .y)) (three-stores (c .args .out .now) (c .args .at) _ _ _ (omega arith))
 
 pub put-spec : {M : Type 1} → statement M
 put-spec =

@@ -7,12 +7,12 @@ use lib.Signed.{_≤ℤ_, _<ℤ_}
 use mir.Syntax.{w32, w64}
 use mir.Val.{SFits}
 use borrow.Author.Needs.{needs}
-use Rattle.whole.proofs.Machine.{Back, back, widened, lt-yes, lt-no}
+use Rattle.whole.proofs.Machine.{Back, back, widened, lt-yes, lt-no, i32-sum, i32-inside}
 use Rattle.words.proofs.Params.{unparam-fits}
 use Rattle.decoder.specs.declared.pen.Moved.the-variants.{To, Out}
 use Rattle.decoder.specs.ReadingWords.{inI32}
 use Rattle.decoder.specs.Walking.{steppedTo}
-use Rattle.decoder.proofs.Steps.{sum-fits, below-no, above-no, inside-fits, inside-yes, step-out, step-to}
+use Rattle.decoder.proofs.Steps.{below-no, above-no, inside-yes, step-out, step-to}
 use Rattle.decoder.proofs.pen.step_from.Statement.{statement}
 use Rattle.decoder.proofs.pen.step_from.Tie as tie
 
@@ -37,7 +37,7 @@ module _ (c : tie.After-decode) where
   step-wide = back (widened fit)
 
   sum : Back w64 (to c)
-  sum = back (sum-fits (c .before .fits .place) fit)
+  sum = back (i32-sum (c .before .fits .place) fit)
 
   -- what each `return` says
   out : inI32 (to c) ≡ false → Out ≡ steppedTo (c .before .args .place) (c .before .args .word)
@@ -70,7 +70,7 @@ cast-to-2 : tie.Need-cast-to-2
 cast-to-2 c = simp read (widened (fit (c .before .before)))
 
 add-to : tie.Need-add-to
-add-to c = simp read (sum-fits (c .before .before .before .fits .place) (fit (c .before .before)))
+add-to c = simp read (i32-sum (c .before .before .before .fits .place) (fit (c .before .before)))
 
 returns : tie.Need-returns
 returns c = out (c .before .before .before) (below-no (low c))
@@ -79,10 +79,10 @@ returns-2 : tie.Need-returns-2
 returns-2 c = out (c .before .before .before .before) (above-no (high c))
 
 cast-t8 : tie.Need-cast-t8
-cast-t8 c = simp read (inside-fits (least c) (greatest c))
+cast-t8 c = simp read (i32-inside (least c) (greatest c))
 
 returns-3 : tie.Need-returns-3
-returns-3 c = simp (read, back (inside-fits (least c) (greatest c))) (inside (c .before .before .before .before) (inside-yes (least c) (greatest c)))
+returns-3 c = simp (read, back (i32-inside (least c) (greatest c))) (inside (c .before .before .before .before) (inside-yes (least c) (greatest c)))
 
 pub step-from-spec : {M : Type 1} → statement M
 step-from-spec =

@@ -1,7 +1,7 @@
 -- The message is that of the record's parts, which are lent.
 use native.Mathlib.Omega.{arith}
 use mathlib.Core.Path.{refl}
-use Rattle.wire.proofs.Fronts.{long-as}
+use Rattle.promise.proofs.Fronts.{long-as}
 use Rattle.tile.proofs.Features.{record-lent, record-end, parts-few}
 use borrow.Author.Needs.{needs}
 use Rattle.tile.proofs.feature.feature_size.Statement.{statement}

@@ -1,7 +1,7 @@
 -- The field where the id is set, else nothing.
 use mathlib.Core.Path.{sym, ap}
 use lib.ListN.{length}
-use Rattle.wire.proofs.Fronts.{long-as}
+use Rattle.promise.proofs.Fronts.{long-as}
 use Rattle.tile.proofs.Features.{id-set, id-unset}
 use borrow.Author.Needs.{needs}
 use Rattle.tile.proofs.feature.id_size.Statement.{statement}

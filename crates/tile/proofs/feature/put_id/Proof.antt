@@ -1,6 +1,6 @@
 -- The field where the id is set, else nothing.
-use Rattle.wire.proofs.Fronts.{put-nothing}
-use Rattle.wire.proofs.Fronts.{put-as}
+use Rattle.promise.proofs.Fronts.{put-nothing}
+use Rattle.promise.proofs.Fronts.{put-as}
 use Rattle.tile.proofs.Features.{id-set, id-unset}
 use borrow.Author.Needs.{needs}
 use Rattle.tile.proofs.feature.put_id.Statement.{statement}

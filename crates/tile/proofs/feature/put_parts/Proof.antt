@@ -7,7 +7,7 @@ use lib.ListN.{length}
 use borrow.Rule.Slice.PartMut.{putMid}
 use Rattle.wire.specs.declared.field.Field.the-variants.{FeatureTags, FeatureType, FeatureGeometry}
 use Rattle.wire.specs.Fields.{varintField, packedField}
-use Rattle.wire.proofs.Running.{Run, run-first, run-inside, run-sum, run-turn, run-last-sum, run-last}
+use Rattle.promise.proofs.Running.{Run, run-first, run-inside, run-sum, run-turn, run-last-sum, run-last}
 use Rattle.tile.specs.Features.{idField, featureMessage}
 use Rattle.tile.proofs.Features.{message-parts}
 use borrow.Author.Needs.{needs}

@@ -3,7 +3,7 @@ use mathlib.Core.Path.{sym}
 use native.Mathlib.Omega.{arith}
 use lib.Seq.{length-take-le}
 use Rattle.wire.specs.declared.field.Field.the-variants.{TileLayer}
-use Rattle.wire.proofs.Fronts.{put-as}
+use Rattle.promise.proofs.Fronts.{put-as}
 use Rattle.wire.proofs.Nested.{nested-inside, nested-room, nested-sum, nested-done}
 use Rattle.layer.specs.Held.{Memory, mem, heldBy, seen}
 use Rattle.tile.specs.Layers.{layerBytes}

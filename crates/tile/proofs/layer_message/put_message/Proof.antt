@@ -7,7 +7,7 @@ use lib.ListN.{length}
 use borrow.Rule.Slice.PartMut.{putMid}
 use Rattle.wire.specs.declared.field.Field.the-variants.{LayerName, LayerExtent, LayerVersion}
 use Rattle.wire.specs.Fields.{varintField}
-use Rattle.wire.proofs.Running.{Run, run-first, run-inside, run-room, run-sum, run-turn, run-last-sum, run-last-long, run-last}
+use Rattle.promise.proofs.Running.{Run, run-first, run-inside, run-room, run-sum, run-turn, run-last-sum, run-last-long, run-last}
 use Rattle.layer.specs.Held.{Memory, mem}
 use Rattle.tile.specs.Texts.{textField}
 use Rattle.tile.specs.Entries.{keyFields, valueFields, featureFields}

@@ -1,5 +1,5 @@
 -- Each kind puts its field.
-use Rattle.wire.proofs.Fronts.{put-as}
+use Rattle.promise.proofs.Fronts.{put-as}
 use Rattle.tile.proofs.Values.{text-inside, is-text, is-float, is-double, is-int, is-uint, is-sint, is-bool}
 use lib.ListN.{length}
 use borrow.Author.Needs.{needs}

@@ -4,7 +4,7 @@ use mathlib.Core.Path.{refl}
 use lib.ListN.{length}
 use Rattle.wire.specs.declared.field.ValueKind.the-variants.{Float, Double}
 use Rattle.wire.specs.declared.field.Field.the-variants.{Value}
-use Rattle.wire.proofs.Fronts.{long-as}
+use Rattle.promise.proofs.Fronts.{long-as}
 use Rattle.wire.proofs.Schema.{head-one}
 use Rattle.wire.proofs.Fields.{fixed32-field-long, fixed64-field-long}
 use Rattle.whole.specs.Twos.{wide}

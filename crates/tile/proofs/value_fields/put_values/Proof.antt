@@ -14,36 +14,63 @@ Inv-loop texts values out₀ i₀ at₀ out i at = Laying (valueWalk texts value
 abbrev μ-loop : tie.MeasureT-loop
 μ-loop texts values out₀ i₀ at₀ out i at = length values - i
 
--- the places on the way
-abbrev slice-known-before-slice-known2 : (tie.After-slice-known2 Inv-loop μ-loop) → (tie.After-slice-known Inv-loop μ-loop)
-slice-known-before-slice-known2 c = c .before .before .before .before .before .before
+abbrev start : tie.In-loop Inv-loop μ-loop → tie.Start Inv-loop μ-loop
+start c = c .before .before .before .before .before
+
+-- the turn that a field was put in
+abbrev turn : tie.After-put-field Inv-loop μ-loop → tie.In-loop Inv-loop μ-loop
+turn c = c .before .before .before .before .before
 
 loop-holds : tie.Need-loop-holds Inv-loop μ-loop
 loop-holds c = laying-start (c .before .before .before .pre)
 
+mul-put-field : tie.Need-mul-put-field Inv-loop μ-loop
+mul-put-field c = search needs
+
+shared-slice-read-put-field : tie.Need-shared-slice-read-put-field Inv-loop μ-loop
+shared-slice-read-put-field c = search needs
+
+add-put-field : tie.Need-add-put-field Inv-loop μ-loop
+add-put-field c = omega (arith, laying-within (c .before .before .loop .inv) (c .before .loop-test .taken), start (c .before) .good)
+
+mul-put-field-2 : tie.Need-mul-put-field-2 Inv-loop μ-loop
+mul-put-field-2 c = omega (arith, laying-within (c .before .before .loop .inv) (c .before .loop-test .taken), start (c .before) .good)
+
+shared-slice-read-put-field-2 : tie.Need-shared-slice-read-put-field-2 Inv-loop μ-loop
+shared-slice-read-put-field-2 c = omega (arith, laying-within (c .before .before .before .loop .inv) (c .before .before .loop-test .taken))
+
+add-put-field-2 : tie.Need-add-put-field-2 Inv-loop μ-loop
+add-put-field-2 c = omega (arith, laying-within (c .before .before .before .loop .inv) (c .before .before .loop-test .taken), start (c .before .before) .good)
+
+mul-put-field-3 : tie.Need-mul-put-field-3 Inv-loop μ-loop
+mul-put-field-3 c = omega (arith, laying-within (c .before .before .before .loop .inv) (c .before .before .loop-test .taken), start (c .before .before) .good)
+
+shared-slice-read-put-field-3 : tie.Need-shared-slice-read-put-field-3 Inv-loop μ-loop
+shared-slice-read-put-field-3 c = omega (arith, laying-within (c .before .before .before .before .loop .inv) (c .before .before .before .loop-test .taken))
+
 sub-put-field : tie.Need-sub-put-field Inv-loop μ-loop
-sub-put-field c = laying-inside (c .before .loop .inv)
+sub-put-field c = laying-inside (c .before .before .before .before .loop .inv)
 
 part-put-field-start : tie.Need-part-put-field-start Inv-loop μ-loop
-part-put-field-start c = laying-inside (c .before .loop .inv)
+part-put-field-start c = laying-inside (c .before .before .before .before .loop .inv)
 
 part-put-field-end : tie.Need-part-put-field-end Inv-loop μ-loop
 part-put-field-end c = search needs
 
 put-field-requires : tie.Need-put-field-requires Inv-loop μ-loop
-put-field-requires c κs = laying-entry (c .before .before .loop .inv) (c .before .loop-test .taken)
+put-field-requires c κs = laying-entry (c .before .before .before .before .before .loop .inv) (c .before .before .before .before .loop-test .taken)
 
 add-at : tie.Need-add-at Inv-loop μ-loop
-add-at c = omega (arith, laying-sum (c .before .before .before .before .before .loop .inv) (c .before .before .before .before .loop-test .taken) (c .before .before .put-field .ensures), slice-known-before-slice-known2 c .before .before .before .good)
+add-at c = let k = turn (c .before .before) in omega (arith, laying-sum (k .before .loop .inv) (k .loop-test .taken) (c .before .before .put-field .ensures), start k .good)
 
 add-i : tie.Need-add-i Inv-loop μ-loop
-add-i c = omega (arith, laying-within (c .before .before .before .before .before .loop .inv) (c .before .before .before .before .loop-test .taken), slice-known-before-slice-known2 c .before .before .before .good)
+add-i c = let k = turn (c .before .before) in omega (arith, laying-within (k .before .loop .inv) (k .loop-test .taken), start k .good)
 
 loop-less : tie.Need-loop-less Inv-loop μ-loop
-loop-less c = omega (arith, laying-within (c .before .before .before .before .before .loop .inv) (c .before .before .before .before .loop-test .taken))
+loop-less c = let k = turn (c .before .before) in omega (arith, laying-within (k .before .loop .inv) (k .loop-test .taken))
 
 loop-again : tie.Need-loop-again Inv-loop μ-loop
-loop-again c = laying-turn (c .before .before .before .before .before .loop .inv) (c .before .before .before .before .loop-test .taken) (c .before .before .put-field .ensures)
+loop-again c = let k = turn (c .before .before) in laying-turn (k .before .loop .inv) (k .loop-test .taken) (c .before .before .put-field .ensures)
 
 same-length : tie.Need-same-length Inv-loop μ-loop
 same-length c = laying-long (c .before .loop .inv)
@@ -58,6 +85,14 @@ put-values-spec =
     Inv-loop
     μ-loop
     loop-holds
+    mul-put-field
+    shared-slice-read-put-field
+    add-put-field
+    mul-put-field-2
+    shared-slice-read-put-field-2
+    add-put-field-2
+    mul-put-field-3
+    shared-slice-read-put-field-3
     sub-put-field
     part-put-field-start
     part-put-field-end

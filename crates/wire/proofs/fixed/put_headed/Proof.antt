@@ -5,7 +5,7 @@ use mathlib.Core.List.{_++_}
 use native.Mathlib.Omega.{arith}
 use lib.ListN.{length, length-append}
 use Rattle.wire.specs.Schema.{head}
-use Rattle.wire.proofs.Fronts.{put-short, both-inside, both-sum, both-done}
+use Rattle.promise.proofs.Fronts.{put-short, both-inside, both-sum, both-done}
 use Rattle.wire.proofs.Schema.{head-one}
 use borrow.Author.Needs.{needs}
 use Rattle.wire.proofs.fixed.put_headed.Statement.{statement}

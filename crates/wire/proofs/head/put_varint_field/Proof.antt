@@ -1,6 +1,6 @@
 -- Too short a list is left alone; in any other the head is put, and the number behind it.
 use native.Mathlib.Omega.{arith}
-use Rattle.wire.proofs.Fronts.{put-short, both-inside, both-sum, both-done}
+use Rattle.promise.proofs.Fronts.{put-short, both-inside, both-sum, both-done}
 use Rattle.wire.proofs.Fields.{varint-field}
 use borrow.Author.Needs.{needs}
 use Rattle.wire.proofs.head.put_varint_field.Statement.{statement}

@@ -6,7 +6,7 @@ use native.Mathlib.Omega.{arith}
 use lib.ListN.{length}
 use borrow.Rule.Slice.PartMut.{midOf}
 use Rattle.wire.specs.Fields.{varintField, varints, packedField}
-use Rattle.wire.proofs.Fronts.{put-short, put-nothing, put-done, both-inside, both-room, both-sum, both-done}
+use Rattle.promise.proofs.Fronts.{put-short, put-nothing, put-done, both-inside, both-room, both-sum, both-done}
 use Rattle.wire.proofs.Fields.{varint-field-short, packed-none, packed-parts, packed-long, varints-few}
 use borrow.Author.Needs.{needs}
 use Rattle.wire.proofs.packed.put_packed.Statement.{statement}

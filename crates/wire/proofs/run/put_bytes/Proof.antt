@@ -4,7 +4,7 @@ use Prim.Native.Nat.{_+_, _≤_}
 use mathlib.Core.Path.{_≡_}
 use lib.ListN.{length}
 use Rattle.wire.specs.Fields.{delimited}
-use Rattle.wire.proofs.Fronts.{put-short, both-inside, both-sum, both-done}
+use Rattle.promise.proofs.Fronts.{put-short, both-inside, both-sum, both-done}
 use Rattle.wire.proofs.Fields.{varint-field-short, delimited-parts, delimited-long}
 use borrow.Author.Needs.{needs}
 use Rattle.wire.proofs.run.put_bytes.Statement.{statement}

@@ -1,6 +1,6 @@
 -- Too short a list is left alone; any other has room for the bytes.
 use native.Mathlib.Omega.{arith}
-use Rattle.wire.proofs.Fronts.{put-short, put-done}
+use Rattle.promise.proofs.Fronts.{put-short, put-done}
 use borrow.Author.Needs.{needs}
 use Rattle.wire.proofs.run.put_run.Statement.{statement}
 use Rattle.wire.proofs.run.put_run.Tie as tie

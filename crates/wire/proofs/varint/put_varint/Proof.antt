@@ -1,6 +1,6 @@
 -- Too short a list is left alone; any other has room for the varint.
 use native.Mathlib.Omega.{arith}
-use Rattle.wire.proofs.Fronts.{put-short, put-done}
+use Rattle.promise.proofs.Fronts.{put-short, put-done}
 use borrow.Author.Needs.{needs}
 use Rattle.wire.proofs.varint.put_varint.Statement.{statement}
 use Rattle.wire.proofs.varint.put_varint.Tie as tie

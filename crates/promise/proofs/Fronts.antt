@@ -1,11 +1,12 @@
 -- Laws of the one contract of all writers, over any bytes, and bytes after bytes through `&mut out[at..]`.
 --     put-fits put-done put-short put-zero put-nothing    what `put` is where the bytes fit, where they do not, and of no bytes
 --     puts-none puts-inside puts-long            what was put so far: nothing; its end is in the list; the list's length
---     puts-more puts-laid                        a writer's bytes behind what was put so far
+--     puts-more puts-laid                        a writer's bytes behind what was put so far, through `&mut out[at..]`
+--     puts-start puts-append puts-next           a run laid at the place behind what was put so far, in the list itself
 --     both-long both-inside both-room both-sum both-done    a writer that puts two parts, one behind the other
 --     long-as put-as                             what is promised of a list is promised of one that is equal
 use Prim.Native.Nat.{ℕ, _+_, _-_, _≤_, _<_}
-use mathlib.Core.Path.{_≡_, refl, ap, _∙_}
+use mathlib.Core.Path.{_≡_, refl, sym, ap, _∙_}
 use mathlib.Core.Bool.{Bool, true, false}
 use mathlib.Core.List.{List, [], _++_, append-assoc}
 use native.Mathlib.Omega.{arith}
@@ -14,11 +15,11 @@ use lib.Dec.{leb}
 use lib.ListN.{length, take, drop, length-append}
 use lib.Seq.{drop-drop, take-at, drop-at}
 use borrow.Rule.Slice.PartMut.{midOf, putMid}
 use Rattle.promise.specs.Answers.{Gives}
 use Rattle.promise.specs.Laid.{lay}
-use Rattle.promise.proofs.Laying.{length-lay}
+use Rattle.promise.proofs.Laying.{length-lay, lay-next}
 use Rattle.promise.proofs.Parts.{lent, home, lent-long, lay-front}
-use Rattle.wire.specs.Puts.{put, Puts}
+use Rattle.promise.specs.Puts.{put, Puts}
 
 -- ---- `put`
 pub put-fits : (bs out : List ℕ) {r : ℕ} {l : List ℕ} → length bs ≤ length out → Gives (put bs out) r l → Puts bs out r l
@@ -33,7 +34,7 @@ pub put-short : (bs out : List ℕ) → length out < length bs → Gives (put bs
 unfolding put
 put-short bs out h = rw (lt-leb (length bs) (length out) h) (record { answer = refl; memory = refl })
 
--- zero says that there was no room, and nothing else: every field has a byte
+-- zero says that there was no room, and nothing else, where there is a byte to put
 pub put-zero : (bs out : List ℕ) {l : List ℕ} → 0 < length bs → Gives (put bs out) 0 l → length out < length bs
 put-zero bs out s g = by (leb (length bs) (length out)) refl
   where
@@ -54,6 +55,9 @@ put-as out e g = rw e g
 -- ---- what was put so far
 pub puts-none : (out : List ℕ) → Puts [] out 0 out
 puts-none out = record { count-is = refl; list-is = refl }
+
+pub puts-start : (bs out l : List ℕ) → l ≡ lay 0 bs out → Puts bs out (length bs) l
+puts-start bs out l e = record { count-is = refl; list-is = e }
 
 module _ {bs out : List ℕ} {at : ℕ} {l : List ℕ} (p : Puts bs out at l) where
   pub puts-long : length bs ≤ length out → length l ≡ length out
@@ -77,6 +81,19 @@ module _ {bs out : List ℕ} {at : ℕ} {l : List ℕ} (p : Puts bs out at l) wh
   pub puts-more : (cs : List ℕ) {k : ℕ} {ys : List ℕ} → length bs + length cs ≤ length out → Gives (put cs (midOf at (length l - at) l)) k ys → Puts (bs ++ cs) out (at + k) (putMid at (length l - at) l ys)
   puts-more cs h g =
       puts-laid cs h (put-fits cs (midOf at (length l - at) l) (lent-long at (length cs) l (omega (arith, puts-long (omega arith), p .count-is))) g)
+
+  -- a run laid in the list itself, behind what was put so far
+  module _ (run : List ℕ) (h : length bs + length run ≤ length out) where
+    pub puts-append : (m : List ℕ) → m ≡ lay at run l → Puts (bs ++ run) out (at + length run) m
+    puts-append m e =
+        let z : 0 + length bs ≡ length bs = omega arith in
+        record {
+          count-is = omega (arith, p .count-is, length-append bs run);
+          list-is = e ∙ rw (p .count-is, p .list-is) (ap (λ (n : ℕ). lay n run (lay 0 bs out)) (sym z) ∙ lay-next 0 bs run out (omega arith));
+        }
+
+    pub puts-next : (r : ℕ) (m : List ℕ) → Gives (record { answer = at + length run; memory = lay at run l }) r m → Puts (bs ++ run) out r m
+    puts-next r m g = rw (g .answer) (puts-append m (g .memory))
 
 -- ---- a writer of two parts, one behind the other
 module _ (whole bs cs out : List ℕ) (parts : whole ≡ bs ++ cs) where

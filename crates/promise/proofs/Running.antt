@@ -10,10 +10,10 @@ use mathlib.Core.List.{List, [], _++_, append-nil, append-assoc}
 use native.Mathlib.Omega.{arith}
 use lib.ListN.{length, length-append}
 use borrow.Rule.Slice.PartMut.{midOf, putMid}
 use Rattle.promise.specs.Answers.{Gives}
 use Rattle.promise.proofs.Parts.{lent-long}
-use Rattle.wire.specs.Puts.{put, Puts}
-use Rattle.wire.proofs.Fronts.{put-fits, put-done, puts-none, puts-inside, puts-long, puts-more}
+use Rattle.promise.specs.Puts.{put, Puts}
+use Rattle.promise.proofs.Fronts.{put-fits, put-done, puts-none, puts-inside, puts-long, puts-more}
 
 -- of the whole, which has room in out₀, all but the rest is put: out is the list now, and at the place reached
 pub record Run (whole rest out₀ out : List ℕ) (at : ℕ) : Type 0 where
