@@ -1,34 +1,20 @@
 -- What each way through `answer` tells, over plain lists: the text of the parts' answers, at the front of the lent text.
-use mathlib.Core.Path.{_≡_, _∙_, ap}
+use mathlib.Core.Path.{_≡_}
 use mathlib.Core.List.{List}
 use Prim.Native.Nat.{ℕ, _+_, _*_, _≤_}
 use native.Mathlib.Omega.{arith}
-use borrow.Author.Tests.{le-leb, ne-eqb}
+use borrow.Author.Tests.{ne-eqb}
 use lib.ListN.{length, take}
 use lib.Seq.{length-take-le}
 use Rattle.promise.specs.Answers.{Written, Gives}
-use Rattle.promise.specs.Laid.{lay}
-use Rattle.promise.proofs.Laying.{take-lay, length-lay}
 use Rattle.refusal.specs.declared.Refusal.{Refusal}
 use Rattle.refusal.specs.Refusals.{numberOf}
 use Rattle.refusal.specs.Said.{Said, accepted, refused}
 use Rattle.refusal.proofs.Laws.{numbered}
-use Rattle.printed.specs.Printed.{shown, wordsText, wordsRoom, refusedText, refusedRoom}
-use Rattle.printed.proofs.Columns.{words-short, refused-short}
+use Rattle.printed.specs.Printed.{Told, shown, wordsText, wordsRoom, refusedText, refusedRoom}
+use Rattle.printed.proofs.Columns.{words-short, refused-short, told}
 use Rattle.job_file.specs.JobFile.{jobFile}
-use Rattle.job.specs.Program.{fileText, Told}
-
--- what is shown in a text that has the room, and whose bytes fit, is told
-told : (room : ℕ) (bytes text : List ℕ) (r : ℕ) (l : List ℕ) → room ≤ length text → length bytes ≤ room → Gives (shown room bytes text) r l → Told bytes r l
-told room bytes text r l h k g =
-    let e = rw (le-leb room (length text) h) at g in
-    let z : length bytes ≡ 0 + length bytes = omega arith in
-    let f : 0 + length bytes ≤ length text = omega arith in
-    record {
-      count = e .answer;
-      inside = rw (e .answer, e .memory, length-lay 0 bytes text f) (omega arith);
-      front = rw (e .answer, e .memory) (ap (λ (n : ℕ). take n (lay 0 bytes text)) z ∙ take-lay 0 bytes text f);
-    }
+use Rattle.job.specs.Program.{fileText}
 
 not-zero : (x : Refusal) → numberOf x ≡ 0 → ⊥
 not-zero x e = omega (arith, numbered x)

@@ -1,10 +1,9 @@
 -- What the program prints for a file: document 01, "Job file" and the end of "Sample jobs", put together from what its parts say.
-use Prim.Native.Nat.{ℕ, _≤_}
-use mathlib.Core.Path.{_≡_}
+use Prim.Native.Nat.{ℕ}
 use mathlib.Core.Bool.{cond}
 use mathlib.Core.List.{List}
 use lib.Dec.{eqb}
-use lib.ListN.{length, take}
+use lib.ListN.{take}
 use Rattle.promise.specs.Answers.{Written}
 use Rattle.refusal.specs.Said.{Said}
 use Rattle.number_file.specs.Numbers.{reading}
@@ -21,9 +20,3 @@ fileText n words = cond (eqb (n .answer .number) 0) (jobText (jobFile (take (n .
 
 unfoldable pub printed : List ℕ → List ℕ → List ℕ → List ℕ
 printed file numbers words = fileText (reading file numbers) words
-
--- the text begins with these bytes, and r counts them
-pub record Told (bytes : List ℕ) (r : ℕ) (text : List ℕ) : Type 0 where
-  pub count : r ≡ length bytes
-  pub inside : r ≤ length text
-  pub front : take r text ≡ bytes

@@ -7,6 +7,7 @@ use native.Mathlib.Omega.{arith}
 use lib.ListN.{length, take, drop, getD, length-append, drop-of-length-le}
 use lib.Seq.{drop-cons}
 use Rattle.promise.specs.Answers.{Gives}
+use Rattle.printed.specs.Lending.{appended}
 use Rattle.promise.specs.Laid.{lay}
 use Rattle.promise.proofs.Laying.{lay-next, take-lay, length-lay}
 use Rattle.printed.specs.Decimal.{ended}
@@ -45,7 +46,7 @@ module _ {done text : List ℕ} {at : ℕ} {l : List ℕ} (f : Front done text a
     laid = e ∙ rw (f .place, f .laid) (ap (λ (n : ℕ). lay n run (lay 0 done text)) (sym zero) ∙ lay-next 0 done run text (rw zero (f .inside)));
   }
 
-  pub front-more : (r : ℕ) (m : List ℕ) → Gives (record { answer = at + length run; memory = lay at run l }) r m → Front (done ++ run) text r m
+  pub front-more : (r : ℕ) (m : List ℕ) → Gives (appended run at l) r m → Front (done ++ run) text r m
   front-more r m g = rw (g .answer) (front-append m (g .memory))
 
 pub front-shown : (room : ℕ) {bytes text : List ℕ} {r : ℕ} {l : List ℕ} → room ≤ length text → Front bytes text r l → Gives (shown room bytes text) r l
@@ -61,8 +62,8 @@ column-short (w ∷ ws) = simp length-append (omega (arith, column-short ws, sim
 
 module _ (text l1 l2 l3 : List ℕ) (r2 : ℕ) where
   pub words-shown : (r3 : ℕ) (ws : List ℕ) → wordsRoom ws ≤ length text → l1 ≡ lay 0 wordsHead text
-      → Gives (record { answer = 6 + length (ended (length ws) newline); memory = lay 6 (ended (length ws) newline) l1 }) r2 l2
-      → Gives (record { answer = r2 + length (column ws); memory = lay r2 (column ws) l2 }) r3 l3 → Gives (shown (wordsRoom ws) (wordsText ws) text) r3 l3
+      → Gives (appended (ended (length ws) newline) 6 l1) r2 l2
+      → Gives (appended (column ws) r2 l2) r3 l3 → Gives (shown (wordsRoom ws) (wordsText ws) text) r3 l3
   words-shown r3 ws h e g k =
       let a = ended-short (length ws) newline in
       let f1 = front-start wordsHead text l1 (omega arith) e in
@@ -70,8 +71,8 @@ module _ (text l1 l2 l3 : List ℕ) (r2 : ℕ) where
       front-shown (wordsRoom ws) h (front-more f2 (column ws) (simp length-append (omega (arith, column-short ws, simp length-append at a))) r3 l3 k)
 
   pub refused-shown : (l4 : List ℕ) (r4 number points : ℕ) → refusedRoom ≤ length text → l1 ≡ lay 0 refusedHead text
-      → Gives (record { answer = 8 + length (ended number space); memory = lay 8 (ended number space) l1 }) r2 l2 → l3 ≡ lay r2 atHead l2
-      → Gives (record { answer = r2 + 3 + length (ended points newline); memory = lay (r2 + 3) (ended points newline) l3 }) r4 l4
+      → Gives (appended (ended number space) 8 l1) r2 l2 → l3 ≡ lay r2 atHead l2
+      → Gives (appended (ended points newline) (r2 + 3) l3) r4 l4
       → Gives (shown refusedRoom (refusedText number points) text) r4 l4
   refused-shown l4 r4 number points h e g a k =
       let b = ended-short number space in

@@ -11,6 +11,7 @@ use lib.Dec.{ltb}
 use lib.ListN.{length, take, set, length-append}
 use Rattle.io.specs.Digits.{glyph, digits, Fewest}
 use Rattle.promise.specs.Answers.{Gives}
+use Rattle.printed.specs.Lending.{appended}
 use Rattle.promise.specs.Laid.{lay}
 use Rattle.promise.proofs.Laying.{length-lay, lay-one, lay-next}
 use Rattle.printed.specs.Decimal.{decimalIn, decimal, ended}
@@ -71,7 +72,7 @@ module _ (n at end k : ℕ) (ds text : List ℕ) (room : at + 21 ≤ length text
   long : length (decimal n) ≡ k
   long = sym (ap length spelt) ∙ sym counts
 
-  pub number-laid : (l : List ℕ) → l ≡ lay at (take k ds) text → Gives (record { answer = at + length (ended n end); memory = lay at (ended n end) text }) (at + k + 1) (set l (at + k) end)
+  pub number-laid : (l : List ℕ) → l ≡ lay at (take k ds) text → Gives (appended (ended n end) at text) (at + k + 1) (set l (at + k) end)
   number-laid l g =
       let h : l ≡ lay at (decimal n) text = rw spelt at g in
       let i : at + length (decimal n) ≤ length text = rw long (omega arith) in

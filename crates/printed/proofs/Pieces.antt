@@ -8,6 +8,7 @@ use native.Mathlib.Nat.{mul-suc, mul-le-mul-left}
 use native.Mathlib.Omega.{arith}
 use lib.ListN.{length, length-append}
 use Rattle.promise.specs.Answers.{Gives}
+use Rattle.printed.specs.Lending.{appended}
 use Rattle.promise.specs.Laid.{lay}
 use Rattle.promise.proofs.Laying.{lay-nothing, lay-next}
 
@@ -35,7 +36,7 @@ module _ {k n at : ℕ} {whole text₀ : List ℕ} where
     pieces-room h = omega (arith, c .place, c .short, c .room, c .long, more-fits h)
 
     pub pieces-turn : (run later : List ℕ) (r : ℕ) (l : List ℕ) → i < n → length run ≤ k → more ≡ run ++ later → length l ≡ length text
-        → Gives (record { answer = next + length run; memory = lay next run text }) r l → Pieces k n at whole text₀ l r (i + 1) later
+        → Gives (appended run next text) r l → Pieces k n at whole text₀ l r (i + 1) later
     pieces-turn run later r l h s e m g =
         let fits : at + length (c .done) ≤ length text₀ = omega (arith, c .short, c .room, more-fits h) in
         record {
@@ -49,7 +50,7 @@ module _ {k n at : ℕ} {whole text₀ : List ℕ} where
           rest = c .rest ∙ rw e (sym (append-assoc (c .done) run later));
         }
 
-    pub pieces-done : more ≡ [] → Gives (record { answer = at + length whole; memory = lay at whole text₀ }) next text
+    pub pieces-done : more ≡ [] → Gives (appended whole at text₀) next text
     pieces-done z =
         let e : whole ≡ c .done = c .rest ∙ rw z (append-nil (c .done)) in
         record { answer = rw e (c .place); memory = rw e (c .laid) }

@@ -10,6 +10,7 @@ use lib.Dec.{eqb}
 use lib.ListN.{length, drop, getD, length-append, drop-of-length-le}
 use lib.Seq.{drop-cons}
 use Rattle.promise.specs.Answers.{Gives}
+use Rattle.printed.specs.Lending.{appended}
 use Rattle.promise.specs.Laid.{lay}
 use Rattle.promise.proofs.Laying.{lay-next}
 use Rattle.printed.specs.Decimal.{ended}
@@ -33,12 +34,12 @@ pub outcomes-done : (os : List ℕ) (i : ℕ) → length os ≤ i → outcomeLin
 outcomes-done os i h = rw (drop-of-length-le os h)
 
 module _ (n at : ℕ) (text l : List ℕ) where
-  pub ok-laid : n ≡ 0 → l ≡ lay at okLine text → Gives (record { answer = at + length (outcomeLine n); memory = lay at (outcomeLine n) text }) (at + 3) l
+  pub ok-laid : n ≡ 0 → l ≡ lay at okLine text → Gives (appended (outcomeLine n) at text) (at + 3) l
   ok-laid e g = rw e (record { answer = refl; memory = g })
 
   pub refused-laid : (n ≡ 0 → ⊥) → at + 29 ≤ length text → l ≡ lay at refusedHead text → (r : ℕ) (m : List ℕ)
-      → Gives (record { answer = at + 8 + length (ended n newline); memory = lay (at + 8) (ended n newline) l }) r m
-      → Gives (record { answer = at + length (outcomeLine n); memory = lay at (outcomeLine n) text }) r m
+      → Gives (appended (ended n newline) (at + 8) l) r m
+      → Gives (appended (outcomeLine n) at text) r m
   refused-laid e h g r m k =
       rw (ne-eqb n 0 e) (record {
         answer = k .answer ∙ simp length-append (omega arith);
@@ -58,11 +59,11 @@ pub hex-done : (bs : List ℕ) (i : ℕ) → length bs ≤ i → hexFrom (length
 hex-done bs i h = rw (drop-of-length-le bs h)
 
 module _ (b at x y : ℕ) (text l : List ℕ) (p : x ≡ hexDigit (b / 16)) (q : y ≡ hexDigit (b % 16)) (g : l ≡ lay at (x ∷ y ∷ []) text) where
-  pub byte-laid : Gives (record { answer = at + length (hexByte b false); memory = lay at (hexByte b false) text }) (at + 2) l
+  pub byte-laid : Gives (appended (hexByte b false) at text) (at + 2) l
   byte-laid = rw (← p, ← q) (record { answer = refl; memory = g })
 
   pub byte-ended : at + 3 ≤ length text → (m : List ℕ) → m ≡ lay (at + 2) (newline ∷ []) l
-      → Gives (record { answer = at + length (hexByte b true); memory = lay at (hexByte b true) text }) (at + 3) m
+      → Gives (appended (hexByte b true) at text) (at + 3) m
   byte-ended h m k = rw (← p, ← q) (record { answer = refl; memory = k ∙ rw g (lay-next at (x ∷ y ∷ []) (newline ∷ []) text (omega arith)) })
 
 -- ---- what the room is for: the bytes never take more
@@ -79,9 +80,9 @@ tile-short os bs = simp length-append (omega (arith, simp length-append at (ende
 
 -- ---- the whole answer
 pub tile-shown : (text l1 l2 l3 l4 : List ℕ) (r1 r3 r4 : ℕ) (os bs : List ℕ) → tileRoom os bs ≤ length text
-    → Gives (record { answer = 0 + length (outcomeLines os); memory = lay 0 (outcomeLines os) text }) r1 l1 → l2 ≡ lay r1 bytesHead l1
-    → Gives (record { answer = r1 + 6 + length (ended (length bs) newline); memory = lay (r1 + 6) (ended (length bs) newline) l2 }) r3 l3
-    → Gives (record { answer = r3 + length (hexLines bs); memory = lay r3 (hexLines bs) l3 }) r4 l4 → Gives (shown (tileRoom os bs) (tileText os bs) text) r4 l4
+    → Gives (appended (outcomeLines os) 0 text) r1 l1 → l2 ≡ lay r1 bytesHead l1
+    → Gives (appended (ended (length bs) newline) (r1 + 6) l2) r3 l3
+    → Gives (appended (hexLines bs) r3 l3) r4 l4 → Gives (shown (tileRoom os bs) (tileText os bs) text) r4 l4
 tile-shown text l1 l2 l3 l4 r1 r3 r4 os bs h g1 e2 g3 g4 =
     let a = ended-short (length bs) newline in
     let o = outcomes-long os in

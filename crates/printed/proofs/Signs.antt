@@ -13,6 +13,7 @@ use lib.Seq.{drop-cons}
 use mir.Syntax.{w64}
 use mir.Val.{SFits, Fits}
 use Rattle.promise.specs.Answers.{Gives}
+use Rattle.printed.specs.Lending.{appended}
 use Rattle.promise.specs.Laid.{lay}
 use Rattle.promise.proofs.Laying.{lay-next}
 use Rattle.whole.proofs.Parts.{zarith, -parts}
@@ -24,21 +25,21 @@ use Rattle.printed.proofs.Decimals.{ended-short}
 -- ---- a number with its sign
 module _ {z : ℤ} (end at size : ℕ) (text l m : List ℕ) (r : ℕ) (e : size ≡ natAbs z) where
   pub minus-laid : z <ℤ pos 0 → at + 22 ≤ length text → l ≡ lay at (45 ∷ []) text
-      → Gives (record { answer = at + 1 + length (ended size end); memory = lay (at + 1) (ended size end) l }) r m
-      → Gives (record { answer = at + length (signedEnded z end); memory = lay at (signedEnded z end) text }) r m
+      → Gives (appended (ended size end) (at + 1) l) r m
+      → Gives (appended (signedEnded z end) at text) r m
   unfolding signedEnded
   minus-laid h k g w = by z e h
     where
-      by : (y : ℤ) → size ≡ natAbs y → y <ℤ pos 0 → Gives (record { answer = at + length (signedEnded y end); memory = lay at (signedEnded y end) text }) r m
+      by : (y : ℤ) → size ≡ natAbs y → y <ℤ pos 0 → Gives (appended (signedEnded y end) at text) r m
       by (pos n) d b = absurd (omega zarith)
       by (negsuc n) d b = rw (← d) (record { answer = w .answer ∙ omega arith; memory = w .memory ∙ rw g (lay-next at (45 ∷ []) (ended size end) text (omega arith)) })
 
-  pub plus-laid : pos 0 ≤ℤ z → Gives (record { answer = at + length (ended size end); memory = lay at (ended size end) text }) r m
-      → Gives (record { answer = at + length (signedEnded z end); memory = lay at (signedEnded z end) text }) r m
+  pub plus-laid : pos 0 ≤ℤ z → Gives (appended (ended size end) at text) r m
+      → Gives (appended (signedEnded z end) at text) r m
   unfolding signedEnded
   plus-laid h w = by z e h
     where
-      by : (y : ℤ) → size ≡ natAbs y → pos 0 ≤ℤ y → Gives (record { answer = at + length (signedEnded y end); memory = lay at (signedEnded y end) text }) r m
+      by : (y : ℤ) → size ≡ natAbs y → pos 0 ≤ℤ y → Gives (appended (signedEnded y end) at text) r m
       by (pos n) d b = rw (← d) w
       by (negsuc n) d b = absurd (omega zarith)
 
@@ -56,5 +57,5 @@ pub row-done : (zs : List ℤ) (i : ℕ) → length zs ≤ i → rowFrom (length
 row-done zs i h = rw (drop-of-length-le zs h)
 
 pub row-shown : (zs : List ℤ) (text : List ℕ) (r : ℕ) (l : List ℕ) → rowRoom zs ≤ length text
-    → Gives (record { answer = 0 + length (rowText zs); memory = lay 0 (rowText zs) text }) r l → Gives (shown (rowRoom zs) (rowText zs) text) r l
+    → Gives (appended (rowText zs) 0 text) r l → Gives (shown (rowRoom zs) (rowText zs) text) r l
 row-shown zs text r l h g = rw (le-leb (rowRoom zs) (length text) h) (record { answer = g .answer ∙ omega arith; memory = g .memory })

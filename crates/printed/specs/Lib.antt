@@ -2,3 +2,4 @@ pub mod Decimal
 pub mod Printed
 pub mod Row
 pub mod Tiles
+pub mod Lending

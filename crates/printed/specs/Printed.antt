@@ -1,4 +1,5 @@
--- Document 01, "Sample jobs": "The program prints `words N`, then each word in decimal on its own line; a refusal is one line, `refused R at P`, with P the accepted points."
+-- Document 01, "Sample jobs": "The program prints `words N`, then each word in decimal on its own line; a refusal is one line, `refused R at P`,
+-- with P the accepted points."
 use Prim.Native.Nat.{ℕ, _+_, _*_, _≤_}
 use mathlib.Core.Path.{_≡_}
 use mathlib.Core.Bool.{cond}
@@ -45,6 +46,10 @@ wordsRoom ws = 27 + 21 * length ws
 
 abbrev pub refusedRoom : ℕ
 refusedRoom = 53
+
+-- how long a text the programs lend for words: the room of 16,384
+abbrev pub wordsLength : ℕ
+wordsLength = 344091
 
 -- the bytes at the front of a text of that room, and how many they are; nothing in a shorter one
 abbrev pub shown : ℕ → List ℕ → List ℕ → Written ℕ (List ℕ)

@@ -1,4 +1,5 @@
--- Numbers on one line, as the replays print them: in decimal, `-` before a negative one, a blank between two, the line's end behind the last. No numbers are no line.
+-- Numbers on one line, as the replays print them: in decimal, `-` before a negative one, a blank between two, the line's end behind the last. No
+-- numbers are no line.
 use Prim.Native.Nat.{ℕ, suc, _+_, _*_}
 use mathlib.Core.Bool.{cond}
 use mathlib.Core.List.{List, [], _∷_, _++_}

@@ -49,3 +49,7 @@ tileText outcomes bytes = outcomeLines outcomes ++ bytesHead ++ ended (length by
 -- what a text is lent for: an outcome takes at most 29 bytes, the count with its head 27, a byte 3
 abbrev pub tileRoom : List ℕ → List ℕ → ℕ
 tileRoom outcomes bytes = 27 + 29 * length outcomes + 3 * length bytes
+
+-- how long a text the programs lend for a tile's answer
+abbrev pub tileLength : ℕ
+tileLength = 450000

@@ -1,15 +1,47 @@
-// What the programs print, laid out in lent bytes: lines of numbers in decimal, rows of them, lines of a tile's outcomes, and of bytes in hexadecimal.
+// What the programs print, laid out in lent bytes: lines of numbers in decimal, rows of them, lines of a tile's outcomes, and of bytes in
+// hexadecimal; and how much of a list, and of a text, is printed.
 ghost use mathlib.Core.Path.{_≡_};
 ghost use Prim.Native.Nat.{_+_, _*_, _<_, _≤_};
-ghost use lib.ListN.{length};
-ghost use Rattle.promise.specs.Answers.{Gives};
+ghost use lib.ListN.{length, take};
 ghost use Rattle.promise.specs.Laid.{lay};
 ghost use Rattle.printed.specs.Decimal.{ended};
-ghost use Rattle.printed.specs.Printed.{column, shown, wordsText, wordsRoom, refusedText, refusedRoom};
+ghost use Rattle.printed.specs.Lending.{Appends, Shows};
+ghost use Rattle.printed.specs.Printed.{column, wordsText, wordsRoom, refusedText, refusedRoom};
 ghost use Rattle.printed.specs.Row.{signedEnded, behind, rowRoom, rowText};
 ghost use Rattle.printed.specs.Tiles.{outcomeLine, outcomeLines, hexDigit, hexByte, endsLine, hexLines, tileText, tileRoom};
 use number::long;
 use number::magnitude;
+
+// The texts that the programs lend.
+pub struct Text {}
+
+impl Text {
+    // For `words N` and the words of any job: 27 bytes, and 21 for each of 16,384 words.
+    pub const WORDS: usize = 27 + 21 * 16_384;
+
+    // For a tile's answer: the checker does not go through a larger list. It holds the answer of every script of up to 15,000 operations.
+    pub const TILE: usize = 450_000;
+}
+
+// The first so many numbers of a list, or all of them where it has no more: what is printed of it.
+pub fn first_words(words: &[u32], n: usize) -> &[u32]
+    ensures { λ r. ⌜ now r ≡ take n (now (words .entry)) ⌝ }
+{
+    if words.len() < n {
+        return words;
+    }
+    &words[..n]
+}
+
+// The same of bytes.
+pub fn first_bytes(bytes: &[u8], n: usize) -> &[u8]
+    ensures { λ r. ⌜ now r ≡ take n (now (bytes .entry)) ⌝ }
+{
+    if bytes.len() < n {
+        return bytes;
+    }
+    &bytes[..n]
+}
 
 // Lays `bytes` at a place of the text.
 fn append(bytes: &[u8], at: usize, text: &mut [u8])
@@ -26,7 +58,7 @@ fn append(bytes: &[u8], at: usize, text: &mut [u8])
 // Lays a number's digits and then `end` at a place of the text, and answers the place after them. A u64 has at most twenty digits.
 fn append_number(n: u64, end: u8, at: usize, text: &mut [u8]) -> usize
     requires { ⌜ at + 21 ≤ length (now text) ⌝ }
-    ensures { λ r. ⌜ Gives (record { answer = at + length (ended n end); memory = lay at (ended n end) (now (text .entry)) }) r (now (text .exit)) ⌝ }
+    ensures { λ r. ⌜ Appends (ended n end) at r text ⌝ }
 {
     let mut digits = [0u8; 20];
     let k = io::decimal(n, &mut digits);
@@ -39,7 +71,7 @@ fn append_number(n: u64, end: u8, at: usize, text: &mut [u8]) -> usize
 // Lays each word on a line of its own, from a place of the text on, and answers the place after them.
 fn append_words(words: &[u32], at: usize, text: &mut [u8]) -> usize
     requires { ⌜ at + 21 * length (now words) ≤ length (now text) ⌝ }
-    ensures { λ r. ⌜ Gives (record { answer = at + length (column (now (words .entry))); memory = lay at (column (now (words .entry))) (now (text .entry)) }) r (now (text .exit)) ⌝ }
+    ensures { λ r. ⌜ Appends (column (now (words .entry))) at r text ⌝ }
 {
     let mut next = at;
     let mut i = 0;
@@ -50,9 +82,10 @@ fn append_words(words: &[u32], at: usize, text: &mut [u8]) -> usize
     next
 }
 
-// `words N` and then each word on its own line: how many bytes it is. A text of fewer than 27 bytes, and 21 for each word, stays as it is, and the answer is 0.
+// `words N` and then each word on its own line: how many bytes it is. A text of fewer than 27 bytes, and 21 for each word, stays as it is, and
+// the answer is 0.
 pub fn show_words(words: &[u32], text: &mut [u8]) -> usize
-    ensures { λ r. ⌜ Gives (shown (wordsRoom (now (words .entry))) (wordsText (now (words .entry))) (now (text .entry))) r (now (text .exit)) ⌝ }
+    ensures { λ r. ⌜ Shows (wordsRoom (now (words .entry))) (wordsText (now (words .entry))) r text ⌝ }
 {
     let n = words.len();
     if text.len() < 27 {
@@ -68,7 +101,7 @@ pub fn show_words(words: &[u32], text: &mut [u8]) -> usize
 
 // `refused R at P`: how many bytes it is. A text of fewer than 53 bytes stays as it is, and the answer is 0.
 pub fn show_refused(number: u32, points: usize, text: &mut [u8]) -> usize
-    ensures { λ r. ⌜ Gives (shown refusedRoom (refusedText number points) (now (text .entry))) r (now (text .exit)) ⌝ }
+    ensures { λ r. ⌜ Shows refusedRoom (refusedText number points) r text ⌝ }
 {
     if text.len() < 53 {
         return 0;
@@ -82,7 +115,7 @@ pub fn show_refused(number: u32, points: usize, text: &mut [u8]) -> usize
 // Lays a number in decimal, `-` before a negative one, and then `end` at a place of the text: the place after them.
 fn append_signed(n: i64, end: u8, at: usize, text: &mut [u8]) -> usize
     requires { ⌜ at + 22 ≤ length (now text) ⌝ }
-    ensures { λ r. ⌜ Gives (record { answer = at + length (signedEnded n end); memory = lay at (signedEnded n end) (now (text .entry)) }) r (now (text .exit)) ⌝ }
+    ensures { λ r. ⌜ Appends (signedEnded n end) at r text ⌝ }
 {
     let size = magnitude(n);
     if n < 0 {
@@ -103,9 +136,10 @@ fn separator(i: usize, n: usize) -> u8
     b' '
 }
 
-// The numbers on one line, a blank between them: how many bytes it is. A text of fewer than 22 bytes for each number stays as it is, and the answer is 0.
+// The numbers on one line, a blank between them: how many bytes it is. A text of fewer than 22 bytes for each number stays as it is, and the
+// answer is 0.
 pub fn show_row(numbers: &[i64], text: &mut [u8]) -> usize
-    ensures { λ r. ⌜ Gives (shown (rowRoom (now (numbers .entry))) (rowText (now (numbers .entry))) (now (text .entry))) r (now (text .exit)) ⌝ }
+    ensures { λ r. ⌜ Shows (rowRoom (now (numbers .entry))) (rowText (now (numbers .entry))) r text ⌝ }
 {
     let n = numbers.len();
     if text.len() / 22 < n {
@@ -124,7 +158,7 @@ pub fn show_row(numbers: &[i64], text: &mut [u8]) -> usize
 // `ok` or `refused N` on a line of its own, at a place of the text: the place after it.
 fn append_outcome(n: u32, at: usize, text: &mut [u8]) -> usize
     requires { ⌜ at + 29 ≤ length (now text) ⌝ }
-    ensures { λ r. ⌜ Gives (record { answer = at + length (outcomeLine n); memory = lay at (outcomeLine n) (now (text .entry)) }) r (now (text .exit)) ⌝ }
+    ensures { λ r. ⌜ Appends (outcomeLine n) at r text ⌝ }
 {
     if n == 0 {
         append(b"ok\n", at, text);
@@ -137,7 +171,7 @@ fn append_outcome(n: u32, at: usize, text: &mut [u8]) -> usize
 // A line for each outcome, from a place of the text on: the place after them.
 fn append_outcomes(outcomes: &[u32], at: usize, text: &mut [u8]) -> usize
     requires { ⌜ at + 29 * length (now outcomes) ≤ length (now text) ⌝ }
-    ensures { λ r. ⌜ Gives (record { answer = at + length (outcomeLines (now (outcomes .entry))); memory = lay at (outcomeLines (now (outcomes .entry))) (now (text .entry)) }) r (now (text .exit)) ⌝ }
+    ensures { λ r. ⌜ Appends (outcomeLines (now (outcomes .entry))) at r text ⌝ }
 {
     let mut next = at;
     let mut i = 0;
@@ -172,7 +206,7 @@ fn ends_line(i: usize, n: usize) -> bool
 // A byte's two digits, and the line's end where it has one, at a place of the text: the place after them.
 fn append_byte(b: u8, ends: bool, at: usize, text: &mut [u8]) -> usize
     requires { ⌜ at + 3 ≤ length (now text) ⌝ }
-    ensures { λ r. ⌜ Gives (record { answer = at + length (hexByte b ends); memory = lay at (hexByte b ends) (now (text .entry)) }) r (now (text .exit)) ⌝ }
+    ensures { λ r. ⌜ Appends (hexByte b ends) at r text ⌝ }
 {
     let digits = [hex_digit(b / 16), hex_digit(b % 16)];
     append(&digits, at, text);
@@ -186,7 +220,7 @@ fn append_byte(b: u8, ends: bool, at: usize, text: &mut [u8]) -> usize
 // Bytes in hexadecimal, from a place of the text on: the place after them.
 fn append_hex(bytes: &[u8], at: usize, text: &mut [u8]) -> usize
     requires { ⌜ at + 3 * length (now bytes) ≤ length (now text) ⌝ }
-    ensures { λ r. ⌜ Gives (record { answer = at + length (hexLines (now (bytes .entry))); memory = lay at (hexLines (now (bytes .entry))) (now (text .entry)) }) r (now (text .exit)) ⌝ }
+    ensures { λ r. ⌜ Appends (hexLines (now (bytes .entry))) at r text ⌝ }
 {
     let n = bytes.len();
     let mut next = at;
@@ -199,10 +233,10 @@ fn append_hex(bytes: &[u8], at: usize, text: &mut [u8]) -> usize
     next
 }
 
-// A line for each outcome, `bytes N`, and the bytes, 32 to a line: how many bytes of text it is. A text of fewer than 27 bytes, 29 for each outcome
-// and 3 for each byte, stays as it is, and the answer is 0.
+// A line for each outcome, `bytes N`, and the bytes, 32 to a line: how many bytes of text it is. A text of fewer than 27 bytes, 29 for each
+// outcome and 3 for each byte, stays as it is, and the answer is 0.
 pub fn show_tile(outcomes: &[u32], bytes: &[u8], text: &mut [u8]) -> usize
-    ensures { λ r. ⌜ Gives (shown (tileRoom (now (outcomes .entry)) (now (bytes .entry))) (tileText (now (outcomes .entry)) (now (bytes .entry))) (now (text .entry))) r (now (text .exit)) ⌝ }
+    ensures { λ r. ⌜ Shows (tileRoom (now (outcomes .entry)) (now (bytes .entry))) (tileText (now (outcomes .entry)) (now (bytes .entry))) r text ⌝ }
 {
     let n = bytes.len();
     if text.len() < 27 {

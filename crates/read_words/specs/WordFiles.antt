@@ -5,22 +5,42 @@ use mathlib.Core.List.{List}
 use lib.Dec.{eqb}
 use lib.IntN.{ℤ}
 use lib.ListN.{take}
-use Rattle.promise.specs.Answers.{Written}
+use denote.Triple.Both.{Both}
+use denote.Ref.{RefT, now}
+use Rattle.promise.specs.Answers.{Written, Gives}
 use Rattle.refusal.specs.Said.{Said}
 use Rattle.number_file.specs.Numbers.{reading as numbersRead}
-use Rattle.decoder.specs.ReadingWords.{reading}
+use Rattle.decoder.specs.declared.Reading.{Reading}
+use Rattle.decoder.specs.ReadingWords.{reading, saidReading}
 
 -- the program's two buffers
 pub record Memory : Type 0 where
   pub words : List ℕ
   pub out : List ℤ
 
+abbrev pub buffers : List ℕ → List ℤ → Memory
+buffers ws vs = record { words = ws; out = vs }
+
 -- the numbers are read, and where that is accepted the words among them are read to vertices
+abbrev pub beside : List ℕ → Written (Said ℕ) (List ℤ) → Written (Said ℕ) Memory
+beside ws r = record { answer = r .answer; memory = buffers ws (r .memory) }
+
 abbrev pub onward : Written (Said ℕ) (List ℕ) → List ℤ → Written (Said ℕ) Memory
 onward w out =
     cond (eqb (w .answer .number) 0)
-    (record { answer = reading (take (w .answer .values) (w .memory)) out .answer; memory = record { words = w .memory; out = reading (take (w .answer .values) (w .memory)) out .memory } })
-    (record { answer = w .answer; memory = record { words = w .memory; out = out } })
+    (beside (w .memory) (reading (take (w .answer .values) (w .memory)) out))
+    (record { answer = w .answer; memory = buffers (w .memory) out })
 
 abbrev pub fileRead : List ℕ → Memory → Written (Said ℕ) Memory
 fileRead bytes m = onward (numbersRead bytes (m .words)) (m .out)
+
+-- what the program promises of the file and of the two buffers lent to it
+abbrev pub Lent : Type 0 → Type 0
+Lent A = Both (RefT (List A)) (RefT (List A))
+
+abbrev pub Reads : Reading → Lent ℕ → Lent ℕ → Lent ℤ → Type 0
+Reads r bytes words out =
+    Gives
+    (fileRead (now (bytes .entry)) (buffers (now (words .entry)) (now (out .entry))))
+    (saidReading r)
+    (buffers (now (words .exit)) (now (out .exit)))

@@ -1,7 +1,5 @@
 // Reads the words of one geometry from standard input and prints its vertices: `vertices N`, then `id x y`, one vertex a line; or `refused R`.
-ghost use Rattle.promise.specs.Answers.{Gives};
-ghost use Rattle.decoder.specs.ReadingWords.{saidReading};
-ghost use Rattle.read_words.specs.WordFiles.{fileRead};
+ghost use Rattle.read_words.specs.WordFiles.{Reads};
 use decoder::Reading;
 use number_file::Numbers;
 use refusal::Refusal;
@@ -51,7 +49,7 @@ fn refuse(r: Refusal) {
 
 // The vertices of a file of words.
 fn read_file(bytes: &[u8], words: &mut [u32], out: &mut [i32]) -> Reading
-    ensures { λ r. ⌜ Gives (fileRead (now (bytes .entry)) (record { words = now (words .entry); out = now (out .entry) })) (saidReading r) (record { words = now (words .exit); out = now (out .exit) }) ⌝ }
+    ensures { λ r. ⌜ Reads r bytes words out ⌝ }
 {
     match number_file::read_numbers(bytes, words) {
         Numbers::Read(n) => decoder::decode(&words[..n], out),

@@ -3,17 +3,20 @@
 ghost use mathlib.Core.Path.{_≡_};
 ghost use lib.ListN.{getD, take};
 ghost use Rattle.replay.specs.Records.{Past, bodyOf};
-ghost use Rattle.replay.specs.Printing.{sizeOf, printed};
+ghost use Rattle.replay.specs.Printing.{sizeOf, printed, wordsPrinted, tilePrinted};
 ghost use Rattle.whole.specs.Twos.{signed32};
 ghost use Rattle.refusal.specs.Refusals.{numberOf};
-ghost use Rattle.printed.specs.Printed.{wordsText, wordsRoom, refusedText, refusedRoom};
+ghost use Rattle.printed.specs.Printed.{refusedText, refusedRoom};
 ghost use Rattle.printed.specs.Row.{rowText, rowRoom};
-ghost use Rattle.printed.specs.Tiles.{tileText, tileRoom};
 ghost use Rattle.io.specs.Counts.{Counts};
 use number_file::Numbers;
+use printed::Text;
+use printed::first_bytes;
+use printed::first_words;
 use refusal::Refusal;
 
-// The bytes of a file; none, and a line on standard error, where it cannot be read. No contract can say what a file holds, so this one says only how many bytes there are at most.
+// The bytes of a file; none, and a line on standard error, where it cannot be read. No contract can say what a file holds, so this one says only
+// how many bytes there are at most.
 pub fn read_file(path: &[u8], bytes: &mut [u8]) -> usize
     ensures { λ r. ⌜ Counts r (now (bytes .exit)) ⌝ }
 {
@@ -99,26 +102,6 @@ pub fn size(count: usize) -> i64
     -1
 }
 
-// The first numbers of a list.
-fn first(list: &[u32], n: usize) -> &[u32]
-    ensures { λ r. ⌜ now r ≡ take n (now (list .entry)) ⌝ }
-{
-    if list.len() < n {
-        return list;
-    }
-    &list[..n]
-}
-
-// The first bytes of a list.
-fn first_bytes(list: &[u8], n: usize) -> &[u8]
-    ensures { λ r. ⌜ now r ≡ take n (now (list .entry)) ⌝ }
-{
-    if list.len() < n {
-        return list;
-    }
-    &list[..n]
-}
-
 // Each of these prints an answer and says how many bytes it is; no contract can say what is printed. What is too long for the text is not printed, and 0.
 pub fn print_row(row: &[i64]) -> usize
     ensures { λ r. ⌜ r ≡ printed (rowRoom (now (row .entry))) (rowText (now (row .entry))) 374 ⌝ }
@@ -138,22 +121,26 @@ pub fn print_refused(r: Refusal, accepted: usize) -> usize
     n
 }
 
-// The first n words of a list; there is text for 16,384.
+// The first n words of a list.
 pub fn print_words(words: &[u32], n: usize) -> usize
-    ensures { λ r. ⌜ r ≡ printed (wordsRoom (take n (now (words .entry)))) (wordsText (take n (now (words .entry)))) 344091 ⌝ }
+    ensures { λ r. ⌜ r ≡ wordsPrinted (take n (now (words .entry))) ⌝ }
 {
-    let mut text = [0u8; 344_091];
-    let k = printed::show_words(first(words, n), &mut text);
+    let mut text = [0u8; Text::WORDS];
+    let k = printed::show_words(first_words(words, n), &mut text);
     io::write_all(libc::STDOUT_FILENO, first_bytes(&text, k));
     k
 }
 
-// The first n outcomes and the first used bytes of a tile; there is as much text as the program `tiles` has.
+// The first n outcomes and the first used bytes of a tile.
 pub fn print_tile(outcomes: &[u32], n: usize, bytes: &[u8], used: usize) -> usize
-    ensures { λ r. ⌜ r ≡ printed (tileRoom (take n (now (outcomes .entry))) (take used (now (bytes .entry)))) (tileText (take n (now (outcomes .entry))) (take used (now (bytes .entry)))) 450000 ⌝ }
+    ensures { λ r. ⌜ r ≡ tilePrinted (take n (now (outcomes .entry))) (take used (now (bytes .entry))) ⌝ }
 {
-    let mut text = [0u8; 450_000];
-    let k = printed::show_tile(first(outcomes, n), first_bytes(bytes, used), &mut text);
+    let mut text = [0u8; Text::TILE];
+    let k = printed::show_tile(
+        first_words(outcomes, n),
+        first_bytes(bytes, used),
+        &mut text,
+    );
     io::write_all(libc::STDOUT_FILENO, first_bytes(&text, k));
     k
 }

@@ -1,13 +1,12 @@
 // Replays tile scripts: prints for each script what the program `tiles` prints for it, its outcomes and the tile's bytes; then the key and value index of
 // every accepted tag on a line.
 use replay::number;
-use script::Next;
 use script::Op;
 use script::Part;
 use tile::Tile;
 use tile_run::Ran;
+use tile_run::Step;
 use tile_run::hand::Hand;
-use tile_run::performing::Performed;
 use tile_run::performing::Work;
 
 // The last two feature words of the layer at hand: those that a tag has added.
@@ -29,18 +28,11 @@ fn print_tag(h: Hand, features: &[u32]) {
     }
 }
 
-// What an operation leaves. A tag's indices are printed.
-fn after(op: Op, p: Performed, features: &[u32]) -> Work {
-    match p {
-        Performed::Refused(_, w) => w,
-        Performed::Done(w) => {
-            let h = w.hand;
-            match op {
-                Op::Tag(_, _) => print_tag(h, features),
-                _ => (),
-            }
-            w
-        }
+// An accepted tag's indices.
+fn print_step(op: u32, outcome: u32, w: Work, features: &[u32]) {
+    if (op == Op::TAG) & (outcome == 0) {
+        let hand = w.hand;
+        print_tag(hand, features);
     }
 }
 
@@ -87,23 +79,23 @@ fn print_tags(bytes: &[u8], numbers: &[u32]) {
     };
     let mut at = 1;
     while at < numbers.len() {
-        match script::read_op(numbers, at) {
-            Next::Bad => return,
-            Next::Is(op, next) => {
-                let p = tile_run::performing::perform(
-                    op,
-                    w,
-                    bytes,
-                    numbers,
-                    &mut keys,
-                    &mut values,
-                    &mut texts,
-                    &mut features,
-                    &mut names,
-                    &mut out,
-                );
-                w = after(op, p, &features);
-                at = next;
+        match tile_run::advance(
+            at,
+            w,
+            bytes,
+            numbers,
+            &mut keys,
+            &mut values,
+            &mut texts,
+            &mut features,
+            &mut names,
+            &mut out,
+        ) {
+            Step::Bad => return,
+            Step::Is(outcome, next, place) => {
+                print_step(number(numbers, at), outcome, next, &features);
+                w = next;
+                at = place;
             }
         }
     }

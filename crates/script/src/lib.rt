@@ -29,6 +29,23 @@ pub enum Value {
     Bool(bool),
 }
 
+// The kinds of values, by the script's numbers.
+impl Value {
+    pub const TEXT: u32 = 1;
+
+    pub const FLOAT: u32 = 2;
+
+    pub const DOUBLE: u32 = 3;
+
+    pub const INT: u32 = 4;
+
+    pub const UINT: u32 = 5;
+
+    pub const SINT: u32 = 6;
+
+    pub const BOOL: u32 = 7;
+}
+
 // One operation.
 pub enum Op {
     Create(u32, Part),
@@ -38,6 +55,23 @@ pub enum Op {
     Close,
     Abandon,
     Add,
+}
+
+// The operations, by the script's numbers.
+impl Op {
+    pub const CREATE: u32 = 1;
+
+    pub const OPEN: u32 = 2;
+
+    pub const SET_ID: u32 = 3;
+
+    pub const TAG: u32 = 4;
+
+    pub const CLOSE: u32 = 5;
+
+    pub const ABANDON: u32 = 6;
+
+    pub const ADD: u32 = 7;
 }
 
 // An operation and where the next one begins, or nothing that can be read.
@@ -117,25 +151,25 @@ pub fn read_op(numbers: &[u32], at: usize) -> Next
     }
     let number = numbers[at];
     let from = at + 1;
-    if number == 1 {
+    if number == Op::CREATE {
         return read_create(numbers, from);
     }
-    if number == 2 {
+    if number == Op::OPEN {
         return read_open(numbers, from);
     }
-    if number == 3 {
+    if number == Op::SET_ID {
         return read_id(numbers, from);
     }
-    if number == 4 {
+    if number == Op::TAG {
         return read_tag(numbers, from);
     }
-    if number == 5 {
+    if number == Op::CLOSE {
         return Next::Is(Op::Close, from);
     }
-    if number == 6 {
+    if number == Op::ABANDON {
         return Next::Is(Op::Abandon, from);
     }
-    if number == 7 {
+    if number == Op::ADD {
         return Next::Is(Op::Add, from);
     }
     Next::Bad

@@ -2,7 +2,7 @@
 ghost use mathlib.Core.Path.{_≡_};
 ghost use Prim.Native.Nat.{_≤_};
 ghost use lib.ListN.{length};
-ghost use Rattle.script.specs.Script.{floatAt, longValue, longAt, boolAt, stringAt, valued};
+ghost use Rattle.script.specs.Script.{floatAt, longValue, longAt, boolAt, stringAt, content, valued};
 use crate::Next;
 use crate::Op;
 use crate::Part;
@@ -22,17 +22,17 @@ fn read_float(key: Part, numbers: &[u32], at: usize) -> Next
     Next::Is(Op::Tag(key, Value::Float(numbers[at])), at + 1)
 }
 
-// The value of a kind from 3 to 6.
+// The value of two words: a double, an int or a uint, else a sint.
 fn long_value(kind: u32, bits: u64) -> Value
     ensures { λ r. ⌜ r ≡ longValue kind bits ⌝ }
 {
-    if kind == 3 {
+    if kind == Value::DOUBLE {
         return Value::Double(bits);
     }
-    if kind == 4 {
+    if kind == Value::INT {
         return Value::Int(signed64(bits));
     }
-    if kind == 5 {
+    if kind == Value::UINT {
         return Value::Uint(bits);
     }
     Value::Sint(signed64(bits))
@@ -74,6 +74,29 @@ fn read_string(key: Part, numbers: &[u32], at: usize) -> Next
     }
 }
 
+// The content of a kind; those from double to sint have two words.
+fn read_content(key: Part, kind: u32, numbers: &[u32], at: usize) -> Next
+    requires { ⌜ at ≤ length (now numbers) ⌝ }
+    ensures { λ r. ⌜ r ≡ content key kind (now (numbers .entry)) at ⌝ }
+{
+    if kind == Value::TEXT {
+        return read_string(key, numbers, at);
+    }
+    if kind == Value::FLOAT {
+        return read_float(key, numbers, at);
+    }
+    if kind == Value::BOOL {
+        return read_bool(key, numbers, at);
+    }
+    if kind < Value::DOUBLE {
+        return Next::Bad;
+    }
+    if Value::SINT < kind {
+        return Next::Bad;
+    }
+    read_long(key, kind, numbers, at)
+}
+
 // A value: its kind, then its content.
 pub(crate) fn read_value(key: Part, numbers: &[u32], at: usize) -> Next
     ensures { λ r. ⌜ r ≡ valued key (now (numbers .entry)) at ⌝ }
@@ -81,21 +104,5 @@ pub(crate) fn read_value(key: Part, numbers: &[u32], at: usize) -> Next
     if numbers.len() <= at {
         return Next::Bad;
     }
-    let kind = numbers[at];
-    if kind == 1 {
-        return read_string(key, numbers, at + 1);
-    }
-    if kind == 2 {
-        return read_float(key, numbers, at + 1);
-    }
-    if kind == 7 {
-        return read_bool(key, numbers, at + 1);
-    }
-    if kind < 3 {
-        return Next::Bad;
-    }
-    if 6 < kind {
-        return Next::Bad;
-    }
-    read_long(key, kind, numbers, at + 1)
+    read_content(key, numbers[at], numbers, at + 1)
 }

@@ -5,7 +5,7 @@ use Prim.Native.Nat.{ℕ, zero, suc, _+_, _<_, _≤_}
 use native.Mathlib.Omega.{arith}
 use borrow.Author.Tests.{lt-ltb, le-ltb, eq-eqb, ne-eqb}
 use lib.ListN.{length, getD, set, length-set, length-append}
-use Rattle.promise.specs.Answers.{Gives}
+use Rattle.promise.specs.Answers.{Written, Gives}
 use Rattle.promise.specs.Laid.{lay}
 use Rattle.promise.proofs.Laying.{lay-nothing, lay-next, lay-one}
 use Rattle.refusal.specs.declared.Refusal.{Refusal}
@@ -25,6 +25,7 @@ use Rattle.tile_run.specs.declared.performing.Work.{Work}
 use Rattle.tile_run.specs.declared.performing.Performed.{Performed}
 use Rattle.tile_run.specs.declared.performing.Performed.the-variants.{Refused as NotDone}
 use Rattle.tile_run.specs.Operations.{Lists, saidPerformed, performed}
+use Rattle.tile_run.specs.declared.Step.{Step}
 use Rattle.tile_run.specs.declared.Step.the-variants.{Is as StepIs, Bad as StepBad}
 use Rattle.tile_run.specs.declared.Ran.{Ran}
 use Rattle.tile_run.specs.declared.Ran.the-variants.{Done, Refused}
@@ -45,6 +46,10 @@ module _ (bytes ns : List ℕ) (at : ℕ) (w : Work) (m : Lists) (r : Next) (e :
         answer = λ i. StepIs ((a ∙ ap (λ (x : Said Work). x .number) (g .answer)) i) ((b ∙ ap (λ (x : Said Work). x .values) (g .answer)) i) next;
         memory = g .memory;
       })
+
+-- an answer taken apart is the answer that was given
+parted : {w : Written Step Lists} {l : Lists} {r s : Step} → r ≡ s → Gives w r l → Gives w s l
+parted e g = record { answer = sym e ∙ g .answer; memory = g .memory }
 
 -- what a step tells: nothing could be read, or an operation was performed
 module _ (bytes ns : List ℕ) (at : ℕ) (w : Work) (m l : Lists) where
@@ -74,8 +79,8 @@ module _ (bytes ns : List ℕ) (at : ℕ) (w : Work) (m l : Lists) where
           let y : next ≡ k = cc in
           record { op = op; read = e ∙ ap (Is op) (sym y); number = cc; work = cc; memory = g .memory }
 
-  pub step-ends : (n : ℕ) (v : Work) (next : ℕ) → Gives (stepped bytes ns at w m) (StepIs n v next) l → Reaches ns (at + 1) next
-  step-ends n v next g = let t = told-is n v next g in operation-ends ns at (t .op) next (t .read)
+  pub step-ends : (n : ℕ) (v : Work) (next : ℕ) {r : Step} → r ≡ StepIs n v next → Gives (stepped bytes ns at w m) r l → Reaches ns (at + 1) next
+  step-ends n v next e g = let t = told-is n v next (parted e g) in operation-ends ns at (t .op) next (t .read)
 
 pub refused-number : (p : Performed) (r : Refusal) (w : Work) → p ≡ NotDone r w → numberOf r ≡ saidPerformed p .number
 refused-number p r w e = rw e
@@ -118,9 +123,10 @@ module _ {bytes ns os₀ : List ℕ} {w₀ : Work} {m₀ : Lists} where
     onto-next : (x : ℕ) (d : Course) → onto (c .done) (before x d) ≡ onto (c .done ++ (x ∷ [])) d
     onto-next x d = λ i. record { outcomes = sym (append-assoc (c .done) (x ∷ []) (d .outcomes)) i; work = d .work; lists = d .lists }
 
-    pub run-turn : (l : Lists) (x : ℕ) (v : Work) (next : ℕ) → at < length ns → Gives (stepped bytes ns at w m) (StepIs x v next) l → Running bytes ns os₀ (set os n x) w₀ m₀ v l next (n + 1)
-    run-turn l x v next h g =
-        let t = told-is bytes ns at w m l x v next g in
+    pub run-turn : (l : Lists) (x : ℕ) (v : Work) (next : ℕ) → at < length ns → {r : Step} → r ≡ StepIs x v next → Gives (stepped bytes ns at w m) r l
+        → Running bytes ns os₀ (set os n x) w₀ m₀ v l next (n + 1)
+    run-turn l x v next h e g =
+        let t = told-is bytes ns at w m l x v next (parted e g) in
         let (k, s, r) = turn (c .turns) (t .op) next (c .enough) h (t .read) in
         let q = operation-ends ns at (t .op) next (t .read) in
         let p = performed bytes ns (t .op) w m in
@@ -150,10 +156,10 @@ module _ {bytes ns os₀ : List ℕ} {w₀ : Work} {m₀ : Lists} where
     comes : (d : Course) (a : Said Counts) (b : RunLists) → ranFrom (length ns) bytes ns 1 w₀ m₀ ≡ d → Gives (courseIn d os₀) a b → Gives (courseIn (ranFrom (length ns) bytes ns 1 w₀ m₀) os₀) a b
     comes d a b e g = subst (λ (x : Course). Gives (courseIn x os₀) a b) (sym e) g
 
-    pub run-bad : (l : Lists) (u : ℕ) → at < length ns → Gives (stepped bytes ns at w m) StepBad l → u ≡ w .tile .used
+    pub run-bad : (l : Lists) (u : ℕ) → at < length ns → {r : Step} → r ≡ StepBad → Gives (stepped bytes ns at w m) r l → u ≡ w .tile .used
         → Gives (courseIn (ranFrom (length ns) bytes ns 1 w₀ m₀) os₀) (accepted (counts (n + 1) u)) (runLists (set os n 1) l)
-    run-bad l u h g f =
-        let (e, q) = told-bad bytes ns at w m l g in
+    run-bad l u h b g f =
+        let (e, q) = told-bad bytes ns at w m l (parted b g) in
         let z : n + 1 ≡ length (c .done ++ (1 ∷ [])) = simp length-append (omega (arith, c .counted)) in
         comes (onto (c .done) (stopped w m)) _ _ (c .rest ∙ ap (onto (c .done)) (halted (c .turns) (c .enough) h e))
         (record { answer = λ i. accepted (counts (z i) (f i)); memory = λ i. runLists (stored 1 i) (q i) })

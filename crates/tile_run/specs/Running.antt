@@ -1,5 +1,5 @@
--- oracle/README.md, "Tile script": "First comes the tile's extent, then operations". "A script cut short, too long or with an unknown operation prints `refused 1`
--- for what cannot be read and stops there, the bytes so far following."
+-- oracle/README.md, "Tile script": "First comes the tile's extent, then operations". "A script cut short, too long or with an unknown operation
+-- prints `refused 1` for what cannot be read and stops there, the bytes so far following."
 use Prim.Native.Nat.{ℕ, zero, suc}
 use mathlib.Core.Bool.{cond}
 use mathlib.Core.List.{List, [], _∷_}
@@ -54,10 +54,13 @@ ranFrom zero bytes ns at w m = ended w m
 ranFrom (suc turns) bytes ns at w m =
     cond (ltb at (length ns)) (reads (operation ns at) w m (λ op next. goes (performed bytes ns op w m) (λ v l. ranFrom turns bytes ns next v l))) (ended w m)
 
--- ---- the step that the code takes at a place
+-- ---- the step that is taken at a place: an operation performed, and the next place
+abbrev pub stepTo : ℕ → Written (Said Work) Lists → Written Step Lists
+stepTo next p = record { answer = StepIs (p .answer .number) (p .answer .values) next; memory = p .memory }
+
 abbrev pub steppedBy : Next → List ℕ → List ℕ → Work → Lists → Written Step Lists
 steppedBy Bad bytes ns w m = kept StepBad m
-steppedBy (Is op next) bytes ns w m = record { answer = StepIs (performed bytes ns op w m .answer .number) (performed bytes ns op w m .answer .values) next; memory = performed bytes ns op w m .memory }
+steppedBy (Is op next) bytes ns w m = stepTo next (performed bytes ns op w m)
 
 unfoldable pub stepped : List ℕ → List ℕ → ℕ → Work → Lists → Written Step Lists
 stepped bytes ns at w m = steppedBy (operation ns at) bytes ns w m

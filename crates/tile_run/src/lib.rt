@@ -1,7 +1,7 @@
 // A whole tile script, run operation after operation. Its outcomes, 0 or a refusal's number, go into a lent list; the tile's bytes are the used part of
 // the last list.
 pub mod hand; // what a script has at hand, and a layer's calls on it
-pub mod performing; // one operation
+pub mod performing; // what a script works on, and one operation
 
 ghost use mathlib.Core.Path.{_≡_};
 ghost use Prim.Native.Nat.{_<_};
@@ -16,7 +16,7 @@ use script::Next;
 use tile::Tile;
 
 // An outcome, what there is after it and where the next operation begins; or nothing that can be read.
-enum Step {
+pub enum Step {
     Is(u32, Work, usize),
     Bad,
 }
@@ -46,7 +46,7 @@ fn after(p: Performed) -> Work
 }
 
 // The operation that begins at a place, read and performed.
-fn advance(
+pub fn advance(
     at: usize,
     w: Work,
     bytes: &[u8],

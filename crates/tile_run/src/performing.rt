@@ -24,7 +24,7 @@ pub struct Work {
 }
 
 // What an operation leaves, or the refusal and what it was given.
-pub enum Performed {
+pub(crate) enum Performed {
     Done(Work),
     Refused(Refusal, Work),
 }
@@ -91,7 +91,7 @@ fn add(
 }
 
 // Performs one operation.
-pub fn perform(
+pub(crate) fn perform(
     op: Op,
     w: Work,
     bytes: &[u8],

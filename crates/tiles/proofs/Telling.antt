@@ -1,5 +1,5 @@
 -- What each way through `answer` tells, over plain lists: the text of the parts' answers, at the front of the lent text.
-use mathlib.Core.Path.{_≡_, refl, subst}
+use mathlib.Core.Path.{_≡_, refl, sym, _∙_, subst}
 use mathlib.Core.Bool.{Bool, true, false}
 use mathlib.Core.List.{List, [], _∷_}
 use Prim.Native.Nat.{ℕ, _≤_}
@@ -18,7 +18,7 @@ use Rattle.printed.specs.Tiles.{tileText, tileRoom}
 use Rattle.printed.proofs.Columns.{told}
 use Rattle.printed.proofs.Rows.{tile-short}
 use Rattle.tile_run.specs.Operations.{Lists}
-use Rattle.tile_run.specs.Running.{RunLists, counts, ranScript}
+use Rattle.tile_run.specs.Running.{RunLists, Counts, counts, ranScript}
 use Rattle.tiles.specs.Program.{noText, tileShown, fileText}
 
 not-zero : (x : Refusal) → numberOf x ≡ 0 → ⊥
@@ -58,21 +58,35 @@ module _ (os bs text : List ℕ) (k : ℕ) (l : List ℕ) (g : Gives (shown (til
       let e = fits (leb (tileRoom os bs) (length text)) refl z in
       rw e (tile-told os bs text k l (leb-true (tileRoom os bs) (length text) e) g)
 
+-- an answer taken apart is the answer that was given
+parted : {A M : Type 0} {w : Written A M} {a b : A} {m : M} → a ≡ b → Gives w a m → Gives w b m
+parted e g = record { answer = sym e ∙ g .answer; memory = g .memory }
+
 module _ (n : Written (Said ℕ) (List ℕ)) (file os : List ℕ) (m : Lists) (text : List ℕ) (size r : ℕ) (l nums : List ℕ) (room : 56 ≤ length text) where
   -- the numbers were refused
-  pub no-numbers : (x : Refusal) → Gives n (refused x 0) nums → Gives (shown (tileRoom (numberOf x ∷ []) []) (tileText (numberOf x ∷ []) []) text) r l → Told (fileText size n file os m) r l
-  no-numbers x g k = rw (← g .answer, ne-eqb (numberOf x) 0 (not-zero x)) (no-told (numberOf x) text r l room k)
+  pub no-numbers : (x : Refusal) {a : Said ℕ} → a ≡ refused x 0 → Gives n a nums
+      → Gives (shown (tileRoom (numberOf x ∷ []) []) (tileText (numberOf x ∷ []) []) text) r l → Told (fileText size n file os m) r l
+  no-numbers x e g k = rw (← parted e g .answer, ne-eqb (numberOf x) 0 (not-zero x)) (no-told (numberOf x) text r l room k)
 
-  module _ (k : ℕ) (g : Gives n (accepted k) nums) (s : RunLists) where
+  module _ (k : ℕ) {a : Said ℕ} (e : a ≡ accepted k) (g : Gives n a nums) (s : RunLists) {ns : List ℕ} (f : ns ≡ take k nums) {b : Said Counts} where
+    -- the script that was run is the file's numbers
+    ran : Gives (ranScript file ns os m) b s → Gives (ranScript file (take k nums) os m) b s
+    ran j = subst (λ (x : List ℕ). Gives (ranScript file x os m) b s) f j
+
     -- the run was refused
-    pub no-run : (x : Refusal) → Gives (ranScript file (take k nums) os m) (refused x (counts 0 0)) s → Gives (shown (tileRoom (numberOf x ∷ []) []) (tileText (numberOf x ∷ []) []) text) r l
-        → Told (fileText size n file os m) r l
-    no-run x j q = rw (← g .answer, ← g .memory, ← j .answer, ne-eqb (numberOf x) 0 (not-zero x)) (no-told (numberOf x) text r l room q)
+    pub no-run : (x : Refusal) → b ≡ refused x (counts 0 0) → Gives (ranScript file ns os m) b s
+        → Gives (shown (tileRoom (numberOf x ∷ []) []) (tileText (numberOf x ∷ []) []) text) r l → Told (fileText size n file os m) r l
+    no-run x d j q =
+        let h = parted e g in
+        rw (← h .answer, ← h .memory, ← parted d (ran j) .answer, ne-eqb (numberOf x) 0 (not-zero x)) (no-told (numberOf x) text r l room q)
 
     -- the script was run
-    pub all-run : (u v : ℕ) → Gives (ranScript file (take k nums) os m) (accepted (counts u v)) s
+    pub all-run : (u v : ℕ) → b ≡ accepted (counts u v) → Gives (ranScript file ns os m) b s
         → Told (tileShown size (take u (s .outcomes)) (take v (s .tile .tile .bytes))) r l → Told (fileText size n file os m) r l
-    all-run u v j q = rw (← g .answer, ← g .memory, ← j .answer, ← j .memory) q
+    all-run u v d j q =
+        let h = parted e g in
+        let i = parted d (ran j) in
+        rw (← h .answer, ← h .memory, ← i .answer, ← i .memory) q
 
 -- outcomes and bytes that are those of the definition are shown as the definition shows them
 pub as-shown : (os os′ bs bs′ text : List ℕ) (r : ℕ) (l : List ℕ) → os ≡ os′ → bs ≡ bs′ → Gives (shown (tileRoom os bs) (tileText os bs) text) r l → Gives (shown (tileRoom os′ bs′) (tileText os′ bs′) text) r l

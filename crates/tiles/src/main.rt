@@ -1,43 +1,21 @@
 // The program: takes one tile script from standard input and prints its outcomes and the tile's bytes.
-ghost use mathlib.Core.Path.{_≡_};
 ghost use mathlib.Core.List.{[], _∷_};
 ghost use Prim.Native.Nat.{_≤_};
 ghost use lib.ListN.{length, take};
-ghost use Rattle.promise.specs.Answers.{Gives};
 ghost use Rattle.refusal.specs.Refusals.{numberOf};
-ghost use Rattle.printed.specs.Printed.{Told, shown};
+ghost use Rattle.printed.specs.Lending.{Shows, Tells};
 ghost use Rattle.printed.specs.Tiles.{tileText, tileRoom};
-ghost use Rattle.layer.specs.Held.{mem};
-ghost use Rattle.tile.specs.Tiles.{lists as tileLists};
-ghost use Rattle.tile_run.specs.Operations.{lists};
-ghost use Rattle.tiles.specs.Program.{tileShown, printed};
+ghost use Rattle.tiles.specs.Program.{tileShown, Answers};
 use number_file::Numbers;
+use printed::Text;
+use printed::first_bytes;
+use printed::first_words;
 use refusal::Refusal;
 use tile_run::Ran;
 
-// The first numbers of a list, or all of them where it has no more.
-fn first(list: &[u32], n: usize) -> &[u32]
-    ensures { λ r. ⌜ now r ≡ take n (now (list .entry)) ⌝ }
-{
-    if list.len() < n {
-        return list;
-    }
-    &list[..n]
-}
-
-// The first bytes of a list, or all of them where it has no more.
-fn first_bytes(list: &[u8], n: usize) -> &[u8]
-    ensures { λ r. ⌜ now r ≡ take n (now (list .entry)) ⌝ }
-{
-    if list.len() < n {
-        return list;
-    }
-    &list[..n]
-}
-
 // A refusal of the whole script, shown: one outcome and no bytes.
 fn show_refusal(r: Refusal, text: &mut [u8]) -> usize
-    ensures { λ k. ⌜ Gives (shown (tileRoom (numberOf r ∷ []) []) (tileText (numberOf r ∷ []) []) (now (text .entry))) k (now (text .exit)) ⌝ }
+    ensures { λ k. ⌜ Shows (tileRoom (numberOf r ∷ []) []) (tileText (numberOf r ∷ []) []) k text ⌝ }
 {
     let outcomes = [refusal::number(r)];
     printed::show_tile(&outcomes, b"", text)
@@ -46,9 +24,9 @@ fn show_refusal(r: Refusal, text: &mut [u8]) -> usize
 // So many outcomes and bytes, shown; ROOM where the text is too short for them.
 fn show(outcomes: &[u32], n: usize, out: &[u8], used: usize, text: &mut [u8]) -> usize
     requires { ⌜ 56 ≤ length (now text) ⌝ }
-    ensures { λ r. ⌜ Told (tileShown (length (now (text .entry))) (take n (now (outcomes .entry))) (take used (now (out .entry)))) r (now (text .exit)) ⌝ }
+    ensures { λ r. ⌜ Tells (tileShown (length (now (text .entry))) (take n (now (outcomes .entry))) (take used (now (out .entry)))) r text ⌝ }
 {
-    let os = first(outcomes, n);
+    let os = first_words(outcomes, n);
     let bs = first_bytes(out, used);
     let k = printed::show_tile(os, bs, text);
     if k == 0 {
@@ -71,12 +49,12 @@ fn answer(
     text: &mut [u8],
 ) -> usize
     requires { ⌜ 56 ≤ length (now text) ⌝ }
-    ensures { λ r. ⌜ Told (printed (length (now (text .entry))) (now (file .entry)) (now (numbers .entry)) (now (outcomes .entry)) (lists (mem (now (keys .entry)) (now (values .entry)) (now (texts .entry)) (now (features .entry))) (tileLists (now (names .entry)) (now (out .entry))))) r (now (text .exit)) ⌝ }
+    ensures { λ r. ⌜ Answers r file numbers outcomes keys values texts features names out text ⌝ }
 {
     match number_file::read_numbers(file, numbers) {
         Numbers::Refused(r) => show_refusal(r, text),
         Numbers::Read(n) => {
-            let script = first(numbers, n);
+            let script = first_words(numbers, n);
             match tile_run::run(
                 file,
                 script,
@@ -112,7 +90,7 @@ fn main() {
     let mut features = [0u32; 32768];
     let mut names = [0u32; 8192];
     let mut out = [0u8; 131_072];
-    let mut text = [0u8; 450_000];
+    let mut text = [0u8; Text::TILE];
     let k = answer(
         &file[..n],
         &mut numbers,

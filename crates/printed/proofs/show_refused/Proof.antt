@@ -8,9 +8,16 @@ use Rattle.printed.proofs.Columns.{not-shown, refused-shown}
 use Rattle.printed.proofs.show_refused.Statement.{statement}
 use Rattle.printed.proofs.show_refused.Tie as tie
 
+-- the places on the way
+abbrev start : tie.After-append → tie.Start
+start c = c .before .before .before .before .before
+
+abbrev numbered : tie.After-append2 → tie.After-append-number
+numbered c = c .before .before .before .before .before
+
 -- the number and its space end by place 29
 ends : (n : tie.After-append-number) → n .append-number .result ≤ 29
-ends n = omega (arith, n .append-number .ensures .answer, ended-short (n .before .before .before .before .before .before .before .before .before .args .number) space)
+ends n = omega (arith, n .append-number .ensures .answer, ended-short (start (n .before .before .before .before) .args .number) space)
 
 returns : tie.Need-returns
 returns c = let s = c .before .before in not-shown refusedRoom (refusedText (s .args .number) (s .args .points)) (s .args .text .now) (omega arith)
@@ -31,10 +38,10 @@ append-requires-2 : tie.Need-append-requires-2
 append-requires-2 c κs = omega (arith, ends (c .before .before .before .before))
 
 add-append-number : tie.Need-add-append-number
-add-append-number c = omega (arith, ends (c .before .before .before .before .before .before .before))
+add-append-number c = omega (arith, ends (numbered (c .before .before)))
 
 append-number-requires-2 : tie.Need-append-number-requires-2
-append-number-requires-2 c κs = omega (arith, ends (c .before .before .before .before .before .before .before .before))
+append-number-requires-2 c κs = omega (arith, ends (numbered (c .before .before .before)))
 
 same-length : tie.Need-same-length
 same-length c = search needs
@@ -43,9 +50,9 @@ returns-2 : tie.Need-returns-2
 returns-2 c =
     let k = c .before .before in
     let a2 = k .before .before .before .before in
-    let n = a2 .before .before .before .before .before in
+    let n = numbered a2 in
     let a = n .before .before .before .before in
-    let s = a .before .before .before .before .before in
+    let s = start a in
     refused-shown (s .args .text .now) _ _ _ _ _ _ (s .args .number) (s .args .points) (omega arith) (a .append .ensures) (n .append-number .ensures) (a2 .append2 .ensures) (k .append-number2 .ensures)
 
 pub show-refused-spec : {M : Type 1} → statement M

@@ -11,6 +11,13 @@ use borrow.Author.Needs.{needs}
 use Rattle.printed.proofs.show_tile.Statement.{statement}
 use Rattle.printed.proofs.show_tile.Tie as tie
 
+-- the places on the way
+abbrev start : tie.Else3 → tie.Start
+start c = c .before .before .before .before .before .before
+
+abbrev listed : tie.After-append → tie.After-append-outcomes
+listed c = c .before .before .before .before .before
+
 returns : tie.Need-returns
 returns c = let s = c .before .before .before .before in not-shown (tileRoom (s .args .outcomes .now) (s .args .bytes .now)) (tileText (s .args .outcomes .now) (s .args .bytes .now)) (s .args .text .now) (omega arith)
 
@@ -36,26 +43,35 @@ slice-aggregate-append : tie.Need-slice-aggregate-append
 slice-aggregate-append c = search needs
 
 -- the outcomes end where their room does at the latest
-ends : (o : tie.After-append-outcomes) → o .append-outcomes .result ≤ 29 * length (o .before .before .before .before .before .before .before .before .args .outcomes .now)
-ends o = omega (arith, o .append-outcomes .ensures .answer, outcomes-long (o .before .before .before .before .before .before .before .before .args .outcomes .now))
+ends : (o : tie.After-append-outcomes) → o .append-outcomes .result ≤ 29 * length (start (o .before .before) .args .outcomes .now)
+ends o = omega (arith, o .append-outcomes .ensures .answer, outcomes-long (start (o .before .before) .args .outcomes .now))
 
 append-requires : tie.Need-append-requires
 append-requires c κs = omega (arith, ends (c .before .before .before .before), c .before .before .before .before .before .before .if3 .left)
 
 add-append-number : tie.Need-add-append-number
-add-append-number c = omega (arith, ends (c .before .before .before .before .before .before .before))
+add-append-number c = omega (arith, ends (listed (c .before .before)))
 
 append-number-requires : tie.Need-append-number-requires
-append-number-requires c κs = omega (arith, ends (c .before .before .before .before .before .before .before .before))
+append-number-requires c κs = omega (arith, ends (listed (c .before .before .before)))
 
 append-hex-requires : tie.Need-append-hex-requires
-append-hex-requires c κs = let n = c .before .before .before in omega (arith, ends (n .before .before .before .before .before .before .before .before .before), n .append-number .ensures .answer, ended-short (length (n .before .before .before .before .before .before .before .before .before .before .before .before .before .before .before .before .before .args .bytes .now)) newline)
+append-hex-requires c κs =
+    let n = c .before .before .before in
+    let o = listed (n .before .before .before .before) in
+    omega (arith, ends o, n .append-number .ensures .answer, ended-short (length (start (o .before .before) .args .bytes .now)) newline)
 
 same-length : tie.Need-same-length
 same-length c = search needs
 
 returns-4 : tie.Need-returns-4
-returns-4 c = let x = c .before .before in let n = x .before .before .before .before in let a = n .before .before .before .before in let o = a .before .before .before .before .before in let s = o .before .before .before .before .before .before .before .before in tile-shown (s .args .text .now) _ _ _ _ _ _ _ (s .args .outcomes .now) (s .args .bytes .now) (omega arith) (o .append-outcomes .ensures) (a .append .ensures) (n .append-number .ensures) (x .append-hex .ensures)
+returns-4 c =
+    let x = c .before .before in
+    let n = x .before .before .before .before in
+    let a = n .before .before .before .before in
+    let o = listed a in
+    let s = start (o .before .before) in
+    tile-shown (s .args .text .now) _ _ _ _ _ _ _ (s .args .outcomes .now) (s .args .bytes .now) (omega arith) (o .append-outcomes .ensures) (a .append .ensures) (n .append-number .ensures) (x .append-hex .ensures)
 
 pub show-tile-spec : {M : Type 1} → statement M
 show-tile-spec =

@@ -8,6 +8,10 @@ use Rattle.printed.proofs.Columns.{not-shown, words-shown}
 use Rattle.printed.proofs.show_words.Statement.{statement}
 use Rattle.printed.proofs.show_words.Tie as tie
 
+-- the places on the way
+abbrev start : tie.After-append-arg2 → tie.Start
+start c = c .before .before .before .before .before .before
+
 returns : tie.Need-returns
 returns c = not-shown (wordsRoom (c .before .before .before .args .words .now)) (wordsText (c .before .before .before .args .words .now)) (c .before .before .before .args .text .now) (omega arith)
 
@@ -27,7 +31,9 @@ append-number-requires : tie.Need-append-number-requires
 append-number-requires c κs = search needs
 
 append-words-requires : tie.Need-append-words-requires
-append-words-requires c κs = omega (arith, c .before .before .before .append-number .ensures .answer, ended-short (length (c .before .before .before .before .before .before .before .before .before .before .before .before .before .before .args .words .now)) newline)
+append-words-requires c κs =
+    let n = c .before .before .before in
+    omega (arith, n .append-number .ensures .answer, ended-short (length (start (n .before .before .before .before .before) .args .words .now)) newline)
 
 same-length : tie.Need-same-length
 same-length c = search needs
@@ -37,7 +43,7 @@ returns-3 c =
     let w = c .before .before in
     let n = w .before .before .before .before in
     let a = n .before .before .before .before in
-    let s = a .before .before .before .before .before .before .before in
+    let s = start (a .before) in
     words-shown (s .args .text .now) _ _ _ _ _ (s .args .words .now) (omega arith) (a .append .ensures) (n .append-number .ensures) (w .append-words .ensures)
 
 pub show-words-spec : {M : Type 1} → statement M

@@ -10,6 +10,10 @@ use Rattle.read_words.proofs.Files.{on, off}
 use Rattle.read_words.proofs.read_file.Statement.{statement}
 use Rattle.read_words.proofs.read_file.Tie as tie
 
+-- the place on the way
+abbrev start : tie.After-read-numbers → tie.Start
+start c = c .before .before .before .before
+
 read-numbers-requires : tie.Need-read-numbers-requires
 read-numbers-requires c κs = search needs
 
@@ -17,7 +21,7 @@ enum-known-n : tie.Need-enum-known-n
 enum-known-n c = search needs
 
 -- the numbers that were read, as a count within the buffer
-within : (c : tie.After-known-told) → c .before .n .given .0 .0 ≤ length (c .before .before .before .before .before .before .before .before .before .args .words .now)
+within : (c : tie.After-known-told) → c .before .n .given .0 .0 ≤ length (start (c .before .before .before .before .before) .args .words .now)
 within c = read-within _ _ _ _ (rw (c .before .n .given .1) at (c .before .before .before .before .before .read-numbers .ensures))
 
 slice-reshare-prefix-decode : tie.Need-slice-reshare-prefix-decode

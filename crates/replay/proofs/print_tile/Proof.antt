@@ -1,13 +1,14 @@
 -- What the text shows is printed.
 use Prim.Native.Nat.{ℕ}
 use lib.ListN.{replicate, length-replicate}
+use Rattle.printed.specs.Tiles.{tileLength}
 use Rattle.replay.proofs.Parts.{tile-count}
 use borrow.Author.Needs.{needs}
 use Rattle.replay.proofs.print_tile.Statement.{statement}
 use Rattle.replay.proofs.print_tile.Tie as tie
 
-first-requires : tie.Need-first-requires
-first-requires c κs = search needs
+first-words-requires : tie.Need-first-words-requires
+first-words-requires c κs = search needs
 
 first-bytes-requires : tie.Need-first-bytes-requires
 first-bytes-requires c κs = search needs
@@ -28,13 +29,13 @@ write-all-requires : tie.Need-write-all-requires
 write-all-requires c κs = search needs
 
 returns : tie.Need-returns
-returns c = let o = c .before .before .before .before in let b = o .before .before in tile-count (replicate 450000 0) 450000 _ _ _ _ (o .show-tile .ensures) (b .before .first .ensures) (b .first-bytes .ensures) (length-replicate {A = ℕ} 450000 0)
+returns c = let o = c .before .before .before .before in let b = o .before .before in tile-count (replicate tileLength 0) tileLength _ _ _ _ (o .show-tile .ensures) (b .before .first-words .ensures) (b .first-bytes .ensures) (length-replicate {A = ℕ} tileLength 0)
 
 pub print-tile-spec : {M : Type 1} → statement M
 print-tile-spec =
     tie.close
     (tie.spec
-    first-requires
+    first-words-requires
     first-bytes-requires
     slice-aggregate-show-tile
     show-tile-requires

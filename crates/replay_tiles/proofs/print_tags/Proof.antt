@@ -2,9 +2,9 @@
 use borrow.Author.Needs.{needs}
 use native.Mathlib.Omega.{arith}
 use Prim.Native.Nat.{_-_}
-use mathlib.Core.Path.{_≡_, sym, _∙_}
+use mathlib.Core.Path.{_≡_}
 use lib.ListN.{length}
-use Rattle.script.proofs.Ends.{operation-ends}
+use Rattle.tile_run.proofs.Courses.{step-ends}
 use Rattle.replay_tiles.proofs.print_tags.Statement.{statement}
 use Rattle.replay_tiles.proofs.print_tags.Tie as tie
 
@@ -13,7 +13,8 @@ Inv-loop bytes numbers keys₀ values₀ texts₀ features₀ names₀ out₀ w�
     (length keys ≡ 8192) × (length values ≡ 12288) × (length texts ≡ 65536) × (length features ≡ 32768) × (length names ≡ 8192) × (length out ≡ 131072)
 
 abbrev μ-loop : tie.MeasureT-loop
-μ-loop bytes numbers keys₀ values₀ texts₀ features₀ names₀ out₀ w₀ at₀ keys values texts features names out w at = length numbers - at
+μ-loop bytes numbers keys₀ values₀ texts₀ features₀ names₀ out₀ w₀ at₀ keys values texts features names out w at =
+    length numbers - at
 
 number-requires : tie.Need-number-requires Inv-loop μ-loop
 number-requires c κs = search needs
@@ -24,8 +25,26 @@ new-requires c κs = search needs
 loop-holds : tie.Need-loop-holds Inv-loop μ-loop
 loop-holds c = search needs
 
-read-op-requires : tie.Need-read-op-requires Inv-loop μ-loop
-read-op-requires c κs = search needs
+slice-aggregate-advance : tie.Need-slice-aggregate-advance Inv-loop μ-loop
+slice-aggregate-advance c = search needs
+
+slice-aggregate-advance-2 : tie.Need-slice-aggregate-advance-2 Inv-loop μ-loop
+slice-aggregate-advance-2 c = search needs
+
+slice-aggregate-advance-3 : tie.Need-slice-aggregate-advance-3 Inv-loop μ-loop
+slice-aggregate-advance-3 c = search needs
+
+slice-aggregate-advance-4 : tie.Need-slice-aggregate-advance-4 Inv-loop μ-loop
+slice-aggregate-advance-4 c = search needs
+
+slice-aggregate-advance-5 : tie.Need-slice-aggregate-advance-5 Inv-loop μ-loop
+slice-aggregate-advance-5 c = search needs
+
+slice-aggregate-advance-6 : tie.Need-slice-aggregate-advance-6 Inv-loop μ-loop
+slice-aggregate-advance-6 c = search needs
+
+advance-requires : tie.Need-advance-requires Inv-loop μ-loop
+advance-requires c κs = search needs
 
 enum-told : tie.Need-enum-told Inv-loop μ-loop
 enum-told c = search needs
@@ -33,42 +52,25 @@ enum-told c = search needs
 returns : tie.Need-returns Inv-loop μ-loop
 returns c = search needs
 
-enum-known-op : tie.Need-enum-known-op Inv-loop μ-loop
-enum-known-op c = search needs
+enum-known-outcome : tie.Need-enum-known-outcome Inv-loop μ-loop
+enum-known-outcome c = search needs
 
-slice-aggregate-perform : tie.Need-slice-aggregate-perform Inv-loop μ-loop
-slice-aggregate-perform c = search needs
+number-requires-2 : tie.Need-number-requires-2 Inv-loop μ-loop
+number-requires-2 c κs = search needs
 
-slice-aggregate-perform-2 : tie.Need-slice-aggregate-perform-2 Inv-loop μ-loop
-slice-aggregate-perform-2 c = search needs
+slice-aggregate-print-step : tie.Need-slice-aggregate-print-step Inv-loop μ-loop
+slice-aggregate-print-step c = search needs
 
-slice-aggregate-perform-3 : tie.Need-slice-aggregate-perform-3 Inv-loop μ-loop
-slice-aggregate-perform-3 c = search needs
-
-slice-aggregate-perform-4 : tie.Need-slice-aggregate-perform-4 Inv-loop μ-loop
-slice-aggregate-perform-4 c = search needs
-
-slice-aggregate-perform-5 : tie.Need-slice-aggregate-perform-5 Inv-loop μ-loop
-slice-aggregate-perform-5 c = search needs
-
-slice-aggregate-perform-6 : tie.Need-slice-aggregate-perform-6 Inv-loop μ-loop
-slice-aggregate-perform-6 c = search needs
-
-perform-requires : tie.Need-perform-requires Inv-loop μ-loop
-perform-requires c κs = search needs
-
-slice-aggregate-after : tie.Need-slice-aggregate-after Inv-loop μ-loop
-slice-aggregate-after c = search needs
-
-after-requires : tie.Need-after-requires Inv-loop μ-loop
-after-requires c κs = search needs
+print-step-requires : tie.Need-print-step-requires Inv-loop μ-loop
+print-step-requires c κs = search needs
 
 loop-less : tie.Need-loop-less Inv-loop μ-loop
 loop-less c =
-    let o = c .before .before .before .before .before .before .before .before .before .before .before .before .before .before .before .before in
-    let r = o .before .before in
-    let e = operation-ends _ _ _ _ (sym (r .read-op .ensures) ∙ o .op .given .1) in
-    omega (arith, e .on, r .before .loop-test)
+    let o = c .before .before .before .before in
+    let l = o .before .before in
+    let a = l .before .before .before .before .before .before in
+    let k = a .before .before .before .before .before .before in
+    omega (arith, step-ends _ _ _ _ _ _ _ _ _ (o .outcome .given .1) (a .advance .ensures) .on, k .before .loop-test)
 
 loop-again : tie.Need-loop-again Inv-loop μ-loop
 loop-again c = search needs
@@ -85,19 +87,19 @@ print-tags-spec =
     number-requires
     new-requires
     loop-holds
-    read-op-requires
+    slice-aggregate-advance
+    slice-aggregate-advance-2
+    slice-aggregate-advance-3
+    slice-aggregate-advance-4
+    slice-aggregate-advance-5
+    slice-aggregate-advance-6
+    advance-requires
     enum-told
     returns
-    enum-known-op
-    slice-aggregate-perform
-    slice-aggregate-perform-2
-    slice-aggregate-perform-3
-    slice-aggregate-perform-4
-    slice-aggregate-perform-5
-    slice-aggregate-perform-6
-    perform-requires
-    slice-aggregate-after
-    after-requires
+    enum-known-outcome
+    number-requires-2
+    slice-aggregate-print-step
+    print-step-requires
     loop-less
     loop-again
     returns-2)

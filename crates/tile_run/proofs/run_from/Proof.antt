@@ -19,8 +19,29 @@ Inv-loop bytes numbers outcomes₀ keys₀ values₀ texts₀ features₀ names�
 abbrev μ-loop : tie.MeasureT-loop
 μ-loop bytes numbers outcomes₀ keys₀ values₀ texts₀ features₀ names₀ out₀ w₀ at₀ n₀ outcomes keys values texts features names out w at n = length numbers - at
 
+-- the places on the way
+abbrev first-list : (tie.After-slice-known7 Inv-loop μ-loop) → (tie.After-slice-known Inv-loop μ-loop)
+first-list c = c .before .before .before .before .before .before
+
+abbrev start : (tie.After-slice-known7 Inv-loop μ-loop) → (tie.Start Inv-loop μ-loop)
+start c = first-list c .before .before .before
+
+abbrev texts-left : (tie.After-slice-known13 Inv-loop μ-loop) → (tie.After-slice-known10 Inv-loop μ-loop)
+texts-left c = c .before .before .before .before .before .before
+
+abbrev advanced : (tie.After-slice-known13 Inv-loop μ-loop) → (tie.After-advance Inv-loop μ-loop)
+advanced c = texts-left c .before .before .before .before .before .before
+
+abbrev arguments : (tie.After-advance Inv-loop μ-loop) → (tie.After-advance-arg Inv-loop μ-loop)
+arguments c = c .before .before .before .before .before .before
+
+abbrev turn : (tie.After-advance Inv-loop μ-loop) → (tie.At-loop Inv-loop μ-loop)
+turn c = arguments c .before .before
+
 loop-holds : tie.Need-loop-holds Inv-loop μ-loop
-loop-holds c = (run-start (c .before .before .before .before .before .before .before .before .before .pre .0) (c .before .before .before .before .before .before .before .before .before .pre .1), refl, refl, refl, refl, refl, refl)
+loop-holds c =
+    let s = start c in
+    (run-start (s .pre .0) (s .pre .1), refl, refl, refl, refl, refl, refl)
 
 advance-requires : tie.Need-advance-requires Inv-loop μ-loop
 advance-requires c κs = search needs
@@ -29,13 +50,19 @@ enum-told : tie.Need-enum-told Inv-loop μ-loop
 enum-told c = search needs
 
 mul-outcomes : tie.Need-mul-outcomes Inv-loop μ-loop
-mul-outcomes c = omega (arith, c .before .before .before .before .before .before .before .before .before .before .before .before .before .before .before .before .before .before .before .before .before .before .loop .inv .0 .few, c .before .before .before .before .before .before .before .before .before .before .before .before .before .before .before .before .before .before .before .before .before .before .loop .inv .0 .inside, c .before .before .before .before .before .before .before .before .before .before .before .before .before .before .before .before .before .before .before .before .before .before .loop .inv .0 .room, c .before .before .before .before .before .before .before .before .before .before .before .before .before .before .before .before .before .before .before .before .before .before .loop .inv .0 .long, c .before .before .before .before .before .before .before .before .before .before .before .before .before .before .before .before .before .before .before .before .before .before .before)
+mul-outcomes c =
+    let k = turn (advanced (c .before .before)) in
+    omega (arith, k .loop .inv .0 .few, k .loop .inv .0 .inside, k .loop .inv .0 .room, k .loop .inv .0 .long, k .before)
 
 slice-write-outcomes : tie.Need-slice-write-outcomes Inv-loop μ-loop
-slice-write-outcomes c = omega (arith, c .before .before .before .before .before .before .before .before .before .before .before .before .before .before .before .before .before .before .before .before .before .before .loop .inv .0 .few, c .before .before .before .before .before .before .before .before .before .before .before .before .before .before .before .before .before .before .before .before .before .before .loop .inv .0 .inside, c .before .before .before .before .before .before .before .before .before .before .before .before .before .before .before .before .before .before .before .before .before .before .loop .inv .0 .room, c .before .before .before .before .before .before .before .before .before .before .before .before .before .before .before .before .before .before .before .before .before .before .loop .inv .0 .long)
+slice-write-outcomes c =
+    let k = turn (advanced (c .before .before)) in
+    omega (arith, k .loop .inv .0 .few, k .loop .inv .0 .inside, k .loop .inv .0 .room, k .loop .inv .0 .long)
 
 add-t32 : tie.Need-add-t32 Inv-loop μ-loop
-add-t32 c = omega (arith, c .before .before .before .before .before .before .before .before .before .before .before .before .before .before .before .before .before .before .before .before .before .before .loop .inv .0 .few, c .before .before .before .before .before .before .before .before .before .before .before .before .before .before .before .before .before .before .before .before .before .before .loop .inv .0 .inside, c .before .before .before .before .before .before .before .before .before .before .before .before .before .before .before .before .before .before .before .before .before .before .loop .inv .0 .room, c .before .before .before .before .before .before .before .before .before .before .before .before .before .before .before .before .before .before .before .before .before .before .loop .inv .0 .long, c .before .before .before .before .before .before .before .before .before .before .before .before .before .before .before .before .before .before .before .before .before .before .before)
+add-t32 c =
+    let k = turn (advanced (c .before .before)) in
+    omega (arith, k .loop .inv .0 .few, k .loop .inv .0 .inside, k .loop .inv .0 .room, k .loop .inv .0 .long, k .before)
 
 used-requires : tie.Need-used-requires Inv-loop μ-loop
 used-requires c κs = search needs
@@ -62,25 +89,42 @@ same-length-7 : tie.Need-same-length-7 Inv-loop μ-loop
 same-length-7 c = search needs
 
 returns : tie.Need-returns Inv-loop μ-loop
-returns c = run-bad (c .before .before .before .before .before .before .before .before .before .before .before .before .before .before .before .before .before .before .before .before .before .before .before .loop .inv .0) _ _ (search needs) (rw (c .before .enum-told .given .1) at (c .before .before .before .before .before .before .before .before .before .before .before .before .before .before .before .advance .ensures)) (c .used .ensures)
+returns c =
+    run-bad (turn (advanced (c .before .before .before)) .loop .inv .0) _ _ (search needs) (c .before .enum-told .given .1) (advanced (c .before .before .before) .advance .ensures) (c .used .ensures)
 
 enum-known-number : tie.Need-enum-known-number Inv-loop μ-loop
 enum-known-number c = search needs
 
 mul-outcomes-2 : tie.Need-mul-outcomes-2 Inv-loop μ-loop
-mul-outcomes-2 c = omega (arith, c .before .before .before .before .before .before .before .before .before .before .before .before .before .before .before .before .before .before .before .before .before .before .before .loop .inv .0 .few, c .before .before .before .before .before .before .before .before .before .before .before .before .before .before .before .before .before .before .before .before .before .before .before .loop .inv .0 .inside, c .before .before .before .before .before .before .before .before .before .before .before .before .before .before .before .before .before .before .before .before .before .before .before .loop .inv .0 .room, c .before .before .before .before .before .before .before .before .before .before .before .before .before .before .before .before .before .before .before .before .before .before .before .loop .inv .0 .long, c .before .before .before .before .before .before .before .before .before .before .before .before .before .before .before .before .before .before .before .before .before .before .before .before)
+mul-outcomes-2 c =
+    let k = turn (advanced (c .before .before .before)) in
+    omega (arith, k .loop .inv .0 .few, k .loop .inv .0 .inside, k .loop .inv .0 .room, k .loop .inv .0 .long, k .before)
 
 slice-write-outcomes-2 : tie.Need-slice-write-outcomes-2 Inv-loop μ-loop
-slice-write-outcomes-2 c = omega (arith, c .before .before .before .before .before .before .before .before .before .before .before .before .before .before .before .before .before .before .before .before .before .before .before .loop .inv .0 .few, c .before .before .before .before .before .before .before .before .before .before .before .before .before .before .before .before .before .before .before .before .before .before .before .loop .inv .0 .inside, c .before .before .before .before .before .before .before .before .before .before .before .before .before .before .before .before .before .before .before .before .before .before .before .loop .inv .0 .room, c .before .before .before .before .before .before .before .before .before .before .before .before .before .before .before .before .before .before .before .before .before .before .before .loop .inv .0 .long)
+slice-write-outcomes-2 c =
+    let k = turn (advanced (c .before .before .before)) in
+    omega (arith, k .loop .inv .0 .few, k .loop .inv .0 .inside, k .loop .inv .0 .room, k .loop .inv .0 .long)
 
 add-n : tie.Need-add-n Inv-loop μ-loop
-add-n c = omega (arith, c .before .before .before .before .before .before .before .before .before .before .before .before .before .before .before .before .before .before .before .before .before .before .before .loop .inv .0 .few, c .before .before .before .before .before .before .before .before .before .before .before .before .before .before .before .before .before .before .before .before .before .before .before .loop .inv .0 .inside, c .before .before .before .before .before .before .before .before .before .before .before .before .before .before .before .before .before .before .before .before .before .before .before .loop .inv .0 .room, c .before .before .before .before .before .before .before .before .before .before .before .before .before .before .before .before .before .before .before .before .before .before .before .loop .inv .0 .long, c .before .before .before .before .before .before .before .before .before .before .before .before .before .before .before .before .before .before .before .before .before .before .before .before)
+add-n c =
+    let k = turn (advanced (c .before .before .before)) in
+    omega (arith, k .loop .inv .0 .few, k .loop .inv .0 .inside, k .loop .inv .0 .room, k .loop .inv .0 .long, k .before)
 
 loop-less : tie.Need-loop-less Inv-loop μ-loop
-loop-less c = omega (arith, step-ends _ _ _ _ _ _ _ _ _ (rw (c .before .number .given .1) at (c .before .before .before .before .before .before .before .before .before .before .before .before .before .before .before .advance .ensures)) .on, c .before .before .before .before .before .before .before .before .before .before .before .before .before .before .before .before .before .before .before .before .before .before .loop-test)
+loop-less c =
+    let a = advanced (c .before .before .before) in
+    omega (arith, step-ends _ _ _ _ _ _ _ _ _ (c .before .number .given .1) (a .advance .ensures) .on, arguments a .before .loop-test)
 
 loop-again : tie.Need-loop-again Inv-loop μ-loop
-loop-again c = (run-turn (c .before .before .before .before .before .before .before .before .before .before .before .before .before .before .before .before .before .before .before .before .before .before .before .loop .inv .0) _ _ _ _ (search needs) (rw (c .before .number .given .1) at (c .before .before .before .before .before .before .before .before .before .before .before .before .before .before .before .advance .ensures)), search needs, search needs, search needs, search needs, search needs, search needs)
+loop-again c = (
+  run-turn (turn (advanced (c .before .before .before)) .loop .inv .0) _ _ _ _ (search needs) (c .before .number .given .1) (advanced (c .before .before .before) .advance .ensures),
+  search needs,
+  search needs,
+  search needs,
+  search needs,
+  search needs,
+  search needs,
+)
 
 used-requires-2 : tie.Need-used-requires-2 Inv-loop μ-loop
 used-requires-2 c κs = search needs

@@ -24,7 +24,10 @@ same-length : tie.Need-same-length
 same-length c = search needs
 
 returns : tie.Need-returns
-returns c = let s = c .before .before .before .before .before .before .before .before in as-shown (c .before .before .before .before .before .before .number .result ∷ []) (numberOf (s .args .r) ∷ []) [] [] (s .args .text .now) _ _ (ap (λ (n : ℕ). n ∷ []) (c .before .before .before .before .before .before .number .ensures)) refl (c .before .before .show-tile .ensures)
+returns c =
+    let n = c .before .before .before .before .before .before in
+    let s = n .before .before in
+    as-shown (n .number .result ∷ []) (numberOf (s .args .r) ∷ []) [] [] (s .args .text .now) _ _ (ap (λ (n : ℕ). n ∷ []) (n .number .ensures)) refl (c .before .before .show-tile .ensures)
 
 pub show-refusal-spec : {M : Type 1} → statement M
 show-refusal-spec =

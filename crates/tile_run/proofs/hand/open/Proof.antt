@@ -4,6 +4,13 @@ use borrow.Author.Needs.{needs}
 use Rattle.tile_run.proofs.hand.open.Statement.{statement}
 use Rattle.tile_run.proofs.hand.open.Tie as tie
 
+-- the places on the way
+abbrev start-before-at-match-keys1 : tie.At-match-keys1 → tie.Start
+start-before-at-match-keys1 c = c .before .before .before .before .before .before
+
+abbrev shared-slice-known3-before-into-feature-arg : tie.After-into-feature-arg → tie.After-shared-slice-known3
+shared-slice-known3-before-into-feature-arg c = c .before .before .before .before .before .before
+
 enum-told : tie.Need-enum-told
 enum-told c = search needs
 
@@ -17,13 +24,13 @@ hold-requires : tie.Need-hold-requires
 hold-requires c κs = search needs
 
 returns : tie.Need-returns
-returns c = no-layer _ (c .before .before .before .before .before .before .before .args .h) _ (c .enum-told .given .1)
+returns c = no-layer _ (start-before-at-match-keys1 (c .before) .args .h) _ (c .enum-told .given .1)
 
 same-length : tie.Need-same-length
 same-length c = search needs
 
 returns-2 : tie.Need-returns-2
-returns-2 c = let k = c .before .before .before in let s = k .before .before .before .before .before .before .before .before .before .before in on-layer _ (s .args .h) _ _ _ _ _ (k .before .before .before .h .given .1) (k .into-feature .ensures) (c .hold .ensures)
+returns-2 c = let k = c .before .before .before in let s = shared-slice-known3-before-into-feature-arg (k .before) .before .before .before in on-layer _ (s .args .h) _ _ _ _ _ (k .before .before .before .h .given .1) (k .into-feature .ensures) (c .hold .ensures)
 
 pub open-spec : {M : Type 1} → statement M
 open-spec =

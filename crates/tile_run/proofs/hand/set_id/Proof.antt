@@ -4,6 +4,10 @@ use borrow.Author.Needs.{needs}
 use Rattle.tile_run.proofs.hand.set_id.Statement.{statement}
 use Rattle.tile_run.proofs.hand.set_id.Tie as tie
 
+-- the places on the way
+abbrev shared-slice-known3-before-set-id : tie.After-set-id → tie.After-shared-slice-known3
+shared-slice-known3-before-set-id c = c .before .before .before .before .before .before
+
 enum-told : tie.Need-enum-told
 enum-told c = search needs
 
@@ -23,7 +27,7 @@ same-length : tie.Need-same-length
 same-length c = search needs
 
 returns-2 : tie.Need-returns-2
-returns-2 c = let k = c .before .before .before in let s = k .before .before .before .before .before .before .before .before .before in on-layer _ (s .args .h) _ _ _ _ _ (k .before .before .before .h .given .1) (k .set-id .ensures) (c .hold .ensures)
+returns-2 c = let k = c .before .before .before in let s = shared-slice-known3-before-set-id k .before .before .before in on-layer _ (s .args .h) _ _ _ _ _ (k .before .before .before .h .given .1) (k .set-id .ensures) (c .hold .ensures)
 
 pub set-id-spec : {M : Type 1} → statement M
 set-id-spec =

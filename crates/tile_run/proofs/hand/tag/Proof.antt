@@ -4,6 +4,16 @@ use borrow.Author.Needs.{needs}
 use Rattle.tile_run.proofs.hand.tag.Statement.{statement}
 use Rattle.tile_run.proofs.hand.tag.Tie as tie
 
+-- the places on the way
+abbrev start-before-slice-known4 : tie.After-slice-known4 → tie.Start
+start-before-slice-known4 c = c .before .before .before .before .before .before
+
+abbrev keys-before-features : tie.After-features → tie.After-keys
+keys-before-features c = c .before .before .before .before .before .before
+
+abbrev slice-known4-before-tag-layer-arg3 : tie.After-tag-layer-arg3 → tie.After-slice-known4
+slice-known4-before-tag-layer-arg3 c = c .before .before .before .before .before .before
+
 enum-told : tie.Need-enum-told
 enum-told c = search needs
 
@@ -17,7 +27,7 @@ hold-requires : tie.Need-hold-requires
 hold-requires c κs = search needs
 
 returns : tie.Need-returns
-returns c = no-layer _ (c .before .before .before .before .before .before .before .before .args .h) _ (c .enum-told .given .1)
+returns c = no-layer _ (start-before-slice-known4 (c .before .before) .args .h) _ (c .enum-told .given .1)
 
 same-length : tie.Need-same-length
 same-length c = search needs
@@ -32,7 +42,7 @@ same-length-4 : tie.Need-same-length-4
 same-length-4 c = search needs
 
 returns-2 : tie.Need-returns-2
-returns-2 c = let k = c .before .before .before .before .before .before .before .before .before in let s = k .before .before .before .before .before .before .before .before .before .before .before .before .before .before in on-layer _ (s .args .h) _ _ _ _ _ (k .before .before .before .before .before .before .h .given .1) (k .tag-layer .ensures) (c .hold .ensures)
+returns-2 c = let k = keys-before-features (c .before .before) .before in let s = start-before-slice-known4 (slice-known4-before-tag-layer-arg3 (k .before .before)) in on-layer _ (s .args .h) _ _ _ _ _ (k .before .before .before .before .before .before .h .given .1) (k .tag-layer .ensures) (c .hold .ensures)
 
 pub tag-spec : {M : Type 1} → statement M
 tag-spec =

@@ -11,6 +11,17 @@ use borrow.Author.Needs.{needs}
 use Rattle.tile_run.proofs.hand.tag_layer.Statement.{statement}
 use Rattle.tile_run.proofs.hand.tag_layer.Tie as tie
 
+-- the places on the way
+abbrev start : tie.After-slice-known4 → tie.Start
+start c = c .before .before .before .before .before .before
+
+-- a signed value is read back as it was given
+int-same : (k : tie.After-known-told4) → toZ w64 (ofZ w64 (k .before .v4 .given .0 .0)) ≡ k .before .v4 .given .0 .0
+int-same k = toZ-ofZ (search needs)
+
+sint-same : (k : tie.After-known-told6) → toZ w64 (ofZ w64 (k .before .v6 .given .0 .0)) ≡ k .before .v6 .given .0 .0
+sint-same k = toZ-ofZ (search needs)
+
 enum-known-v : tie.Need-enum-known-v
 enum-known-v c = search needs
 
@@ -69,7 +80,14 @@ same-length-4 : tie.Need-same-length-4
 same-length-4 c = search needs
 
 returns : tie.Need-returns
-returns c = let q = c .before .before .before .before .before .before .before .before in let s = q .before .before .before .before .before .before .before .before .before .before .before .before .before .before .before in let key = s .args .key .now in tag-by _ _ _ _ _ _ (ap (tagOf (s .args .bytes .now) key) (q .before .before .before .before .before .before .before .v .given .1) ∙ ap (tagString key) (sym (q .before .before .before .before .before .text .ensures))) (q .add-tag-string .ensures)
+returns c =
+    let k = c .before .before .before .before .before .before in
+    let q = k .before .before in
+    let t = q .before .before .before .before .before in
+    let o = t .before .before in
+    let s = start (o .before .before) in
+    let key = s .args .key .now in
+    tag-by _ _ _ _ _ _ (ap (tagOf (s .args .bytes .now) key) (o .v .given .1) ∙ ap (tagString key) (sym (t .text .ensures))) (q .add-tag-string .ensures)
 
 same-length-5 : tie.Need-same-length-5
 same-length-5 c = search needs
@@ -84,7 +102,13 @@ same-length-8 : tie.Need-same-length-8
 same-length-8 c = search needs
 
 returns-2 : tie.Need-returns-2
-returns-2 c = let q = c .before .before .before .before .before .before .before .before in let s = q .before .before .before .before .before .before .before .before .before .before .before .before .before .before in let key = s .args .key .now in tag-by _ _ _ _ _ _ (ap (tagOf (s .args .bytes .now) key) (q .before .before .before .before .before .before .v2 .given .1)) (q .add-tag-float .ensures)
+returns-2 c =
+    let k = c .before .before .before .before .before .before in
+    let q = k .before .before in
+    let o = q .before .before .before .before .before .before in
+    let s = start (o .before .before) in
+    let key = s .args .key .now in
+    tag-by _ _ _ _ _ _ (ap (tagOf (s .args .bytes .now) key) (o .v2 .given .1)) (q .add-tag-float .ensures)
 
 same-length-9 : tie.Need-same-length-9
 same-length-9 c = search needs
@@ -99,7 +123,13 @@ same-length-12 : tie.Need-same-length-12
 same-length-12 c = search needs
 
 returns-3 : tie.Need-returns-3
-returns-3 c = let q = c .before .before .before .before .before .before .before .before in let s = q .before .before .before .before .before .before .before .before .before .before .before .before .before .before in let key = s .args .key .now in tag-by _ _ _ _ _ _ (ap (tagOf (s .args .bytes .now) key) (q .before .before .before .before .before .before .v3 .given .1)) (q .add-tag-double .ensures)
+returns-3 c =
+    let k = c .before .before .before .before .before .before in
+    let q = k .before .before in
+    let o = q .before .before .before .before .before .before in
+    let s = start (o .before .before) in
+    let key = s .args .key .now in
+    tag-by _ _ _ _ _ _ (ap (tagOf (s .args .bytes .now) key) (o .v3 .given .1)) (q .add-tag-double .ensures)
 
 same-length-13 : tie.Need-same-length-13
 same-length-13 c = search needs
@@ -114,7 +144,13 @@ same-length-16 : tie.Need-same-length-16
 same-length-16 c = search needs
 
 returns-4 : tie.Need-returns-4
-returns-4 c = let q = c .before .before .before .before .before .before .before .before in let z : ℤ = q .before .before .before .before .before .before .v4 .given .0 .0 in let e : toZ w64 (ofZ w64 z) ≡ z = toZ-ofZ (search needs) in let s = q .before .before .before .before .before .before .before .before .before .before .before .before .before .before in let key = s .args .key .now in tag-by _ _ _ _ _ _ (ap (tagOf (s .args .bytes .now) key) (q .before .before .before .before .before .before .v4 .given .1) ∙ ap (λ (z : ℤ). tagBits 4 key (bitsOf z)) (sym e)) (q .add-tag-int .ensures)
+returns-4 c =
+    let k = c .before .before .before .before .before .before in
+    let q = k .before .before in
+    let o = q .before .before .before .before .before .before in
+    let s = start (o .before .before) in
+    let key = s .args .key .now in
+    tag-by _ _ _ _ _ _ (ap (tagOf (s .args .bytes .now) key) (o .v4 .given .1) ∙ ap (λ (z : ℤ). tagBits 4 key (bitsOf z)) (sym (int-same (q .before .before .before .before .before)))) (q .add-tag-int .ensures)
 
 same-length-17 : tie.Need-same-length-17
 same-length-17 c = search needs
@@ -129,7 +165,13 @@ same-length-20 : tie.Need-same-length-20
 same-length-20 c = search needs
 
 returns-5 : tie.Need-returns-5
-returns-5 c = let q = c .before .before .before .before .before .before .before .before in let s = q .before .before .before .before .before .before .before .before .before .before .before .before .before .before in let key = s .args .key .now in tag-by _ _ _ _ _ _ (ap (tagOf (s .args .bytes .now) key) (q .before .before .before .before .before .before .v5 .given .1)) (q .add-tag-uint .ensures)
+returns-5 c =
+    let k = c .before .before .before .before .before .before in
+    let q = k .before .before in
+    let o = q .before .before .before .before .before .before in
+    let s = start (o .before .before) in
+    let key = s .args .key .now in
+    tag-by _ _ _ _ _ _ (ap (tagOf (s .args .bytes .now) key) (o .v5 .given .1)) (q .add-tag-uint .ensures)
 
 same-length-21 : tie.Need-same-length-21
 same-length-21 c = search needs
@@ -144,7 +186,13 @@ same-length-24 : tie.Need-same-length-24
 same-length-24 c = search needs
 
 returns-6 : tie.Need-returns-6
-returns-6 c = let q = c .before .before .before .before .before .before .before .before in let z : ℤ = q .before .before .before .before .before .before .v6 .given .0 .0 in let e : toZ w64 (ofZ w64 z) ≡ z = toZ-ofZ (search needs) in let s = q .before .before .before .before .before .before .before .before .before .before .before .before .before .before in let key = s .args .key .now in tag-by _ _ _ _ _ _ (ap (tagOf (s .args .bytes .now) key) (q .before .before .before .before .before .before .v6 .given .1) ∙ ap (λ (z : ℤ). tagBits 6 key (bitsOf z)) (sym e)) (q .add-tag-sint .ensures)
+returns-6 c =
+    let k = c .before .before .before .before .before .before in
+    let q = k .before .before in
+    let o = q .before .before .before .before .before .before in
+    let s = start (o .before .before) in
+    let key = s .args .key .now in
+    tag-by _ _ _ _ _ _ (ap (tagOf (s .args .bytes .now) key) (o .v6 .given .1) ∙ ap (λ (z : ℤ). tagBits 6 key (bitsOf z)) (sym (sint-same (q .before .before .before .before .before)))) (q .add-tag-sint .ensures)
 
 same-length-25 : tie.Need-same-length-25
 same-length-25 c = search needs
@@ -159,7 +207,13 @@ same-length-28 : tie.Need-same-length-28
 same-length-28 c = search needs
 
 returns-7 : tie.Need-returns-7
-returns-7 c = let q = c .before .before .before .before .before .before .before .before in let s = q .before .before .before .before .before .before .before .before .before .before .before .before .before .before in let key = s .args .key .now in tag-by _ _ _ _ _ _ (ap (tagOf (s .args .bytes .now) key) (q .before .before .before .before .before .before .v7 .given .1)) (q .add-tag-bool .ensures)
+returns-7 c =
+    let k = c .before .before .before .before .before .before in
+    let q = k .before .before in
+    let o = q .before .before .before .before .before .before in
+    let s = start (o .before .before) in
+    let key = s .args .key .now in
+    tag-by _ _ _ _ _ _ (ap (tagOf (s .args .bytes .now) key) (o .v7 .given .1)) (q .add-tag-bool .ensures)
 
 pub tag-layer-spec : {M : Type 1} → statement M
 tag-layer-spec =

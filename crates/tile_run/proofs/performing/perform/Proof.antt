@@ -4,6 +4,13 @@ use borrow.Author.Needs.{needs}
 use Rattle.tile_run.proofs.performing.perform.Statement.{statement}
 use Rattle.tile_run.proofs.performing.perform.Tie as tie
 
+-- the places on the way
+abbrev first-list : tie.After-tile → tie.After-slice-known
+first-list c = c .before .before .before .before .before .before
+
+abbrev start : tie.After-tile → tie.Start
+start c = first-list c .before .before .before
+
 enum-known-op : tie.Need-enum-known-op
 enum-known-op c = search needs
 
@@ -77,7 +84,11 @@ same-length : tie.Need-same-length
 same-length c = search needs
 
 returns : tie.Need-returns
-returns c = let s = c .before .before .before .before .before .before .before .before .before .before .before .before .before .before .before .before .before .before in create-op _ _ (s .args .op) (s .args .w) _ _ _ (c .keep .ensures) _ _ _ _ (c .before .before .before .before .before .before .before .op .given .1) (c .before .before .before .before .before .text .ensures) (c .before .before .before .create .ensures)
+returns c =
+    let t = c .before .before .before .before .before in
+    let o = t .before .before in
+    let s = start (o .before .before) in
+    create-op _ _ (s .args .op) (s .args .w) _ _ _ (c .keep .ensures) _ _ _ _ (o .op .given .1) (t .text .ensures) (c .before .before .before .create .ensures)
 
 same-length-2 : tie.Need-same-length-2
 same-length-2 c = search needs
@@ -92,7 +103,12 @@ same-length-5 : tie.Need-same-length-5
 same-length-5 c = search needs
 
 returns-2 : tie.Need-returns-2
-returns-2 c = let s = c .before .before .before .before .before .before .before .before .before .before .before .before .before .before .before .before .before .before .before .before .before in open-op _ _ (s .args .op) (s .args .w) _ _ _ (c .keep2 .ensures) _ _ _ _ (c .before .before .before .before .before .before .before .before .before .before .op2 .given .1) (c .before .before .before .before .before .before .before .before .words .ensures) (c .before .before .before .«open» .ensures)
+returns-2 c =
+    let h = c .before .before .before in
+    let r = h .before .before .before .before .before in
+    let o = r .before .before in
+    let s = start (o .before .before) in
+    open-op _ _ (s .args .op) (s .args .w) _ _ _ (c .keep2 .ensures) _ _ _ _ (o .op2 .given .1) (r .words .ensures) (h .«open» .ensures)
 
 same-length-6 : tie.Need-same-length-6
 same-length-6 c = search needs
@@ -107,7 +123,11 @@ same-length-9 : tie.Need-same-length-9
 same-length-9 c = search needs
 
 returns-3 : tie.Need-returns-3
-returns-3 c = let s = c .before .before .before .before .before .before .before .before .before .before .before .before .before .before .before .before .before .before .before .before in id-op _ _ (s .args .op) (s .args .w) _ _ _ (c .keep3 .ensures) _ _ (c .before .before .before .before .before .before .before .before .before .op3 .given .1) (c .before .before .before .set-id .ensures)
+returns-3 c =
+    let h = c .before .before .before in
+    let o = h .before .before .before .before .before .before in
+    let s = start (o .before .before) in
+    id-op _ _ (s .args .op) (s .args .w) _ _ _ (c .keep3 .ensures) _ _ (o .op3 .given .1) (h .set-id .ensures)
 
 same-length-10 : tie.Need-same-length-10
 same-length-10 c = search needs
@@ -122,7 +142,13 @@ same-length-13 : tie.Need-same-length-13
 same-length-13 c = search needs
 
 returns-4 : tie.Need-returns-4
-returns-4 c = let s = c .before .before .before .before .before .before .before .before .before .before .before .before .before .before .before .before .before .before .before .before .before .before .before .before .before .before .before in tag-op _ _ (s .args .op) (s .args .w) _ _ _ (c .keep4 .ensures) _ _ _ _ (c .before .before .before .before .before .before .before .before .before .before .before .before .before .before .before .before .op4 .given .1) (c .before .before .before .before .before .before .before .before .before .before .before .before .before .before .text2 .ensures) (c .before .before .before .before .before .before .before .before .before .tag .ensures)
+returns-4 c =
+    let l = c .before .before .before .before .before .before in
+    let h = l .before .before .before in
+    let t = h .before .before .before .before .before in
+    let o = t .before .before in
+    let s = start (o .before .before) in
+    tag-op _ _ (s .args .op) (s .args .w) _ _ _ (c .keep4 .ensures) _ _ _ _ (o .op4 .given .1) (t .text2 .ensures) (h .tag .ensures)
 
 same-length-14 : tie.Need-same-length-14
 same-length-14 c = search needs
@@ -137,7 +163,10 @@ same-length-17 : tie.Need-same-length-17
 same-length-17 c = search needs
 
 returns-5 : tie.Need-returns-5
-returns-5 c = let s = c .before .before .before .before .before .before .before .before .before .before .before .before .before .before .before .before .before in close-op _ _ (s .args .op) (s .args .w) _ _ _ (c .keep5 .ensures) _ (c .before .before .before .before .before .before .enum-told .given .1) (c .before .close .ensures)
+returns-5 c =
+    let o = c .before .before .before .before .before .before in
+    let s = start (o .before .before) in
+    close-op _ _ (s .args .op) (s .args .w) _ _ _ (c .keep5 .ensures) _ (o .enum-told .given .1) (c .before .close .ensures)
 
 same-length-18 : tie.Need-same-length-18
 same-length-18 c = search needs
@@ -152,7 +181,10 @@ same-length-21 : tie.Need-same-length-21
 same-length-21 c = search needs
 
 returns-6 : tie.Need-returns-6
-returns-6 c = let s = c .before .before .before .before .before .before .before .before .before .before .before .before .before .before .before .before .before in abandon-op _ _ (s .args .op) (s .args .w) _ _ _ (c .keep6 .ensures) _ (c .before .before .before .before .before .before .enum-told2 .given .1) (c .before .abandon .ensures)
+returns-6 c =
+    let o = c .before .before .before .before .before .before in
+    let s = start (o .before .before) in
+    abandon-op _ _ (s .args .op) (s .args .w) _ _ _ (c .keep6 .ensures) _ (o .enum-told2 .given .1) (c .before .abandon .ensures)
 
 same-length-22 : tie.Need-same-length-22
 same-length-22 c = search needs
@@ -173,7 +205,12 @@ same-length-27 : tie.Need-same-length-27
 same-length-27 c = search needs
 
 returns-7 : tie.Need-returns-7
-returns-7 c = let s = c .before .before .before .before .before .before .before .before .before .before .before .before .before .before .before .before .before .before .before .before .before .before in add-op _ _ (s .args .op) (s .args .w) _ _ _ (c .before .before .before .before .before .before .before .before .before .before .before .enum-told3 .given .1) (c .before .before .before .before .add .ensures)
+returns-7 c =
+    let h = c .before .before .before .before in
+    let a = h .before .before .before .before .before .before in
+    let o = a .before in
+    let s = start (o .before .before) in
+    add-op _ _ (s .args .op) (s .args .w) _ _ _ (o .enum-told3 .given .1) (h .add .ensures)
 
 pub perform-spec : {M : Type 1} → statement M
 perform-spec =

@@ -3,11 +3,11 @@ use mathlib.Core.Path.{sym}
 use native.Mathlib.Omega.{arith}
 use lib.Seq.{take-all, length-take-le}
 use borrow.Author.Needs.{needs}
-use Rattle.replay.proofs.first_bytes.Statement.{statement}
-use Rattle.replay.proofs.first_bytes.Tie as tie
+use Rattle.printed.proofs.first_words.Statement.{statement}
+use Rattle.printed.proofs.first_words.Tie as tie
 
 returns : tie.Need-returns
-returns c = let s = c .before in sym (take-all (s .args .n) (s .args .list .now) (omega arith))
+returns c = let s = c .before in sym (take-all (s .args .n) (s .args .words .now) (omega arith))
 
 slice-aggregate-result : tie.Need-slice-aggregate-result
 slice-aggregate-result c = sym (length-take-le _ _ (omega arith))
@@ -15,5 +15,5 @@ slice-aggregate-result c = sym (length-take-le _ _ (omega arith))
 returns-2 : tie.Need-returns-2
 returns-2 c = search needs
 
-pub first-bytes-spec : {M : Type 1} → statement M
-first-bytes-spec = tie.close (tie.spec returns slice-aggregate-result returns-2)
+pub first-words-spec : {M : Type 1} → statement M
+first-words-spec = tie.close (tie.spec returns slice-aggregate-result returns-2)

@@ -3,11 +3,11 @@ use mathlib.Core.Path.{sym}
 use native.Mathlib.Omega.{arith}
 use lib.Seq.{take-all, length-take-le}
 use borrow.Author.Needs.{needs}
-use Rattle.tiles.proofs.first_bytes.Statement.{statement}
-use Rattle.tiles.proofs.first_bytes.Tie as tie
+use Rattle.printed.proofs.first_bytes.Statement.{statement}
+use Rattle.printed.proofs.first_bytes.Tie as tie
 
 returns : tie.Need-returns
-returns c = let s = c .before in sym (take-all (s .args .n) (s .args .list .now) (omega arith))
+returns c = let s = c .before in sym (take-all (s .args .n) (s .args .bytes .now) (omega arith))
 
 slice-aggregate-result : tie.Need-slice-aggregate-result
 slice-aggregate-result c = sym (length-take-le _ _ (omega arith))
