@@ -4,7 +4,10 @@ use mathlib.Core.Path.{_≡_, refl, sym, _∙_, ap}
 use mathlib.Core.Bool.{Bool, true, false, not, _&&_}
 use mathlib.Core.List.{List, [], _∷_}
 use borrow.Author.Tests.{not-true, not-false}
+use mir.Syntax.{w32}
+use mir.Val.{toZ, ofZ}
 use lib.IntN.{ℤ}
+use Rattle.whole.proofs.Machine.{Back}
 use Rattle.promise.specs.Answers.{Written, Gives}
 use Rattle.refusal.specs.declared.Refusal.{Refusal}
 use Rattle.refusal.specs.declared.Refusal.the-variants.{Box, State}
@@ -18,6 +21,7 @@ use Rattle.clip.specs.declared.Clipped.{Clipped}
 use Rattle.clip.specs.declared.Clipped.the-variants.{Done as Cut, Refused as NotCut}
 use Rattle.clip.specs.Domain.{isGood, isInside}
 use Rattle.clip.specs.Answer.{saidClipped, clipped}
+use Rattle.clip.specs.Numbers.{segAt, boxAt}
 use Rattle.promise.proofs.Joined.{both}
 use Rattle.clip.proofs.Callers.{box-refused, kept-inside}
 use Rattle.encoder.specs.declared.GeomEncoder.{GeomEncoder}
@@ -34,15 +38,32 @@ use Rattle.brinepost.specs.Segments.{ends, flatClip}
 use Rattle.brinepost.specs.Carried.{areFlags, stateOf}
 use Rattle.brinepost.specs.Drawing.{flatStarted, flatDrawn, flagged, unlessFlagged}
 
+-- a segment and a box made of numbers, and the numbers of a clipped segment, as the machine reads them back
+abbrev read : ℤ → ℤ
+read z = toZ w32 (ofZ w32 z)
+
+module _ {x0 y0 x1 y1 : ℤ} (b0 : Back w32 x0) (c0 : Back w32 y0) (b1 : Back w32 x1) (c1 : Back w32 y1) where
+  pub seg-read : (s : Seg) → s ≡ segAt (read x0) (read y0) (read x1) (read y1) → s ≡ segAt x0 y0 x1 y1
+  seg-read s e = rw (b0, c0, b1, c1) at e
+
+  pub ends-read : (r : BpClipped) → r ≡ ends 0 (record { seg = segAt (read x0) (read y0) (read x1) (read y1) } ∷ []) → r ≡ ends 0 (record { seg = segAt x0 y0 x1 y1 } ∷ [])
+  ends-read r e = rw (b0, c0, b1, c1) at e
+
+pub box-read : {l r b t : ℤ} → Back w32 l → Back w32 r → Back w32 b → Back w32 t → (x : BBox) → x ≡ boxAt (read l) (read r) (read b) (read t) → x ≡ boxAt l r b t
+box-read bl br bb bt x e = rw (bl, br, bb, bt) at e
+
+pub clip-of : (s t : Seg) (b c : BBox) (r : BpClipped) → s ≡ t → b ≡ c → r ≡ flatClip (clipped s b) → r ≡ flatClip (clipped t c)
+clip-of s t b c r e f h = rw (e, f) at h
+
 -- a box that is not good, and both ends in one that is, as the code's tests tell it
 module _ (s : Seg) (b : BBox) (g : Bool) (eg : g ≡ isGood b) (r : BpClipped) where
   pub clip-box : not g ≡ true → r ≡ ends (numberOf Box) [] → r ≡ flatClip (clipped s b)
   unfolding flatClip
   clip-box n e = e ∙ sym (ap flatClip (box-refused s b (sym eg ∙ not-true g n)))
 
-  pub clip-kept : not g ≡ false → (u v : Bool) → u ≡ isInside b (s .p0) → v ≡ isInside b (s .p1) → (u && v) ≡ true → r ≡ ends 0 (record { seg = s } ∷ []) → r ≡ flatClip (clipped s b)
+  pub clip-kept : not g ≡ false → (u v : Bool) → u ≡ isInside b (s .p0) → v ≡ isInside b (s .p1) → (u && v) ≡ true → (t : Seg) → s ≡ t → r ≡ ends 0 (record { seg = t } ∷ []) → r ≡ flatClip (clipped s b)
   unfolding flatClip
-  clip-kept n u v eu ev t e = let h = both u v t in e ∙ sym (ap flatClip (kept-inside s b (sym eg ∙ not-false g n) (sym eu ∙ h .0) (sym ev ∙ h .1)))
+  clip-kept n u v eu ev i t f e = let h = both u v i in e ∙ ap (λ (z : Seg). ends 0 (record { seg = z } ∷ [])) (sym f) ∙ sym (ap flatClip (kept-inside s b (sym eg ∙ not-false g n) (sym eu ∙ h .0) (sym ev ∙ h .1)))
 
 -- what the clip said, by its two cases
 module _ (a : Clipped) (s : Seg) (b : BBox) (e : saidClipped a ≡ clipped s b) (r : BpClipped) where

@@ -8,7 +8,7 @@ use lib.IntN.{ℤ}
 use lib.ListN.{length}
 use Rattle.promise.specs.Answers.{Written}
 use Rattle.refusal.specs.Said.{Said}
-use Rattle.clip.specs.declared.BBox.{BBox}
+use Rattle.clip.specs.Numbers.{boxAt}
 use Rattle.encoder.specs.Jobs.{encodedJob}
 use Rattle.telling.specs.Telling.{told}
 use Rattle.brinepost.specs.declared.work.BpJob.{BpJob}
@@ -20,5 +20,6 @@ flatJob n a =
     (record { refusal = a .number; points = a .values; words = 0 })
 
 -- the whole job of these points and part ends, told to C
-abbrev pub jobFrom : ℕ → BBox → List ℤ → List ℕ → List ℕ → Written BpJob (List ℕ)
-jobFrom kind box points ends out = told (flatJob (length points / 2)) (encodedJob kind box points ends out)
+abbrev pub jobFrom : ℕ → ℤ → ℤ → ℤ → ℤ → List ℤ → List ℕ → List ℕ → Written BpJob (List ℕ)
+jobFrom kind left right bottom top points ends out =
+    told (flatJob (length points / 2)) (encodedJob kind (boxAt left right bottom top) points ends out)

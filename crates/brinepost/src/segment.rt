@@ -5,7 +5,10 @@ ghost use Rattle.refusal.specs.Refusals.{numberOf};
 ghost use Rattle.clip.specs.Answer.{clipped};
 ghost use Rattle.clip.specs.Numbers.{segAt, boxAt};
 ghost use Rattle.brinepost.specs.Segments.{ends, flatClip};
+use clip::BBox;
 use clip::Clipped;
+use clip::Pt;
+use clip::Seg;
 use refusal::Refusal;
 
 #[repr(C)]
@@ -42,9 +45,30 @@ fn refused(k: Refusal) -> BpClipped
     }
 }
 
+// A box and a segment from their numbers.
+fn make_box(left: i32, right: i32, bottom: i32, top: i32) -> BBox
+    ensures { λ r. ⌜ r ≡ boxAt left right bottom top ⌝ }
+{
+    BBox {
+        x_min: left,
+        x_max: right,
+        y_min: bottom,
+        y_max: top,
+    }
+}
+
+fn make_seg(x0: i32, y0: i32, x1: i32, y1: i32) -> Seg
+    ensures { λ r. ⌜ r ≡ segAt x0 y0 x1 y1 ⌝ }
+{
+    Seg {
+        p0: Pt { x: x0, y: y0 },
+        p1: Pt { x: x1, y: y1 },
+    }
+}
+
 // The segment from (x0, y0) to (x1, y1), cut at the box: BOX, then COORD, else the clipped segment.
-// A segment with both ends in a good box stays as given, and is answered at once. Each answer returns by itself, so that the compiler keeps the numbers
-// where they came in.
+// A segment with both ends in a good box stays as given, and is answered at once. Each answer returns by itself and in numbers, so that the compiler keeps
+// them where they came in.
 #[no_mangle]
 pub extern "C" fn bp_clip(
     x0: i32,
@@ -58,20 +82,22 @@ pub extern "C" fn bp_clip(
 ) -> BpClipped
     ensures { λ r. ⌜ r ≡ flatClip (clipped (segAt x0 y0 x1 y1) (boxAt left right bottom top)) ⌝ }
 {
-    if !clip::are_edges(left, right, bottom, top) {
+    let seg = make_seg(x0, y0, x1, y1);
+    let bbox = make_box(left, right, bottom, top);
+    if !BBox::is_good(bbox) {
         return refused(Refusal::Box);
     }
-    let in0 = clip::is_inside(x0, y0, left, right, bottom, top);
-    let in1 = clip::is_inside(x1, y1, left, right, bottom, top);
-    if in0 & in1 {
+    let p0 = seg.p0;
+    let p1 = seg.p1;
+    if BBox::is_inside(bbox, p0) & BBox::is_inside(bbox, p1) {
         return accepted(x0, y0, x1, y1);
     }
-    match clip::clip_at(x0, y0, x1, y1, left, right, bottom, top) {
+    match clip::clip(seg, bbox) {
         Clipped::Done(c) => {
-            let seg = c.seg;
-            let p0 = seg.p0;
-            let p1 = seg.p1;
-            return accepted(p0.x, p0.y, p1.x, p1.y);
+            let cut = c.seg;
+            let end0 = cut.p0;
+            let end1 = cut.p1;
+            return accepted(end0.x, end0.y, end1.x, end1.y);
         }
         Clipped::Refused(k) => {
             return refused(k);

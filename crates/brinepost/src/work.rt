@@ -2,7 +2,6 @@
 ghost use mathlib.Core.Path.{_≡_};
 ghost use Rattle.promise.specs.Answers.{Gives};
 ghost use Rattle.encoder.specs.Jobs.{saidEncoded};
-ghost use Rattle.clip.specs.Numbers.{boxAt};
 ghost use Rattle.brinepost.specs.Works.{flatJob, jobFrom};
 use clip::BBox;
 use encoder::whole_job::Encoded;
@@ -44,7 +43,7 @@ pub extern "C" fn bp_encode_job(
     ends: &[u32],
     words: &mut [u32],
 ) -> BpJob
-    ensures { λ r. ⌜ Gives (jobFrom kind (boxAt left right bottom top) (now (points .entry)) (now (ends .entry)) (now (words .entry))) r (now (words .exit)) ⌝ }
+    ensures { λ r. ⌜ Gives (jobFrom kind left right bottom top (now (points .entry)) (now (ends .entry)) (now (words .entry))) r (now (words .exit)) ⌝ }
 {
     let bbox = BBox {
         x_min: left,

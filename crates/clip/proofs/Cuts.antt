@@ -1,12 +1,13 @@
 -- What the cuts of src/cutting.rt return, over plain values: what the crossing is, which end it replaces by the code's tests, and that the four edges one after the other are the definition's clip.
 use mathlib.Core.Path.{_≡_, refl, sym, _∙_, ap, subst}
 use mathlib.Core.Bool.{Bool, true, false, cond, _&&_}
-use native.Mathlib.Omega.{arith}
 use lib.IntN.{ℤ}
 use lib.Signed.{_≤ℤ_, _<ℤ_, ltZ, leZ}
 use Rattle.whole.proofs.Parts.{zarith}
 use Rattle.whole.proofs.Laws.{<-≤}
-use Rattle.whole.proofs.Machine.{lt-yes, lt-no, le-yes}
+use mir.Syntax.{w32}
+use mir.Val.{toZ, ofZ}
+use Rattle.whole.proofs.Machine.{lt-yes, lt-no, le-yes, Back}
 use Rattle.whole.proofs.Cases.{le-is, lt-is}
 use Rattle.promise.proofs.Cases.{is-yes, is-no}
 use Rattle.promise.proofs.Joined.{both, both-is}
@@ -18,7 +19,7 @@ use Rattle.clip.specs.declared.cutting.Meeting.the-variants.{Nowhere, At
 use Rattle.clip.specs.Numbers.{boxAt}
 use Rattle.clip.specs.Facts.{Coord, Good, Asked}
 use Rattle.clip.specs.Cutting.{Crossing, Missing, At, height, inRange, reaches, crossInOrder, crossAtX, swap, swapSeg, metAt, replace, cutXMin, cutXMax, cutYMin, cutYMax, cuts, clip}
-use Rattle.clip.proofs.Ends.{Side, low, high, edge, beyond, endsX, join, swapBox}
+use Rattle.clip.proofs.Ends.{Side, low, high, beyond, endsX, join, swapBox}
 use Rattle.clip.proofs.Heights.{above-least, below-most}
 use Rattle.clip.proofs.Verdicts.{verdict}
 use Rattle.clip.proofs.Readings.{crossing-sym, out, swap-replace, at-x-min, at-x-max}
@@ -63,42 +64,97 @@ module _ (p q : Pt) (c a b h : ℤ) (k : Asked (p .x) (p .y) (q .x) (q .y) c) (e
       let m : Missing ≡ inRange c a b h = is-no (leZ a h && leZ h b) Missing _ Missing t refl in
       ordered ∙ either-way (reaches p q c a b) _ (sym (m ∙ ap (inRange c a b) e))
 
--- ---- what the code's answer says of the crossing, found from either end
-module _ (c : ℤ) (m : Meeting) (w : Crossing) (e : metAt c m ≡ w) where
-  pub met-at : (y : ℤ) → m ≡ AtY y → w ≡ At (record { x = c; y = y })
-  met-at y f = sym e ∙ ap (metAt c) f
+-- ---- the cut at a lower or an upper edge, by the code's tests: p is strictly outside it, q is not
+abbrev pub AskedOn : Side → Pt → Pt → ℤ → Type 0
+AskedOn low p q c = Asked (p .x) (p .y) (q .x) (q .y) c
+AskedOn high p q c = Asked (q .x) (q .y) (p .x) (p .y) c
 
-  pub met-none : m ≡ Nowhere → w ≡ Missing
-  met-none f = sym e ∙ ap (metAt c) f
+asked-on : (d : Side) (p q : Pt) (c : ℤ) → Coord p → Coord q → beyond d c (p .x) ≡ true → beyond d c (q .x) ≡ false → AskedOn d p q c
+asked-on low p q c cp cq u v = asked-low p q c cp cq u v
+asked-on high p q c cp cq u v = asked-high q p c cq cp u v
 
-pub met-back : (c : ℤ) (m : Meeting) (p q : Pt) (a b : ℤ) → metAt c m ≡ crossAtX q p c a b → metAt c m ≡ crossAtX p q c a b
-met-back c m p q a b e = e ∙ crossing-sym q p c a b
+-- the crossing is asked for from left to right
+abbrev pub crossOn : Side → Pt → Pt → ℤ → ℤ → ℤ → Crossing
+crossOn low p q c a b = crossAtX p q c a b
+crossOn high p q c a b = crossAtX q p c a b
+
+cross-on : (d : Side) (p q : Pt) (c a b : ℤ) → crossOn d p q c a b ≡ crossAtX p q c a b
+cross-on low p q c a b = refl
+cross-on high p q c a b = crossing-sym q p c a b
 
 -- no crossing where both ends are strictly outside
-none-x : (d : Side) (b : BBox) (p q : Pt) → beyond d (edge d b) (p .x) ≡ true → beyond d (edge d b) (q .x) ≡ true → crossAtX p q (edge d b) (b .«y_min») (b .«y_max») ≡ Missing
-none-x d b p q u v = none-beyond d b (out d b p u) (out d b q v) (verdict _ _ _ p q)
+none-on : (d : Side) (p q : Pt) (c a b : ℤ) → beyond d c (p .x) ≡ true → beyond d c (q .x) ≡ true → crossAtX p q c a b ≡ Missing
+none-on low p q c a b u v = let x : BBox = boxAt c c a b in none-beyond low x (out low x p u) (out low x q v) (verdict _ _ _ p q)
+none-on high p q c a b u v = let x : BBox = boxAt c c a b in none-beyond high x (out high x p u) (out high x q v) (verdict _ _ _ p q)
 
-module _ (p q : Pt) (c a b : ℤ) where
-  pub none-low : ltZ (p .x) c ≡ true → ltZ (q .x) c ≡ true → crossAtX p q c a b ≡ Missing
-  none-low u v = none-x low (boxAt c c a b) p q u v
+-- what the machine reads back from the bits of each value
+abbrev read : ℤ → ℤ
+read z = toZ w32 (ofZ w32 z)
 
-  pub none-high : ltZ c (p .x) ≡ true → ltZ c (q .x) ≡ true → crossAtX p q c a b ≡ Missing
-  none-high u v = none-x high (boxAt c c a b) p q u v
+pub record Reads (s : Seg) (c a b : ℤ) : Type 0 where
+  pub x0 : Back w32 (s .p0 .x)
+  pub x1 : Back w32 (s .p1 .x)
+  pub at : Back w32 c
+  pub from : Back w32 a
+  pub to : Back w32 b
 
--- ---- the cuts
 module _ (u v : Bool) (s : Seg) where
-  pub replaced-0 : (w : Crossing) (p : Pt) → w ≡ At p → u ≡ true → join p (s .p1) ≡ replace u v s w
-  replaced-0 w p e f = rw (e, f) refl
-
-  pub replaced-1 : (w : Crossing) (p : Pt) → w ≡ At p → u ≡ false → v ≡ true → join (s .p0) p ≡ replace u v s w
-  replaced-1 w p e f g = rw (e, f, g) refl
-
-  pub not-replaced : (w : Crossing) → w ≡ Missing → s ≡ replace u v s w
-  not-replaced w e = sym (ap (replace u v s) e)
-
-  pub replaced-none : (w : Crossing) → u ≡ false → v ≡ false → s ≡ replace u v s w
+  replaced-none : (w : Crossing) → u ≡ false → v ≡ false → s ≡ replace u v s w
   replaced-none Missing e f = refl
   replaced-none (At p) e f = rw (e, f) refl
+
+module _ (d : Side) (s : Seg) (c a b : ℤ) (k : Reads s c a b) where
+  abbrev Cut : Seg
+  Cut = replace (beyond d c (s .p0 .x)) (beyond d c (s .p1 .x)) s (crossAtX (s .p0) (s .p1) c a b)
+
+  abbrev Out0 : Bool → Type 0
+  Out0 t = beyond d (read c) (read (s .p0 .x)) ≡ t
+
+  abbrev Out1 : Bool → Type 0
+  Out1 t = beyond d (read c) (read (s .p1 .x)) ≡ t
+
+  is0 : (t : Bool) → Out0 t → beyond d c (s .p0 .x) ≡ t
+  is0 t e = rw (k .at, k .x0) at e
+
+  is1 : (t : Bool) → Out1 t → beyond d c (s .p1 .x) ≡ t
+  is1 t e = rw (k .at, k .x1) at e
+
+  pub both-out : Out0 true → Out1 true → s ≡ Cut
+  both-out u v = sym (ap (replace (beyond d c (s .p0 .x)) (beyond d c (s .p1 .x)) s) (none-on d (s .p0) (s .p1) c a b (is0 true u) (is1 true v)))
+
+  pub none-out : Out0 false → Out1 false → s ≡ Cut
+  none-out u v = replaced-none _ _ s (crossAtX (s .p0) (s .p1) c a b) (is0 false u) (is1 false v)
+
+  pub asked-0 : Coord (s .p0) → Coord (s .p1) → Out0 true → Out1 false → AskedOn d (s .p0) (s .p1) (read c)
+  asked-0 g h u v = rw (k .at) (asked-on d (s .p0) (s .p1) c g h (is0 true u) (is1 false v))
+
+  pub asked-1 : Coord (s .p0) → Coord (s .p1) → Out0 false → Out1 true → AskedOn d (s .p1) (s .p0) (read c)
+  asked-1 g h u v = rw (k .at) (asked-on d (s .p1) (s .p0) c h g (is1 true v) (is0 false u))
+
+  -- the answer m, found from the end that is outside
+  module _ (m : Meeting) where
+    met-0 : metAt (read c) m ≡ crossOn d (s .p0) (s .p1) (read c) (read a) (read b) → metAt c m ≡ crossAtX (s .p0) (s .p1) c a b
+    met-0 e = rw (k .at, k .from, k .to) at e ∙ cross-on d (s .p0) (s .p1) c a b
+
+    met-1 : metAt (read c) m ≡ crossOn d (s .p1) (s .p0) (read c) (read a) (read b) → metAt c m ≡ crossAtX (s .p0) (s .p1) c a b
+    met-1 e = rw (k .at, k .from, k .to) at e ∙ cross-on d (s .p1) (s .p0) c a b ∙ crossing-sym (s .p1) (s .p0) c a b
+
+    missing : metAt c m ≡ crossAtX (s .p0) (s .p1) c a b → m ≡ Nowhere → s ≡ Cut
+    missing e f = sym (ap (replace (beyond d c (s .p0 .x)) (beyond d c (s .p1 .x)) s) (sym e ∙ ap (metAt c) f))
+
+    module _ (e : metAt (read c) m ≡ crossOn d (s .p0) (s .p1) (read c) (read a) (read b)) where
+      pub stays-0 : m ≡ Nowhere → s ≡ Cut
+      stays-0 f = missing (met-0 e) f
+
+      pub goes-0 : Out0 true → (y : ℤ) → Back w32 y → m ≡ AtY y → join (record { x = read c; y = read y }) (s .p1) ≡ Cut
+      goes-0 u y r f = let w : crossAtX (s .p0) (s .p1) c a b ≡ At (record { x = c; y = y }) = sym (met-0 e) ∙ ap (metAt c) f in rw (k .at, r, w, is0 true u) refl
+
+    module _ (e : metAt (read c) m ≡ crossOn d (s .p1) (s .p0) (read c) (read a) (read b)) where
+      pub stays-1 : m ≡ Nowhere → s ≡ Cut
+      stays-1 f = missing (met-1 e) f
+
+      pub goes-1 : Out0 false → Out1 true → (y : ℤ) → Back w32 y → m ≡ AtY y → join (s .p0) (record { x = read c; y = read y }) ≡ Cut
+      goes-1 u v y r f = let w : crossAtX (s .p0) (s .p1) c a b ≡ At (record { x = c; y = y }) = sym (met-1 e) ∙ ap (metAt c) f in rw (k .at, r, w, is0 false u, is1 true v) refl
 
 -- ---- what is cut stays within the limit
 fate-coord : {s : Side} {b : BBox} {p q r : Pt} → Good b → Coord p → Fate s b p q r → Coord r

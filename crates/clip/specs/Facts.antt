@@ -1,10 +1,13 @@
 -- The tests of specs/Domain as facts, for proofs and for what the private functions ask of their callers. No public promise cites them.
 -- That a test and its fact agree: `coord-facts`, `coord-is`, `good-facts`, `good-is` of proofs/Callers.
+use mathlib.Core.Bool.{Bool, _||_}
 use lib.IntN.{ℤ, negℤ}
-use lib.Signed.{_≤ℤ_, _<ℤ_}
+use lib.Signed.{_≤ℤ_, _<ℤ_, ltZ}
 use Rattle.clip.specs.declared.Pt.{Pt}
+use Rattle.clip.specs.declared.Seg.{Seg}
 use Rattle.clip.specs.declared.BBox.{BBox}
 use Rattle.clip.specs.Domain.{limit}
+use Rattle.clip.specs.Cutting.{least, most}
 
 -- z lies within the limit
 pub record Within (z : ℤ) : Type 0 where
@@ -32,3 +35,14 @@ pub record Asked (x1 y1 x2 y2 x : ℤ) : Type 0 where
   pub from : x1 ≤ℤ x
   pub to : x ≤ℤ x2
   pub apart : x1 <ℤ x2
+
+-- two numbers lie both below a range, or both above it
+unfoldable pub beside : ℤ → ℤ → ℤ → ℤ → Bool
+beside m n low high = ltZ (most m n) low || ltZ high (least m n)
+
+-- so do the ends of a segment, in x and in y
+unfoldable pub besideX : BBox → Seg → Bool
+besideX b s = beside (s .p0 .x) (s .p1 .x) (b .«x_min») (b .«x_max»)
+
+unfoldable pub besideY : BBox → Seg → Bool
+besideY b s = beside (s .p0 .y) (s .p1 .y) (b .«y_min») (b .«y_max»)

@@ -1,5 +1,6 @@
--- A segment and a box by their numbers, in the order in which `clip_at` takes them.
+-- A segment and a box by their numbers, and a box by its lower and its upper corner.
 use lib.IntN.{ℤ}
+use Rattle.clip.specs.declared.Pt.{Pt}
 use Rattle.clip.specs.declared.Seg.{Seg}
 use Rattle.clip.specs.declared.BBox.{BBox}
 
@@ -8,3 +9,6 @@ segAt x0 y0 x1 y1 = record { p0 = record { x = x0; y = y0 }; p1 = record { x = x
 
 abbrev pub boxAt : ℤ → ℤ → ℤ → ℤ → BBox
 boxAt left right bottom top = record { «x_min» = left; «x_max» = right; «y_min» = bottom; «y_max» = top }
+
+abbrev pub cornered : Pt → Pt → BBox
+cornered low high = boxAt (low .x) (high .x) (low .y) (high .y)

@@ -8,7 +8,7 @@ ghost use lib.Signed.{_<ℤ_, ltZ};
 ghost use Rattle.whole.specs.Floor.{floor};
 ghost use Rattle.clip.specs.Facts.{Coord, Good, Asked};
 ghost use Rattle.clip.specs.Cutting.{height, crossAtX, metAt, replace, swapSeg, clip};
-ghost use Rattle.clip.specs.Numbers.{segAt, boxAt};
+ghost use Rattle.clip.specs.Numbers.{cornered};
 use crate::ClippedSeg;
 use crate::Pt;
 use crate::Seg;
@@ -41,14 +41,13 @@ fn height_at(x1: i32, y1: i32, x2: i32, y2: i32, x: i32) -> i32
     (y1 as i64 + q) as i32
 }
 
-// Where the segment from (x1, y1) to (x2, y2) crosses the line at x, which lies between them, the first end to its left: at the rounded y, if that lies
-// in [a, b].
+// Where the segment from p to q crosses the line at x, which lies between them, p to its left: at the rounded y, if that lies in [a, b].
 // The segment's own y range need not be asked, since y lies in it.
-fn intersect_at_x(x1: i32, y1: i32, x2: i32, y2: i32, x: i32, a: i32, b: i32) -> Meeting
-    requires { ⌜ Asked x1 y1 x2 y2 x ⌝ }
-    ensures { λ r. ⌜ metAt x r ≡ crossAtX (record { x = x1; y = y1 }) (record { x = x2; y = y2 }) x a b ⌝ }
+fn intersect_at_x(p: Pt, q: Pt, x: i32, a: i32, b: i32) -> Meeting
+    requires { ⌜ Asked (p .x) (p .y) (q .x) (q .y) x ⌝ }
+    ensures { λ r. ⌜ metAt x r ≡ crossAtX p q x a b ⌝ }
 {
-    let y = height_at(x1, y1, x2, y2, x);
+    let y = height_at(p.x, p.y, q.x, q.y, x);
     if (a <= y) & (y <= b) {
         return Meeting::At(y);
     }
@@ -64,14 +63,12 @@ fn cut_low(s: Seg, x: i32, a: i32, b: i32) -> Seg
     let p0 = s.p0;
     let p1 = s.p1;
     let x0 = p0.x;
-    let y0 = p0.y;
     let x1 = p1.x;
-    let y1 = p1.y;
     if x0 < x {
         if x1 < x {
             return s;
         }
-        match intersect_at_x(x0, y0, x1, y1, x, a, b) {
+        match intersect_at_x(p0, p1, x, a, b) {
             Meeting::At(y) => {
                 return Seg {
                     p0: Pt { x: x, y: y },
@@ -82,7 +79,7 @@ fn cut_low(s: Seg, x: i32, a: i32, b: i32) -> Seg
         }
     }
     if x1 < x {
-        match intersect_at_x(x1, y1, x0, y0, x, a, b) {
+        match intersect_at_x(p1, p0, x, a, b) {
             Meeting::At(y) => {
                 return Seg {
                     p0: p0,
@@ -104,14 +101,12 @@ fn cut_high(s: Seg, x: i32, a: i32, b: i32) -> Seg
     let p0 = s.p0;
     let p1 = s.p1;
     let x0 = p0.x;
-    let y0 = p0.y;
     let x1 = p1.x;
-    let y1 = p1.y;
     if x < x0 {
         if x < x1 {
             return s;
         }
-        match intersect_at_x(x1, y1, x0, y0, x, a, b) {
+        match intersect_at_x(p1, p0, x, a, b) {
             Meeting::At(y) => {
                 return Seg {
                     p0: Pt { x: x, y: y },
@@ -122,7 +117,7 @@ fn cut_high(s: Seg, x: i32, a: i32, b: i32) -> Seg
         }
     }
     if x < x1 {
-        match intersect_at_x(x0, y0, x1, y1, x, a, b) {
+        match intersect_at_x(p0, p1, x, a, b) {
             Meeting::At(y) => {
                 return Seg {
                     p0: p0,
@@ -147,25 +142,22 @@ fn swap(s: Seg) -> Seg
     }
 }
 
-// The four cuts, each on the segment as it then is.
-pub(crate) fn cut_all(
-    x0: i32,
-    y0: i32,
-    x1: i32,
-    y1: i32,
-    left: i32,
-    right: i32,
-    bottom: i32,
-    top: i32,
-) -> ClippedSeg
-    requires { ⌜ Good (boxAt left right bottom top) ⌝ }
-    requires { ⌜ Coord (segAt x0 y0 x1 y1 .p0) ⌝ }
-    requires { ⌜ Coord (segAt x0 y0 x1 y1 .p1) ⌝ }
-    ensures { λ r. ⌜ r ≡ clip (boxAt left right bottom top) (segAt x0 y0 x1 y1) ⌝ }
+// The four cuts, each on the segment as it then is; the box by its lower and its upper corner.
+pub(crate) fn cut_all(p0: Pt, p1: Pt, low: Pt, high: Pt) -> ClippedSeg
+    requires { ⌜ Good (cornered low high) ⌝ }
+    requires { ⌜ Coord p0 ⌝ }
+    requires { ⌜ Coord p1 ⌝ }
+    ensures { λ r. ⌜ r ≡ clip (cornered low high) (record { p0 = p0; p1 = p1 }) ⌝ }
 {
-    let p0 = Pt { x: x0, y: y0 };
-    let p1 = Pt { x: x1, y: y1 };
-    let s1 = cut_low(Seg { p0: p0, p1: p1 }, left, bottom, top);
+    let left = low.x;
+    let bottom = low.y;
+    let right = high.x;
+    let top = high.y;
+    let s = Seg {
+        p0: Pt { x: p0.x, y: p0.y },
+        p1: Pt { x: p1.x, y: p1.y },
+    };
+    let s1 = cut_low(s, left, bottom, top);
     let s2 = cut_high(s1, right, bottom, top);
     let s3 = cut_low(swap(s2), bottom, left, right);
     let s4 = cut_high(s3, top, left, right);

@@ -1,13 +1,10 @@
 // Cutting a segment at the edges of a box (document 01, "Cutting a segment"; in the Rust: `clip` for i32 of encoder.rs, with `Pt`, `Seg` and `BBox` of pointy).
 // No loop; a division only for a cut whose line the segment reaches with one end strictly outside; for a segment inside the box nothing but comparisons.
 ghost use mathlib.Core.Path.{_≡_};
-ghost use mathlib.Core.Bool.{_||_};
-ghost use lib.Signed.{ltZ};
 ghost use Rattle.clip.specs.Domain.{limit, within, isCoord, isGood, isInside};
-ghost use Rattle.clip.specs.Facts.{Coord, Good};
-ghost use Rattle.clip.specs.Cutting.{least, most, clip};
-ghost use Rattle.clip.specs.Answer.{saidClipped, areCoords, clipped};
-ghost use Rattle.clip.specs.Numbers.{segAt, boxAt};
+ghost use Rattle.clip.specs.Facts.{beside, besideX, besideY};
+ghost use Rattle.clip.specs.Cutting.{least, most};
+ghost use Rattle.clip.specs.Answer.{saidClipped, areCoords, clipped, clippedOrGiven};
 ghost use Rattle.clip.specs.Demand3.{Demand3};
 use crate::cutting::cut_all;
 use refusal::Refusal;
@@ -68,51 +65,53 @@ impl BBox {
         BBox::is_within(x) & BBox::is_within(y)
     }
 
-    // Whether a box is good; where it is not, a call refuses it as BOX.
+    // Whether a box is good; where it is not, a call refuses it as BOX. The lower edge lies below the upper one, so each is asked for one end of the limit.
     pub fn is_good(b: BBox) -> bool
         ensures { λ r. ⌜ r ≡ isGood b ⌝ }
     {
-        let left = b.x_min;
-        let right = b.x_max;
-        let bottom = b.y_min;
-        let top = b.y_max;
-        are_edges(left, right, bottom, top)
+        let limit = BBox::LIMIT;
+        (b.x_min < b.x_max)
+            & (b.y_min < b.y_max)
+            & (-limit <= b.x_min)
+            & (b.x_max <= limit)
+            & (-limit <= b.y_min)
+            & (b.y_max <= limit)
+    }
+
+    // Whether a point lies in the closed box. A segment with both ends in a good box is accepted and stays as given, and need not be clipped to see it.
+    pub fn is_inside(b: BBox, p: Pt) -> bool
+        ensures { λ r. ⌜ r ≡ isInside b p ⌝ }
+    {
+        (b.x_min <= p.x) & (p.x <= b.x_max) & ((b.y_min <= p.y) & (p.y <= b.y_max))
+    }
+
+    // The lower and the upper corner.
+    fn low(b: BBox) -> Pt
+        ensures { λ r. ⌜ r ≡ record { x = b .«x_min»; y = b .«y_min» } ⌝ }
+    {
+        Pt {
+            x: b.x_min,
+            y: b.y_min,
+        }
+    }
+
+    fn high(b: BBox) -> Pt
+        ensures { λ r. ⌜ r ≡ record { x = b .«x_max»; y = b .«y_max» } ⌝ }
+    {
+        Pt {
+            x: b.x_max,
+            y: b.y_max,
+        }
     }
 }
 
-// Whether four numbers are the edges of a good box. The lower edge lies below the upper one, so each is asked for one end of the limit.
-pub fn are_edges(left: i32, right: i32, bottom: i32, top: i32) -> bool
-    ensures { λ r. ⌜ r ≡ isGood (boxAt left right bottom top) ⌝ }
+// Whether both ends lie within the limit.
+fn are_coords(s: Seg) -> bool
+    ensures { λ r. ⌜ r ≡ areCoords s ⌝ }
 {
-    let limit = BBox::LIMIT;
-    (left < right)
-        & (bottom < top)
-        & (-limit <= left)
-        & (right <= limit)
-        & (-limit <= bottom)
-        & (top <= limit)
-}
-
-// Whether four numbers are the ends of a segment within the limit: the lower ends of the limit first, for the compiler makes less of it so.
-fn are_coords(x0: i32, y0: i32, x1: i32, y1: i32) -> bool
-    ensures { λ r. ⌜ r ≡ areCoords (segAt x0 y0 x1 y1) ⌝ }
-{
-    let limit = BBox::LIMIT;
-    (-limit <= x0)
-        & (-limit <= y0)
-        & (-limit <= x1)
-        & (-limit <= y1)
-        & (x0 <= limit)
-        & (y0 <= limit)
-        & (x1 <= limit)
-        & (y1 <= limit)
-}
-
-// Whether a point lies in the closed box. A segment with both ends in a good box is accepted and stays as given, and need not be clipped to see it.
-pub fn is_inside(x: i32, y: i32, left: i32, right: i32, bottom: i32, top: i32) -> bool
-    ensures { λ r. ⌜ r ≡ isInside (boxAt left right bottom top) (record { x = x; y = y }) ⌝ }
-{
-    (left <= x) & (x <= right) & ((bottom <= y) & (y <= top))
+    let p0 = s.p0;
+    let p1 = s.p1;
+    BBox::is_coord(p0) & BBox::is_coord(p1)
 }
 
 // The smaller and the larger of two numbers.
@@ -130,7 +129,7 @@ fn most_of(m: i32, n: i32) -> i32
 
 // Whether two numbers lie both below a range or both above it.
 fn are_beside(m: i32, n: i32, low: i32, high: i32) -> bool
-    ensures { λ r. ⌜ r ≡ (ltZ (most m n) low || ltZ high (least m n)) ⌝ }
+    ensures { λ r. ⌜ r ≡ beside m n low high ⌝ }
 {
     if most_of(m, n) < low {
         return true;
@@ -138,30 +137,21 @@ fn are_beside(m: i32, n: i32, low: i32, high: i32) -> bool
     high < least_of(m, n)
 }
 
-// A segment beside the box as given, another by the four cuts.
-fn clip_good(bbox: BBox, seg: Seg) -> ClippedSeg
-    requires { ⌜ Good bbox ⌝ }
-    requires { ⌜ Coord (seg .p0) ⌝ }
-    requires { ⌜ Coord (seg .p1) ⌝ }
-    ensures { λ r. ⌜ r ≡ clip bbox seg ⌝ }
+// Whether a segment lies beside the box in x, and in y: it has no point in the box, and stays as given.
+fn is_beside(b: BBox, s: Seg) -> bool
+    ensures { λ r. ⌜ r ≡ besideX b s ⌝ }
 {
-    let p0 = seg.p0;
-    let p1 = seg.p1;
-    let x0 = p0.x;
-    let y0 = p0.y;
-    let x1 = p1.x;
-    let y1 = p1.y;
-    let left = bbox.x_min;
-    let right = bbox.x_max;
-    let bottom = bbox.y_min;
-    let top = bbox.y_max;
-    if are_beside(x0, x1, left, right) {
-        return ClippedSeg { seg: seg };
-    }
-    if are_beside(y0, y1, bottom, top) {
-        return ClippedSeg { seg: seg };
-    }
-    cut_all(x0, y0, x1, y1, left, right, bottom, top)
+    let p0 = s.p0;
+    let p1 = s.p1;
+    are_beside(p0.x, p1.x, b.x_min, b.x_max)
+}
+
+fn is_beyond(b: BBox, s: Seg) -> bool
+    ensures { λ r. ⌜ r ≡ besideY b s ⌝ }
+{
+    let p0 = s.p0;
+    let p1 = s.p1;
+    are_beside(p0.y, p1.y, b.y_min, b.y_max)
 }
 
 // The segment cut at the box: BOX, then COORD, else the clipped segment.
@@ -172,44 +162,35 @@ pub fn clip(seg: Seg, bbox: BBox) -> Clipped
     if !BBox::is_good(bbox) {
         return Clipped::Refused(Refusal::Box);
     }
+    if !are_coords(seg) {
+        return Clipped::Refused(Refusal::Coord);
+    }
+    if is_beside(bbox, seg) {
+        return Clipped::Done(ClippedSeg { seg: seg });
+    }
+    if is_beyond(bbox, seg) {
+        return Clipped::Done(ClippedSeg { seg: seg });
+    }
     let p0 = seg.p0;
     let p1 = seg.p1;
-    if !BBox::is_coord(p0) {
-        return Clipped::Refused(Refusal::Coord);
-    }
-    if !BBox::is_coord(p1) {
-        return Clipped::Refused(Refusal::Coord);
-    }
-    Clipped::Done(clip_good(bbox, seg))
+    Clipped::Done(cut_all(p0, p1, BBox::low(bbox), BBox::high(bbox)))
 }
 
-// The same of plain numbers, for callers that have the segment and the box so.
-pub fn clip_at(
-    x0: i32,
-    y0: i32,
-    x1: i32,
-    y1: i32,
-    left: i32,
-    right: i32,
-    bottom: i32,
-    top: i32,
-) -> Clipped
-    ensures { λ r. ⌜ saidClipped r ≡ clipped (segAt x0 y0 x1 y1) (boxAt left right bottom top) ⌝ }
+// The clipped segment, or the segment as given where `clip` refuses it: for callers that know that it does not.
+pub fn clip_or_given(seg: Seg, bbox: BBox) -> Seg
+    ensures { λ r. ⌜ r ≡ clippedOrGiven seg bbox ⌝ }
 {
-    if !are_edges(left, right, bottom, top) {
-        return Clipped::Refused(Refusal::Box);
+    if !BBox::is_good(bbox) {
+        return seg;
     }
-    if !are_coords(x0, y0, x1, y1) {
-        return Clipped::Refused(Refusal::Coord);
+    if !are_coords(seg) {
+        return seg;
     }
-    let p0 = Pt { x: x0, y: y0 };
-    let p1 = Pt { x: x1, y: y1 };
-    let seg = Seg { p0: p0, p1: p1 };
-    if are_beside(x0, x1, left, right) {
-        return Clipped::Done(ClippedSeg { seg: seg });
+    if is_beside(bbox, seg) | is_beyond(bbox, seg) {
+        return seg;
     }
-    if are_beside(y0, y1, bottom, top) {
-        return Clipped::Done(ClippedSeg { seg: seg });
-    }
-    Clipped::Done(cut_all(x0, y0, x1, y1, left, right, bottom, top))
+    let p0 = seg.p0;
+    let p1 = seg.p1;
+    let c = cut_all(p0, p1, BBox::low(bbox), BBox::high(bbox));
+    c.seg
 }

@@ -11,7 +11,6 @@ ghost use Rattle.encoder.specs.Points.{inLimit};
 use crate::draft::Draft;
 use crate::points::is_same;
 use clip::BBox;
-use clip::Clipped;
 use clip::Pt;
 use clip::Seg;
 use words::geometry::Geometry;
@@ -30,10 +29,7 @@ pub(crate) fn clip_raw(raw: Seg, bbox: BBox) -> Seg
     requires { ⌜ areCoords raw ≡ true ⌝ }
     ensures { λ r. ⌜ r ≡ clip bbox raw .seg ⌝ }
 {
-    match clip::clip(raw, bbox) {
-        Clipped::Done(c) => c.seg,
-        Clipped::Refused(_) => raw,
-    }
+    clip::clip_or_given(raw, bbox)
 }
 
 // Whether a point lies strictly outside an edge.

@@ -136,7 +136,7 @@ refused-gives-segment h =
     (h (segAt (pos 0) (pos 0) (pos 1073741824) (pos 0)) ten)
     in omega arith
 
--- ---- clip_at
+-- ---- clip, of a segment and a box in numbers
 -- the two ends exchanged
 pub ends-exchanged : ((x0 y0 x1 y1 left right bottom top : ℤ)
     → clipped (segAt x0 y0 x1 y1) (boxAt left right bottom top) ≡ clipped (segAt x1 y1 x0 y0) (boxAt left right bottom top)) → ⊥

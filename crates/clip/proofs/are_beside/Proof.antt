@@ -5,6 +5,7 @@ use mathlib.Core.Bool.{true, false}
 use lib.Signed.{ltZ}
 use mir.Syntax.{w32}
 use Rattle.whole.proofs.Machine.{Back, back}
+use Rattle.clip.specs.Facts.{beside}
 use Rattle.clip.specs.Cutting.{least, most}
 use Rattle.clip.proofs.are_beside.Statement.{statement}
 use Rattle.clip.proofs.are_beside.Tie as tie
@@ -41,6 +42,7 @@ most-of-requires : tie.Need-most-of-requires
 most-of-requires c κs = search needs
 
 returns : tie.Need-returns
+unfolding beside
 returns c =
     let s = c .before .before in
     let e : ltZ (most (s .args .m) (s .args .n)) (s .args .low) ≡ true = rw (is-most (c .before)) at (simp read at (c .if1 .taken)) in
@@ -50,6 +52,7 @@ least-of-requires : tie.Need-least-of-requires
 least-of-requires c κs = search needs
 
 returns-2 : tie.Need-returns-2
+unfolding beside
 returns-2 c =
     let k = c .before in
     let s = k .before .before in

@@ -1,41 +1,17 @@
--- `clip::are_coords` meets its contract: the eight tests are the definition's, in another order.
+-- `clip::are_coords` meets its contract: the two tests joined are the definition's.
 use borrow.Author.Needs.{needs}
-use mir.Syntax.{w32}
-use Rattle.whole.proofs.Machine.{Back, back}
-use Rattle.clip.proofs.Returns.{coords-good}
+use mathlib.Core.Path.{refl}
 use Rattle.clip.proofs.are_coords.Statement.{statement}
 use Rattle.clip.proofs.are_coords.Tie as tie
 
--- what the machine reads back from the bits of each value
-module _ (s : tie.Start) where
-  x0 : Back w32 (s .args .x0)
-  x0 = back (s .fits .x0)
+is-coord-requires : tie.Need-is-coord-requires
+is-coord-requires c κs = search needs
 
-  y0 : Back w32 (s .args .y0)
-  y0 = back (s .fits .y0)
-
-  x1 : Back w32 (s .args .x1)
-  x1 = back (s .fits .x1)
-
-  y1 : Back w32 (s .args .y1)
-  y1 = back (s .fits .y1)
-
-ruleset read = (x0, y0, x1, y1)
-
-sub-result : tie.Need-sub-result
-sub-result c = search needs
-
-sub-result-2 : tie.Need-sub-result-2
-sub-result-2 c = search needs
-
-sub-result-3 : tie.Need-sub-result-3
-sub-result-3 c = search needs
-
-sub-result-4 : tie.Need-sub-result-4
-sub-result-4 c = search needs
+is-coord-requires-2 : tie.Need-is-coord-requires-2
+is-coord-requires-2 c κs = search needs
 
 returns : tie.Need-returns
-returns c = simp read (coords-good (c .args .x0) (c .args .y0) (c .args .x1) (c .args .y1))
+returns c = rw (c .before .is-coord .ensures, c .is-coord2 .ensures) refl
 
 pub are-coords-spec : {M : Type 1} → statement M
-are-coords-spec = tie.close (tie.spec sub-result sub-result-2 sub-result-3 sub-result-4 returns)
+are-coords-spec = tie.close (tie.spec is-coord-requires is-coord-requires-2 returns)

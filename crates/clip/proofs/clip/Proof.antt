@@ -1,9 +1,26 @@
--- `clip::clip` meets its contract: BOX, then COORD, then the clip; and demand 3 is a theorem about the definition.
+-- `clip::clip` meets its contract: BOX, then COORD, then the clip, where a segment beside the box stays; and demand 3 is a theorem about the definition.
 use borrow.Author.Needs.{needs}
-use Rattle.clip.proofs.Callers.{coord-facts, good-facts}
-use Rattle.clip.proofs.Returns.{bad-box, good-box, bad-end0, bad-end1, good-ends, all-good}
+use mathlib.Core.Path.{_≡_, sym, _∙_}
+use Rattle.clip.specs.declared.ClippedSeg.{ClippedSeg}
+use Rattle.clip.specs.declared.Clipped.the-variants.{Done}
+use Rattle.clip.specs.Facts.{Good}
+use Rattle.clip.specs.Cutting.{clip}
+use Rattle.clip.proofs.Returns.{Owed, bad-box, good, bad-coord, coords, done, beside-x, beside-y, good-cornered, clip-cornered}
 use Rattle.clip.proofs.clip.Statement.{statement}
 use Rattle.clip.proofs.clip.Tie as tie
+
+abbrev start : tie.Else1 → tie.Start
+start c = c .before .before
+
+-- past the test of the box, and that of the ends
+is-good-box : (c : tie.Else1) → Good (start c .args .bbox)
+is-good-box c = let s = start c in good (s .args .seg) (s .args .bbox) _ (c .before .is-good .ensures) (c .if1 .left)
+
+are-coords-done : (c : tie.Else2) → let e = c .before .before in let s = start e in (r : ClippedSeg) → r ≡ clip (s .args .bbox) (s .args .seg) → Owed (s .args .seg) (s .args .bbox) (Done r)
+are-coords-done c =
+    let e = c .before .before in
+    let s = start e in
+    done (s .args .seg) (s .args .bbox) _ (e .before .is-good .ensures) (e .if1 .left) _ (c .before .are-coords .ensures) (c .if2 .left)
 
 is-good-requires : tie.Need-is-good-requires
 is-good-requires c κs = search needs
@@ -11,45 +28,63 @@ is-good-requires c κs = search needs
 returns : tie.Need-returns
 returns c = let s : tie.Start = c .before .before in bad-box (s .args .seg) (s .args .bbox) _ (c .before .is-good .ensures) (c .if1 .taken)
 
-is-coord-requires : tie.Need-is-coord-requires
-is-coord-requires c κs = search needs
-
--- the place after the test of the box
-abbrev boxed : tie.After-is-coord → tie.Else1
-boxed c = c .before .before .before
+are-coords-requires : tie.Need-are-coords-requires
+are-coords-requires c κs = search needs
 
 returns-2 : tie.Need-returns-2
 returns-2 c =
-    let g = boxed (c .before) in
-    let s : tie.Start = g .before .before in
-    bad-end0 (s .args .seg) (s .args .bbox) _ (g .before .is-good .ensures) (g .if1 .left) _ (c .before .is-coord .ensures) (c .if2 .taken)
+    let e = c .before .before in
+    let s = start e in
+    bad-coord (s .args .seg) (s .args .bbox) _ (e .before .is-good .ensures) (e .if1 .left) _ (c .before .are-coords .ensures) (c .if2 .taken)
 
-is-coord-requires-2 : tie.Need-is-coord-requires-2
-is-coord-requires-2 c κs = search needs
+is-beside-requires : tie.Need-is-beside-requires
+is-beside-requires c κs = search needs
 
 returns-3 : tie.Need-returns-3
 returns-3 c =
-    let g = boxed (c .before .before .before) in
-    let s : tie.Start = g .before .before in
-    bad-end1 (s .args .seg) (s .args .bbox) _ (g .before .is-good .ensures) (g .if1 .left) _ (c .before .is-coord2 .ensures) (c .if3 .taken)
+    let f = c .before .before in
+    let e = f .before .before in
+    let s = start e in
+    are-coords-done f _ (beside-x (s .args .bbox) (s .args .seg) (is-good-box e) (sym (c .before .is-beside .ensures) ∙ c .if3 .taken))
 
-clip-good-requires : tie.Need-clip-good-requires
-clip-good-requires c κs =
-    let k = c .before in
-    let j = k .before .before in
-    let g = boxed j in
-    let s : tie.Start = g .before .before in
-    let e = good-ends (s .args .seg) (s .args .bbox) _ (g .before .is-good .ensures) (g .if1 .left) _ _ (j .is-coord .ensures) (k .is-coord2 .ensures) (k .before .if2 .left) (c .if3 .left) in
-    (good-facts (good-box (s .args .seg) (s .args .bbox) _ (g .before .is-good .ensures) (g .if1 .left)), (coord-facts (e .0), coord-facts (e .1)))
+is-beyond-requires : tie.Need-is-beyond-requires
+is-beyond-requires c κs = search needs
 
 returns-4 : tie.Need-returns-4
 returns-4 c =
+    let f = c .before .before .before .before in
+    let e = f .before .before in
+    let s = start e in
+    are-coords-done f _ (beside-y (s .args .bbox) (s .args .seg) (is-good-box e) (sym (c .before .is-beyond .ensures) ∙ c .if4 .taken))
+
+low-requires : tie.Need-low-requires
+low-requires c κs = search needs
+
+high-requires : tie.Need-high-requires
+high-requires c κs = search needs
+
+-- past the tests of the ends, and of lying beside the box
+abbrev at-cut : tie.After-high → tie.Else4
+at-cut c = c .before .before .before .before
+
+abbrev within : tie.After-high → tie.Else2
+within c = at-cut c .before .before .before .before
+
+cut-all-requires : tie.Need-cut-all-requires
+cut-all-requires c κs =
+    let f = within c in
+    let e = f .before .before in
+    let s = start e in
+    (good-cornered (s .args .bbox) _ _ (c .before .low .ensures) (c .high .ensures) (is-good-box e), coords (s .args .seg) (s .args .bbox) _ (e .before .is-good .ensures) (e .if1 .left) _ (f .before .are-coords .ensures) (f .if2 .left))
+
+returns-5 : tie.Need-returns-5
+returns-5 c =
     let h = c .before in
-    let k = h .before in
-    let j = k .before .before in
-    let g = boxed j in
-    let s : tie.Start = g .before .before in
-    all-good (s .args .seg) (s .args .bbox) _ (g .before .is-good .ensures) (g .if1 .left) _ _ (j .is-coord .ensures) (k .is-coord2 .ensures) (k .before .if2 .left) (h .if3 .left) _ (c .clip-good .ensures)
+    let f = within h in
+    let s = start (f .before .before) in
+    are-coords-done f _ (clip-cornered (s .args .bbox) _ _ (h .before .low .ensures) (h .high .ensures) (s .args .seg) _ (c .cut-all .ensures))
 
 pub clip-spec : {M : Type 1} → statement M
-clip-spec = tie.close (tie.spec is-good-requires returns is-coord-requires returns-2 is-coord-requires-2 returns-3 clip-good-requires returns-4)
+clip-spec =
+    tie.close
+    (tie.spec is-good-requires returns are-coords-requires returns-2 is-beside-requires returns-3 is-beyond-requires returns-4 low-requires high-requires cut-all-requires returns-5)
