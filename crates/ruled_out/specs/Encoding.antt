@@ -9,6 +9,7 @@ use lib.ListN.{length, replicate}
 use lib.Signed.{ltZ, leZ}
 use native.Mathlib.Omega.{arith}
 use Rattle.whole.specs.Equal.{eqZ}
+use Rattle.promise.specs.Laid.{lay}
 use Rattle.promise.specs.Answers.{Written, kept}
 use Rattle.refusal.specs.declared.Refusal.the-variants.{Kind, Box, State, Coord, Room}
 use Rattle.refusal.specs.Said.{Said, accepted, refused}
@@ -27,7 +28,7 @@ use Rattle.encoder.specs.Points.{inLimit, inLimits, clampTo, clamped, samePt, i
 use Rattle.encoder.specs.Boundary.{moved, movedEnds, outside}
 use Rattle.encoder.specs.Pushed.{moveTo, lineTo, closePath, command, countWord, closeWord}
 use Rattle.encoder.specs.Figures.{figuresFit}
-use Rattle.encoder.specs.Ends.{layIf, layEnd}
+use Rattle.encoder.specs.Ends.{layEnd}
 use Rattle.encoder.specs.declared.GeomEncoder.{GeomEncoder}
 use Rattle.encoder.specs.States.{fresh, valid}
 use Rattle.encoder.specs.Answers.{done, turned, fitting, started}
@@ -124,14 +125,12 @@ second-moves h = let e : _≡_ {A = ℕ} 10 9 = ap (item 0) (h 2 1) in omega ari
 
 -- ClosePath goes over the last command
 pub closed-elsewhere : ((kind count place used : ℕ) (l : List ℕ)
-    → layEnd kind count place used l ≡ layIf place (closeWord kind count) (layIf place (countWord kind count) l)) → ⊥
-unfolding layIf
+    → layEnd kind count place used l ≡ lay place (closeWord kind count) (lay place (countWord kind count) l)) → ⊥
 closed-elsewhere h = let e : _≡_ {A = ℕ} 15 0 = ap (item 6) (h 3 2 3 6 (replicate 8 0)) in omega arith
 
 -- the count goes over the first word
 pub counted-at-the-front : ((kind count place used : ℕ) (l : List ℕ)
-    → layEnd kind count place used l ≡ layIf used (closeWord kind count) (layIf 0 (countWord kind count) l)) → ⊥
-unfolding layIf
+    → layEnd kind count place used l ≡ lay used (closeWord kind count) (lay 0 (countWord kind count) l)) → ⊥
 counted-at-the-front h = let e : _≡_ {A = ℕ} 10 0 = ap (item 3) (h 3 2 3 6 (replicate 8 0)) in omega arith
 
 -- ---- GeomEncoder::new
