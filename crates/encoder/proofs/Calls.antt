@@ -1,5 +1,5 @@
 -- Laws of the calls: what each `return` of a call gives.
-use mathlib.Core.Path.{_≡_, refl, _∙_, ap}
+use mathlib.Core.Path.{_≡_, refl, ap}
 use mathlib.Core.Bool.{Bool, true, false, cond, not, _&&_}
 use mathlib.Core.List.{List, [], _∷_}
 use Prim.Native.Nat.{ℕ, _+_, _-_, _≤_, _<_}
@@ -8,7 +8,6 @@ use borrow.Author.Tests.{eq-eqb, ne-eqb, le-leb, lt-leb, eqb-true, ltb-true}
 use lib.Dec.{leb, ltb, eqb}
 use lib.ListN.{length}
 use Rattle.promise.specs.Answers.{Gives}
-use Rattle.promise.specs.Laid.{lay}
 use Rattle.promise.proofs.Cases.{gives-kept}
 use Rattle.refusal.specs.declared.Refusal.the-variants.{State, Coord, Empty, Room}
 use Rattle.refusal.specs.Said.{Said}
@@ -17,9 +16,7 @@ use Rattle.clip.specs.Domain.{isCoord}
 use Rattle.words.specs.Geometries.{maxWords, room}
 use Rattle.words.specs.Commands.{commandWord}
 use Rattle.encoder.specs.Pushed.{moveTo, lineTo, closePath}
-use Rattle.encoder.specs.Ends.{layIf, layEnd}
-use Rattle.encoder.proofs.CommandWords.{count-is}
-use Rattle.encoder.proofs.Laying.{Fitting, fitting-laid, fitting-long}
+use Rattle.encoder.specs.Ends.{Fitting, EndFits, layEnd}
 use Rattle.encoder.specs.declared.GeomEncoder.{GeomEncoder}
 use Rattle.encoder.specs.States.{valid, Valid}
 use Rattle.encoder.specs.Answers.{Counted, done, turned, fitting}
@@ -126,22 +123,18 @@ module _ (s : GeomEncoder) (out : List ℕ) (w : valid s (length out) ≡ true) 
             let g = room-length (length out) in
             record { fits = λ z. omega (arith, facts .placed (counted-some s k z), facts .fits, one-word s) }
 
-        close-fits : (o : List ℕ) → length o ≡ length out → Fitting (s .used) (closing s) (length o)
-        close-fits o n =
+        close-fits : Fitting (s .used) (closing s) (length out)
+        close-fits =
             let g = room-length (length out) in
             let u : next .used ≡ finished s .used = ap (λ (x : GeomEncoder). x .used) d in
             record { fits = λ z. omega (arith, finished-used s) }
 
-        end-laid : layEnd (s .kind) (s .count) (s .«cmd_offset») (s .used) out ≡ lay (s .used) (closing s) (lay (s .«cmd_offset») (counting s) out)
-        end-laid =
-            let o : List ℕ = lay (s .«cmd_offset») (counting s) out in
-            ap (λ (c : List ℕ). layIf (s .used) (closing s) (layIf (s .«cmd_offset») c out)) (count-is (s .kind) (s .count) end-count)
-            ∙ ap (layIf (s .used) (closing s)) (fitting-laid (s .«cmd_offset») (counting s) out count-fits)
-            ∙ fitting-laid (s .used) (closing s) o (close-fits o (fitting-long (s .«cmd_offset») (counting s) out count-fits))
+        pub end-fits : EndFits (s .kind) (s .count) (s .«cmd_offset») (s .used) (length out)
+        end-fits = record { small = omega (arith, end-count); counted = count-fits; closed = close-fits }
 
         pub end-done : (o : List ℕ) → o ≡ layEnd (s .kind) (s .count) (s .«cmd_offset») (s .used) out → Gives (completed s out) (done next) o
         unfolding completed
         end-done o x =
             let u : next .used ≡ finished s .used = ap (λ (x : GeomEncoder). x .used) d in
             let z : leb (finished s .used) (room (length out)) ≡ true = le-leb (finished s .used) (room (length out)) (omega arith) in
-            rw (w, k, z) (record { answer = ap done d; memory = x ∙ end-laid })
+            rw (w, k, z) (record { answer = ap done d; memory = x })

@@ -1,16 +1,15 @@
 -- Document 01, "Adding a point", "Completing".
-use Prim.Native.Nat.{ℕ, _+_, _-_}
+use Prim.Native.Nat.{ℕ, _+_}
 use mathlib.Core.Bool.{Bool, cond, _&&_}
-use mathlib.Core.List.{List, [], _∷_}
-use lib.Dec.{ltb, eqb}
+use mathlib.Core.List.{List}
+use lib.Dec.{eqb}
 use lib.ListN.{length}
 use Rattle.promise.specs.Answers.{Written, kept}
-use Rattle.promise.specs.Laid.{lay}
 use Rattle.refusal.specs.declared.Refusal.the-variants.{State, Empty}
 use Rattle.refusal.specs.Said.{Said}
-use Rattle.words.specs.Commands.{commandWord}
 use Rattle.encoder.specs.declared.points.MaybePt.the-variants.{Nowhere}
-use Rattle.encoder.specs.Pushed.{moveTo, lineTo, closeWord}
+use Rattle.encoder.specs.Pushed.{countWord, closeWord}
+use Rattle.encoder.specs.Ends.{layEnd}
 use Rattle.encoder.specs.declared.GeomEncoder.{GeomEncoder}
 use Rattle.encoder.specs.States.{valid}
 use Rattle.encoder.specs.Answers.{Counted, turned, fitting}
@@ -18,7 +17,7 @@ use Rattle.encoder.specs.Emitting.{placeOf}
 
 -- "points set the MoveTo's count .. Others with count > 1 set LineTo's count to count - 1": the word laid at the last command's place
 abbrev pub counting : GeomEncoder → List ℕ
-counting s = cond (eqb (s .kind) 1) (commandWord moveTo (s .count) ∷ []) (cond (ltb 1 (s .count)) (commandWord lineTo (s .count - 1) ∷ []) [])
+counting s = countWord (s .kind) (s .count)
 
 -- "polygons then write ClosePath, 15"
 abbrev pub closing : GeomEncoder → List ℕ
@@ -33,7 +32,7 @@ unfoldable pub finished : GeomEncoder → GeomEncoder
 finished s = cond (eqb (s .kind) 1) s (cleared s (placeOf (closing s) s) (s .used + length (closing s)))
 
 abbrev pub closed : GeomEncoder → List ℕ → Written GeomEncoder (List ℕ)
-closed s out = record { answer = finished s; memory = lay (s .used) (closing s) (lay (s .«cmd_offset») (counting s) out) }
+closed s out = record { answer = finished s; memory = layEnd (s .kind) (s .count) (s .«cmd_offset») (s .used) out }
 
 -- EMPTY: "a point geometry with count 0 is completed"
 abbrev pub isEmpty : GeomEncoder → Bool

@@ -94,3 +94,10 @@ saidEncoded (Refused r n) = refused r n
 abbrev pub outcomeOf : ℕ → Course → Outcome
 outcomeOf n (On s) = on n s
 outcomeOf n (Off r k) = off (refused r k)
+
+-- all calls of a job, from a state on; and what the code's course stands for behind them
+abbrev pub goAll : List ℤ → List ℕ → GeomEncoder → List ℕ → Written Outcome (List ℕ)
+goAll points ends s out = go (jobCalls (pointsOf points) 0 ends) 0 s out
+
+abbrev pub endOf : List ℤ → Course → Outcome
+endOf points r = outcomeOf (length points / 2) r

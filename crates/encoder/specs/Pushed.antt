@@ -2,8 +2,8 @@
 use Prim.Native.Nat.{ℕ, _-_}
 use mathlib.Core.Bool.{cond, _&&_}
 use mathlib.Core.List.{List, [], _∷_}
-use lib.Dec.{leb, ltb, eqb}
-use Rattle.words.specs.Commands.{commandWord, maxCount, idOf}
+use lib.Dec.{ltb, eqb}
+use Rattle.words.specs.Commands.{commandWord, idOf}
 use Rattle.words.specs.declared.command.Command.the-variants.{MoveTo, LineTo, ClosePath}
 use Rattle.encoder.specs.declared.commands.MaybeWord.{MaybeWord}
 use Rattle.encoder.specs.declared.commands.MaybeWord.the-variants.{NoWord, Word}
@@ -26,13 +26,9 @@ closePath = idOf ClosePath
 abbrev pub command : ℕ → ℕ → List ℕ
 command kind count = cond (eqb count 0) (commandWord moveTo 1 ∷ []) (cond (eqb count 1) (cond (eqb kind 1) [] (commandWord lineTo 1 ∷ [])) [])
 
--- for all counts: one that does not fit beside the id gives no word
-abbrev pub commandIf : ℕ → ℕ → List ℕ
-commandIf id count = cond (leb count maxCount) (commandWord id count ∷ []) []
-
 -- ---- "points set the MoveTo's count .. Others with count > 1 set LineTo's count to count - 1"
 abbrev pub countWord : ℕ → ℕ → List ℕ
-countWord kind count = cond (eqb kind 1) (commandIf moveTo count) (cond (ltb 1 count) (commandIf lineTo (count - 1)) [])
+countWord kind count = cond (eqb kind 1) (commandWord moveTo count ∷ []) (cond (ltb 1 count) (commandWord lineTo (count - 1) ∷ []) [])
 
 -- ---- "polygons then write ClosePath, 15"
 abbrev pub closeWord : ℕ → ℕ → List ℕ

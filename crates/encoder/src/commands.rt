@@ -1,13 +1,14 @@
 // The commands of a part (document 01, "Adding a point"): the one that a point is pushed with, and the counts and ClosePath that complete it, with the
 // figures that say where they stand.
-// Functions of words and numbers alone: they know no state. Where a word does not fit the list it is not laid; a caller asks for room first.
+// Functions of words and numbers alone: they know no state. A caller asks for room first.
 ghost use mathlib.Core.Path.{_≡_};
-ghost use mathlib.Core.List.{[], _∷_};
+ghost use lib.ListN.{length};
+ghost use Rattle.promise.specs.Laid.{lay};
 ghost use Prim.Native.Nat.{_≤_};
 ghost use Rattle.words.specs.Commands.{commandWord, maxCount, idOf};
 ghost use Rattle.encoder.specs.Figures.{figuresFit};
-ghost use Rattle.encoder.specs.Pushed.{wordOf, command, commandIf, countWord, closeWord};
-ghost use Rattle.encoder.specs.Ends.{layIf, layEnd};
+ghost use Rattle.encoder.specs.Pushed.{wordOf, command, countWord, closeWord};
+ghost use Rattle.encoder.specs.Ends.{Fitting, EndFits, layEnd};
 use words::command::Command;
 use words::command::CommandInt;
 use words::command::CommandWord;
@@ -44,20 +45,6 @@ fn command_word(id: Command, count: u32) -> u32
     }
 }
 
-// A command's word; none where the count does not fit beside the id.
-fn command_if(id: Command, count: u32) -> MaybeWord
-    ensures { λ r. ⌜ wordOf r ≡ commandIf (idOf id) count ⌝ }
-{
-    let c = CommandInt {
-        id: id,
-        count: count,
-    };
-    match c.encode() {
-        CommandWord::Word(w) => MaybeWord::Word(w),
-        CommandWord::Refused(_) => MaybeWord::NoWord,
-    }
-}
-
 // The command that a point at this count is pushed with, if one is.
 pub(crate) fn push_command(kind: u32, count: usize) -> MaybeWord
     ensures { λ r. ⌜ wordOf r ≡ command kind count ⌝ }
@@ -76,13 +63,14 @@ pub(crate) fn push_command(kind: u32, count: usize) -> MaybeWord
 
 // The word that sets the last command's count, if it is set.
 fn set_command_count(kind: u32, count: u32) -> MaybeWord
+    requires { ⌜ count ≤ maxCount ⌝ }
     ensures { λ r. ⌜ wordOf r ≡ countWord kind count ⌝ }
 {
     if kind == Geometry::POINT {
-        return command_if(Command::MoveTo, count);
+        return MaybeWord::Word(command_word(Command::MoveTo, count));
     }
     if 1 < count {
-        return command_if(Command::LineTo, count - 1);
+        return MaybeWord::Word(command_word(Command::LineTo, count - 1));
     }
     MaybeWord::NoWord
 }
@@ -98,29 +86,19 @@ fn close_path(kind: u32, count: u32) -> MaybeWord
 }
 
 // ---- writing
-fn write_one(at: usize, a: u32, words: &mut [u32])
-    ensures { λ r. ⌜ now (words .exit) ≡ layIf at (a ∷ []) (now (words .entry)) ⌝ }
-{
-    if words.len() < at {
-        return;
-    }
-    if words.len() - at < 1 {
-        return;
-    }
-    words[at] = a;
-}
-
 fn write_word(at: usize, word: MaybeWord, words: &mut [u32])
-    ensures { λ r. ⌜ now (words .exit) ≡ layIf at (wordOf word) (now (words .entry)) ⌝ }
+    requires { ⌜ Fitting at (wordOf word) (length (now words)) ⌝ }
+    ensures { λ r. ⌜ now (words .exit) ≡ lay at (wordOf word) (now (words .entry)) ⌝ }
 {
     match word {
         MaybeWord::NoWord => {}
-        MaybeWord::Word(w) => write_one(at, w, words),
+        MaybeWord::Word(w) => words[at] = w,
     }
 }
 
 // Completes a part: the count at the last command's place, then ClosePath behind the used words.
 pub(crate) fn write_end(kind: u32, count: u32, cmd_offset: usize, used: usize, words: &mut [u32])
+    requires { ⌜ EndFits kind count «cmd_offset» used (length (now words)) ⌝ }
     ensures { λ r. ⌜ now (words .exit) ≡ layEnd kind count «cmd_offset» used (now (words .entry)) ⌝ }
 {
     let counted = set_command_count(kind, count);

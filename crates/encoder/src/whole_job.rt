@@ -7,7 +7,7 @@ ghost use lib.ListN.{length};
 ghost use Rattle.promise.specs.Answers.{Gives};
 ghost use Rattle.encoder.specs.Calls.{partCalls};
 ghost use Rattle.encoder.specs.States.{Sound};
-ghost use Rattle.encoder.specs.Jobs.{pointsOf, isJob, endsAt, part, jobCalls, go, encodedJob, saidEncoded, outcomeOf};
+ghost use Rattle.encoder.specs.Jobs.{pointsOf, isJob, endsAt, part, go, goAll, endOf, encodedJob, saidEncoded, outcomeOf};
 use crate::Drawn;
 use crate::GeomEncoder;
 use crate::Started;
@@ -86,8 +86,7 @@ fn add_part(s: GeomEncoder, points: &[i32], from: usize, to: usize, words: &mut 
 fn add_parts(s: GeomEncoder, points: &[i32], ends: &[u32], words: &mut [u32]) -> Course
     requires { ⌜ endsAt 0 (now ends) (length (now points) / 2) ≡ true ⌝ }
     requires { ⌜ Sound s (length (now words)) ⌝ }
-    ensures { λ r. ⌜ Gives (go (jobCalls (pointsOf (now (points .entry))) 0 (now (ends .entry))) 0 s (now (words .entry)))
-        (outcomeOf (length (now (points .entry)) / 2) r) (now (words .exit)) ⌝ }
+    ensures { λ r. ⌜ Gives (goAll (now (points .entry)) (now (ends .entry)) s (now (words .entry))) (endOf (now (points .entry)) r) (now (words .exit)) ⌝ }
 {
     let mut q = s;
     let mut from = 0;

@@ -8,6 +8,7 @@ use lib.IntN.{ℤ, pos, negsuc}
 use lib.ListN.{length, replicate}
 use lib.Signed.{ltZ, leZ}
 use native.Mathlib.Omega.{arith}
+use Rattle.promise.specs.Laid.{lay}
 use Rattle.whole.specs.Equal.{eqZ}
 use Rattle.words.specs.Commands.{commandWord}
 use Rattle.clip.specs.declared.Pt.{Pt}
@@ -19,7 +20,7 @@ use Rattle.encoder.specs.declared.points.MaybePt.the-variants.{Nowhere, At}
 use Rattle.encoder.specs.Points.{clampTo, clamped, samePt, isLast, strictly, between, missing, outBefore, lastBetween, lastOf}
 use Rattle.encoder.specs.Boundary.{moved, movedEnds, outside}
 use Rattle.encoder.specs.Pushed.{moveTo, lineTo, command, countWord, closeWord}
-use Rattle.encoder.specs.Ends.{layIf, layEnd}
+use Rattle.encoder.specs.Ends.{layEnd}
 use Rattle.encoder.specs.Adding.{pointAt}
 use Rattle.ruled_out.specs.Inputs.{bit, size, item, firstY, ten, point}
 
@@ -111,12 +112,10 @@ second-moves h = let e : _≡_ {A = ℕ} 10 9 = ap (item 0) (h 2 1) in omega ari
 
 -- ClosePath goes over the last command
 pub closed-elsewhere : ((kind count place used : ℕ) (l : List ℕ)
-    → layEnd kind count place used l ≡ layIf place (closeWord kind count) (layIf place (countWord kind count) l)) → ⊥
-unfolding layIf
+    → layEnd kind count place used l ≡ lay place (closeWord kind count) (lay place (countWord kind count) l)) → ⊥
 closed-elsewhere h = let e : _≡_ {A = ℕ} 15 0 = ap (item 6) (h 3 2 3 6 (replicate 8 0)) in omega arith
 
 -- the count goes over the first word
 pub counted-at-the-front : ((kind count place used : ℕ) (l : List ℕ)
-    → layEnd kind count place used l ≡ layIf used (closeWord kind count) (layIf 0 (countWord kind count) l)) → ⊥
-unfolding layIf
+    → layEnd kind count place used l ≡ lay used (closeWord kind count) (lay 0 (countWord kind count) l)) → ⊥
 counted-at-the-front h = let e : _≡_ {A = ℕ} 10 0 = ap (item 3) (h 3 2 3 6 (replicate 8 0)) in omega arith

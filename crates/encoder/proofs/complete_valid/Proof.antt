@@ -1,5 +1,5 @@
 -- A count is set only where a command stands below the used words, and ClosePath has the room that was asked for.
-use Rattle.encoder.proofs.Calls.{end-empty, end-used, end-room, end-done}
+use Rattle.encoder.proofs.Calls.{end-empty, end-used, end-room, end-fits, end-done}
 use borrow.Author.Needs.{needs}
 use Rattle.encoder.proofs.complete_valid.Statement.{statement}
 use Rattle.encoder.proofs.complete_valid.Tie as tie
@@ -20,7 +20,7 @@ returns-2 : tie.Need-returns-2
 returns-2 c = search (needs, end-empty, end-used, end-room, end-done)
 
 write-end-requires : tie.Need-write-end-requires
-write-end-requires c κs = search needs
+write-end-requires c κs = search (needs, end-fits)
 
 same-length : tie.Need-same-length
 same-length c = search needs

@@ -4,20 +4,20 @@ use borrow.Author.Needs.{needs}
 use Rattle.encoder.proofs.commands.set_command_count.Statement.{statement}
 use Rattle.encoder.proofs.commands.set_command_count.Tie as tie
 
-command-if-requires : tie.Need-command-if-requires
-command-if-requires c κs = search needs
+command-word-requires : tie.Need-command-word-requires
+command-word-requires c κs = search needs
 
 returns : tie.Need-returns
-returns c = search (needs, tests, c .command-if .ensures)
+returns c = search (needs, tests)
 
-sub-command-if : tie.Need-sub-command-if
-sub-command-if c = search needs
+sub-command-word : tie.Need-sub-command-word
+sub-command-word c = search needs
 
-command-if-requires-2 : tie.Need-command-if-requires-2
-command-if-requires-2 c κs = search needs
+command-word-requires-2 : tie.Need-command-word-requires-2
+command-word-requires-2 c κs = search needs
 
 returns-2 : tie.Need-returns-2
-returns-2 c = search (needs, tests, c .command-if2 .ensures)
+returns-2 c = search (needs, tests)
 
 returns-3 : tie.Need-returns-3
 returns-3 c = search (needs, tests)
@@ -26,9 +26,9 @@ pub set-command-count-spec : {M : Type 1} → statement M
 set-command-count-spec =
     tie.close
     (tie.spec
-    command-if-requires
+    command-word-requires
     returns
-    sub-command-if
-    command-if-requires-2
+    sub-command-word
+    command-word-requires-2
     returns-2
     returns-3)

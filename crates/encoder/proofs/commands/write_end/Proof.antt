@@ -1,5 +1,5 @@
--- The count's word, then the closing one.
-use Rattle.encoder.proofs.Laying.{end-after}
+-- The count's word, then the closing one, in a list that is as long as before.
+use Rattle.encoder.proofs.Laying.{first-fits, second-fits, end-after}
 use borrow.Author.Needs.{needs}
 use Rattle.encoder.proofs.commands.write_end.Statement.{statement}
 use Rattle.encoder.proofs.commands.write_end.Tie as tie
@@ -11,10 +11,10 @@ close-path-requires : tie.Need-close-path-requires
 close-path-requires c κs = search needs
 
 write-word-requires : tie.Need-write-word-requires
-write-word-requires c κs = search needs
+write-word-requires c κs = search (needs, first-fits)
 
 write-word-requires-2 : tie.Need-write-word-requires-2
-write-word-requires-2 c κs = search needs
+write-word-requires-2 c κs = search (needs, second-fits)
 
 same-length : tie.Need-same-length
 same-length c = search needs
