@@ -1,5 +1,5 @@
-// Numbers of the machine, one as another, once for every crate: widened, taken into halves and put together, read as signed and back, how far from zero; and the
-// smaller of two.
+// Numbers of the machine, one as another, once for every crate: widened, taken into halves and put together, read as signed and back, how far from
+// zero; and the smaller of two.
 ghost use mathlib.Core.Path.{_≡_};
 ghost use Prim.Native.Nat.{_%_, _/_};
 ghost use lib.IntN.{natAbs};

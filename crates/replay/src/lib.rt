@@ -86,13 +86,7 @@ pub fn signed_at(list: &[u32], i: usize) -> i32
     number::signed32(number(list, i))
 }
 
-// A number and a size as numbers of a row. No list is as long as 2^63, so -1 stands for a size that has no place there.
-pub fn long(n: i32) -> i64
-    ensures { λ r. ⌜ r ≡ n ⌝ }
-{
-    n as i64
-}
-
+// A size as a number of a row. No list is as long as 2^63, so -1 stands for a size that has no place there.
 pub fn size(count: usize) -> i64
     ensures { λ r. ⌜ r ≡ sizeOf count ⌝ }
 {

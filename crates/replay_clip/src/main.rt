@@ -3,7 +3,7 @@ use clip::BBox;
 use clip::Clipped;
 use clip::Pt;
 use clip::Seg;
-use replay::long;
+use number::signed_long;
 use replay::signed_at;
 
 // The segment of a case.
@@ -33,7 +33,12 @@ fn box_of(case: &[u32]) -> BBox {
 fn print_segment(s: Seg) {
     let p0 = s.p0;
     let p1 = s.p1;
-    let row = [long(p0.x), long(p0.y), long(p1.x), long(p1.y)];
+    let row = [
+        signed_long(p0.x),
+        signed_long(p0.y),
+        signed_long(p1.x),
+        signed_long(p1.y),
+    ];
     replay::print_row(&row);
 }
 

@@ -1,6 +1,6 @@
 // Replays readings of words: prints for each list of words how many vertices there are and then each vertex, its id, x and y, on a line; or the refusal.
 use decoder::Reading;
-use replay::long;
+use number::signed_long;
 
 // So many vertices, three numbers each, as far as the list goes.
 fn print_vertices(numbers: &[i32], vertices: usize) {
@@ -11,9 +11,9 @@ fn print_vertices(numbers: &[i32], vertices: usize) {
             return;
         }
         let row = [
-            long(numbers[at]),
-            long(numbers[at + 1]),
-            long(numbers[at + 2]),
+            signed_long(numbers[at]),
+            signed_long(numbers[at + 1]),
+            signed_long(numbers[at + 2]),
         ];
         replay::print_row(&row);
         at += 3;

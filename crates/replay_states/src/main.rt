@@ -5,7 +5,7 @@ use encoder::Drawn;
 use encoder::GeomEncoder;
 use encoder::Started;
 use encoder::points::MaybePt;
-use replay::long;
+use number::signed_long;
 use replay::number;
 use replay::signed_at;
 
@@ -26,7 +26,7 @@ fn print_point(p: MaybePt) {
             replay::print_row(&[0, 0, 0]);
         }
         MaybePt::At(q) => {
-            let row = [1, long(q.x), long(q.y)];
+            let row = [1, signed_long(q.x), signed_long(q.y)];
             replay::print_row(&row);
         }
     }
@@ -63,10 +63,10 @@ fn print_state(q: GeomEncoder) {
     let pt1 = q.pt1;
     let head = [
         q.kind as i64,
-        long(b.x_min),
-        long(b.x_max),
-        long(b.y_min),
-        long(b.y_max),
+        signed_long(b.x_min),
+        signed_long(b.x_max),
+        signed_long(b.y_min),
+        signed_long(b.y_max),
     ];
     replay::print_row(&head);
     print_point(xy_end);

@@ -9,7 +9,7 @@ use words::param::ParamInt;
 fn print_param(n: i32) {
     let word = ParamInt { value: n }.encode();
     let back = ParamInt::decode(word).value;
-    let row = [word as i64, replay::long(back)];
+    let row = [word as i64, number::signed_long(back)];
     replay::print_row(&row);
 }
 

@@ -18,7 +18,7 @@ pub struct Part {
     pub len: usize,
 }
 
-// A value to tag with. A float and a double are given by their bits.
+// A value to tag with; its kind's number is that of a layer's values. A float and a double are given by their bits.
 pub enum Value {
     Text(Part),
     Float(u32),
@@ -27,23 +27,6 @@ pub enum Value {
     Uint(u64),
     Sint(i64),
     Bool(bool),
-}
-
-// The kinds of values, by the script's numbers.
-impl Value {
-    pub const TEXT: u32 = 1;
-
-    pub const FLOAT: u32 = 2;
-
-    pub const DOUBLE: u32 = 3;
-
-    pub const INT: u32 = 4;
-
-    pub const UINT: u32 = 5;
-
-    pub const SINT: u32 = 6;
-
-    pub const BOOL: u32 = 7;
 }
 
 // One operation.

@@ -26,13 +26,13 @@ fn read_float(key: Part, numbers: &[u32], at: usize) -> Next
 fn long_value(kind: u32, bits: u64) -> Value
     ensures { λ r. ⌜ r ≡ longValue kind bits ⌝ }
 {
-    if kind == Value::DOUBLE {
+    if kind == table::Value::DOUBLE {
         return Value::Double(bits);
     }
-    if kind == Value::INT {
+    if kind == table::Value::INT {
         return Value::Int(signed64(bits));
     }
-    if kind == Value::UINT {
+    if kind == table::Value::UINT {
         return Value::Uint(bits);
     }
     Value::Sint(signed64(bits))
@@ -79,19 +79,19 @@ fn read_content(key: Part, kind: u32, numbers: &[u32], at: usize) -> Next
     requires { ⌜ at ≤ length (now numbers) ⌝ }
     ensures { λ r. ⌜ r ≡ content key kind (now (numbers .entry)) at ⌝ }
 {
-    if kind == Value::TEXT {
+    if kind == table::Value::TEXT {
         return read_string(key, numbers, at);
     }
-    if kind == Value::FLOAT {
+    if kind == table::Value::FLOAT {
         return read_float(key, numbers, at);
     }
-    if kind == Value::BOOL {
+    if kind == table::Value::BOOL {
         return read_bool(key, numbers, at);
     }
-    if kind < Value::DOUBLE {
+    if kind < table::Value::DOUBLE {
         return Next::Bad;
     }
-    if Value::SINT < kind {
+    if table::Value::SINT < kind {
         return Next::Bad;
     }
     read_long(key, kind, numbers, at)

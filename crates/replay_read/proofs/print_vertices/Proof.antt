@@ -20,38 +20,38 @@ sub-if1 c = search needs
 returns : tie.Need-returns Inv-loop μ-loop
 returns c = search needs
 
-mul-long : tie.Need-mul-long Inv-loop μ-loop
-mul-long c = search needs
+mul-signed-long : tie.Need-mul-signed-long Inv-loop μ-loop
+mul-signed-long c = search needs
 
 shared-slice-copy-out-long : tie.Need-shared-slice-copy-out-long Inv-loop μ-loop
 shared-slice-copy-out-long c = search needs
 
-long-requires : tie.Need-long-requires Inv-loop μ-loop
-long-requires c κs = search needs
+signed-long-requires : tie.Need-signed-long-requires Inv-loop μ-loop
+signed-long-requires c κs = search needs
 
-add-long : tie.Need-add-long Inv-loop μ-loop
-add-long c = search needs
+add-signed-long : tie.Need-add-signed-long Inv-loop μ-loop
+add-signed-long c = search needs
 
-mul-long-2 : tie.Need-mul-long-2 Inv-loop μ-loop
-mul-long-2 c = search needs
+mul-signed-long-2 : tie.Need-mul-signed-long-2 Inv-loop μ-loop
+mul-signed-long-2 c = search needs
 
 shared-slice-copy-out-long-2 : tie.Need-shared-slice-copy-out-long-2 Inv-loop μ-loop
 shared-slice-copy-out-long-2 c = search needs
 
-long-requires-2 : tie.Need-long-requires-2 Inv-loop μ-loop
-long-requires-2 c κs = search needs
+signed-long-requires-2 : tie.Need-signed-long-requires-2 Inv-loop μ-loop
+signed-long-requires-2 c κs = search needs
 
-add-long-2 : tie.Need-add-long-2 Inv-loop μ-loop
-add-long-2 c = search needs
+add-signed-long-2 : tie.Need-add-signed-long-2 Inv-loop μ-loop
+add-signed-long-2 c = search needs
 
-mul-long-3 : tie.Need-mul-long-3 Inv-loop μ-loop
-mul-long-3 c = search needs
+mul-signed-long-3 : tie.Need-mul-signed-long-3 Inv-loop μ-loop
+mul-signed-long-3 c = search needs
 
 shared-slice-copy-out-long-3 : tie.Need-shared-slice-copy-out-long-3 Inv-loop μ-loop
 shared-slice-copy-out-long-3 c = search needs
 
-long-requires-3 : tie.Need-long-requires-3 Inv-loop μ-loop
-long-requires-3 c κs = search needs
+signed-long-requires-3 : tie.Need-signed-long-requires-3 Inv-loop μ-loop
+signed-long-requires-3 c κs = search needs
 
 slice-aggregate-print-row : tie.Need-slice-aggregate-print-row Inv-loop μ-loop
 slice-aggregate-print-row c = search needs
@@ -83,17 +83,17 @@ print-vertices-spec =
     loop-holds
     sub-if1
     returns
-    mul-long
+    mul-signed-long
     shared-slice-copy-out-long
-    long-requires
-    add-long
-    mul-long-2
+    signed-long-requires
+    add-signed-long
+    mul-signed-long-2
     shared-slice-copy-out-long-2
-    long-requires-2
-    add-long-2
-    mul-long-3
+    signed-long-requires-2
+    add-signed-long-2
+    mul-signed-long-3
     shared-slice-copy-out-long-3
-    long-requires-3
+    signed-long-requires-3
     slice-aggregate-print-row
     print-row-requires
     add-at
