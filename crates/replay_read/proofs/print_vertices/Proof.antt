@@ -23,8 +23,8 @@ returns c = search needs
 mul-signed-long : tie.Need-mul-signed-long Inv-loop μ-loop
 mul-signed-long c = search needs
 
-shared-slice-copy-out-long : tie.Need-shared-slice-copy-out-long Inv-loop μ-loop
-shared-slice-copy-out-long c = search needs
+shared-slice-copy-out-signed-long : tie.Need-shared-slice-copy-out-signed-long Inv-loop μ-loop
+shared-slice-copy-out-signed-long c = search needs
 
 signed-long-requires : tie.Need-signed-long-requires Inv-loop μ-loop
 signed-long-requires c κs = search needs
@@ -35,8 +35,8 @@ add-signed-long c = search needs
 mul-signed-long-2 : tie.Need-mul-signed-long-2 Inv-loop μ-loop
 mul-signed-long-2 c = search needs
 
-shared-slice-copy-out-long-2 : tie.Need-shared-slice-copy-out-long-2 Inv-loop μ-loop
-shared-slice-copy-out-long-2 c = search needs
+shared-slice-copy-out-signed-long-2 : tie.Need-shared-slice-copy-out-signed-long-2 Inv-loop μ-loop
+shared-slice-copy-out-signed-long-2 c = search needs
 
 signed-long-requires-2 : tie.Need-signed-long-requires-2 Inv-loop μ-loop
 signed-long-requires-2 c κs = search needs
@@ -47,8 +47,8 @@ add-signed-long-2 c = search needs
 mul-signed-long-3 : tie.Need-mul-signed-long-3 Inv-loop μ-loop
 mul-signed-long-3 c = search needs
 
-shared-slice-copy-out-long-3 : tie.Need-shared-slice-copy-out-long-3 Inv-loop μ-loop
-shared-slice-copy-out-long-3 c = search needs
+shared-slice-copy-out-signed-long-3 : tie.Need-shared-slice-copy-out-signed-long-3 Inv-loop μ-loop
+shared-slice-copy-out-signed-long-3 c = search needs
 
 signed-long-requires-3 : tie.Need-signed-long-requires-3 Inv-loop μ-loop
 signed-long-requires-3 c κs = search needs
@@ -84,15 +84,15 @@ print-vertices-spec =
     sub-if1
     returns
     mul-signed-long
-    shared-slice-copy-out-long
+    shared-slice-copy-out-signed-long
     signed-long-requires
     add-signed-long
     mul-signed-long-2
-    shared-slice-copy-out-long-2
+    shared-slice-copy-out-signed-long-2
     signed-long-requires-2
     add-signed-long-2
     mul-signed-long-3
-    shared-slice-copy-out-long-3
+    shared-slice-copy-out-signed-long-3
     signed-long-requires-3
     slice-aggregate-print-row
     print-row-requires
