@@ -1,11 +1,11 @@
 -- Features as a layer's records, and what becomes of them: the open one with its id set, and with a tag more; and the fields that they make.
-use Prim.Native.Nat.{ℕ, zero, suc, _+_, _%_, _/_, _≤_}
+use Prim.Native.Nat.{ℕ, suc, _+_, _%_, _/_}
 use mathlib.Core.Path.{_≡_, refl, sym, ap, _∙_}
 use mathlib.Core.List.{List, [], _∷_, _++_, append-assoc, append-nil}
 use mathlib.Core.Option.{Option, none, some}
 use native.Mathlib.Omega.{arith}
-use lib.ListN.{length, getD, set, drop, length-append, take-append-drop}
-use lib.Seq.{take-at, drop-at, take-append-seam, drop-append-seam, take-set-le, drop-set-add, getD-append-add}
+use lib.ListN.{length, getD, set, length-append, take-append-drop}
+use lib.Seq.{drop-at, take-append-seam, drop-append-seam, take-set-le, drop-set-add, getD-append-add}
 use Rattle.promise.specs.Laid.{lay}
 use Rattle.promise.proofs.Laying.{lay-behind}
 use Rattle.layer.specs.Calls.{withTag}

@@ -1,11 +1,10 @@
 -- An accepted whole feature is what the single calls make: opening, its id, each tag and closing are all accepted, and leave the same layer and the same parts.
-use Prim.Native.Nat.{ℕ, _+_, _%_, _/_, _≤_}
-use mathlib.Core.Path.{_≡_, refl, sym, ap, _∙_}
-use mathlib.Core.Bool.{Bool, true, false, cond}
+use Prim.Native.Nat.{ℕ, _+_, _%_, _/_}
+use mathlib.Core.Path.{_≡_, refl, ap, _∙_}
+use mathlib.Core.Bool.{Bool, true, false}
 use mathlib.Core.List.{List, [], _∷_, _++_, append-assoc}
 use native.Mathlib.Omega.{arith}
-use lib.ListN.{length, take, drop, length-take, length-append, take-append-drop}
-use lib.Seq.{take-at, drop-at}
+use lib.ListN.{length, take, drop, length-take}
 use lib.Dec.{leb, eqb}
 use borrow.Author.Tests.{le-leb, leb-true}
 use Rattle.promise.specs.Laid.{lay}
@@ -17,14 +16,13 @@ use Rattle.table.specs.Values.{valueOk}
 use Rattle.words.specs.Geometries.{isKind, maxWords}
 use Rattle.layer.specs.declared.Figures.{Figures}
 use Rattle.layer.specs.declared.Layer.{Layer}
-use Rattle.layer.specs.declared.Open.{Open}
 use Rattle.layer.specs.declared.Open.the-variants.{Shut, Since}
 use Rattle.layer.specs.declared.whole_feature.Head.{Head}
-use Rattle.layer.specs.Held.{Memory, Seen, Change, refuses, holds, check, fits, next}
+use Rattle.layer.specs.Held.{Memory, Seen, Change, holds, check, fits, next}
 use Rattle.layer.specs.State.{valid}
-use Rattle.layer.specs.Calls.{isShut, moreWords, withUsed, withFeatures, newRecord, recordWith, Tag, isValue, keyFound, valueFound, tagPut, ifRoom}
+use Rattle.layer.specs.Calls.{isShut, moreWords, withUsed, withFeatures, newRecord, recordWith, Tag, isValue, keyFound, valueFound, tagPut}
 use Rattle.layer.specs.TagLists.{tagOk, tagsOk, textPlace, shortTag, tagsShort, tagOf, tagsOf}
-use Rattle.layer.specs.Whole.{featureOpened, tagsPut, featureShut, featurePut, addFeature}
+use Rattle.layer.specs.Whole.{featureOpened, tagsPut, featurePut, addFeature}
 use Rattle.layer.proofs.Fitting.{both}
 use Rattle.layer.proofs.Keeping.{Lengths, Sound, sound, fine, is-shut, tag-sound, opened-sound}
 use Rattle.layer.proofs.Listing.{yes}

@@ -19,8 +19,7 @@ use Rattle.clip.specs.Domain.{isCoord, isGood}
 use Rattle.clip.specs.Cutting.{crossAtX, cuts, overlap, clip}
 use Rattle.encoder.specs.declared.points.MaybePt.{MaybePt}
 use Rattle.encoder.specs.declared.points.MaybePt.the-variants.{Nowhere}
-use Rattle.encoder.specs.Points.{inLimit, inLimits, clamped, missing}
-use Rattle.encoder.specs.Boundary.{outside}
+use Rattle.encoder.specs.Points.{inLimit, inLimits}
 use Rattle.encoder.specs.Pushed.{moveTo, lineTo, closePath, command}
 use Rattle.encoder.specs.Figures.{figuresFit}
 use Rattle.encoder.specs.declared.GeomEncoder.{GeomEncoder}

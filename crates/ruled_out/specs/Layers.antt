@@ -16,7 +16,7 @@ use Rattle.records.specs.Records.{follow, oneRecord}
 use Rattle.layer.specs.declared.Figures.{Figures}
 use Rattle.layer.specs.declared.Open.the-variants.{Shut, Since}
 use Rattle.layer.specs.declared.Layer.{Layer}
-use Rattle.layer.specs.Held.{mem, Seen, seen, Change, holds, check, whenOpen, fits, roomOf, heldBy, smaller, maxValues, maxTexts, written}
+use Rattle.layer.specs.Held.{mem, Seen, seen, Change, holds, check, whenOpen, fits, roomOf, heldBy, smaller, maxValues, maxTexts}
 use Rattle.layer.specs.Answers.{Told, tells}
 use Rattle.layer.specs.State.{recordsOk, valid}
 use Rattle.layer.specs.Calls.{isShut, moreWords, withUsed, withFeatures, newRecord, opened, intoFeature, marked, setId, intoLayer, abandoned}

@@ -1,6 +1,6 @@
 -- Crate `wire`: wrong varints, keys and fields. A wrong clause of a definition by recursion is
 -- said as the equation that the definition would meet if it had that clause.
-use Prim.Native.Nat.{ℕ, zero, suc, _+_, _-_, _*_, _/_, _%_}
+use Prim.Native.Nat.{ℕ, suc, _+_, _-_, _*_, _/_, _%_}
 use mathlib.Core.Path.{_≡_, ap}
 use mathlib.Core.Bool.{cond}
 use mathlib.Core.List.{List, [], _∷_, _++_}
