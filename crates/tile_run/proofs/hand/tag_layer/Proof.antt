@@ -1,10 +1,13 @@
 -- Each kind of value has its own call, whose promise is the definition's case.
 use mathlib.Core.Path.{_≡_, _∙_, ap, sym}
+use mathlib.Core.List.{List}
+use Prim.Native.Nat.{ℕ}
 use lib.IntN.{ℤ}
 use mir.Syntax.{w64}
 use mir.Val.{toZ, ofZ}
 use mir.Facts.{toZ-ofZ}
 use Rattle.layer.specs.Calls.{bitsOf, tagString, tagBits}
+use Rattle.script.specs.declared.Value.{Value}
 use Rattle.tile_run.specs.Hands.{tagOf}
 use Rattle.tile_run.proofs.Handling.{tag-by}
 use borrow.Author.Needs.{needs}
@@ -15,7 +18,17 @@ use Rattle.tile_run.proofs.hand.tag_layer.Tie as tie
 abbrev start : tie.After-slice-known4 → tie.Start
 start c = c .before .before .before .before .before .before
 
--- a signed value is read back as it was given
+abbrev key : tie.Start → List ℕ
+key s = s .args .key .now
+
+-- the tag of the value that a case has
+cased : (s : tie.Start) {v : Value} → s .args .v ≡ v → tagOf (s .args .bytes .now) (key s) (s .args .v) ≡ tagOf (s .args .bytes .now) (key s) v
+cased s e = ap (tagOf (s .args .bytes .now) (key s)) e
+
+-- a signed value is tagged as it is read back, and is read back as it was given
+signed : (s : tie.Start) (n : ℕ) {x y : ℤ} → x ≡ y → tagBits n (key s) (bitsOf y) ≡ tagBits n (key s) (bitsOf x)
+signed s n e = ap (λ (z : ℤ). tagBits n (key s) (bitsOf z)) (sym e)
+
 int-same : (k : tie.After-known-told4) → toZ w64 (ofZ w64 (k .before .v4 .given .0 .0)) ≡ k .before .v4 .given .0 .0
 int-same k = toZ-ofZ (search needs)
 
@@ -85,9 +98,7 @@ returns c =
     let q = k .before .before in
     let t = q .before .before .before .before .before in
     let o = t .before .before in
-    let s = start (o .before .before) in
-    let key = s .args .key .now in
-    tag-by _ _ _ _ _ _ (ap (tagOf (s .args .bytes .now) key) (o .v .given .1) ∙ ap (tagString key) (sym (t .text .ensures))) (q .add-tag-string .ensures)
+    tag-by _ _ _ _ _ _ (cased (start (o .before .before)) (o .v .given .1) ∙ ap (tagString (key (start (o .before .before)))) (sym (t .text .ensures))) (q .add-tag-string .ensures)
 
 same-length-5 : tie.Need-same-length-5
 same-length-5 c = search needs
@@ -106,9 +117,7 @@ returns-2 c =
     let k = c .before .before .before .before .before .before in
     let q = k .before .before in
     let o = q .before .before .before .before .before .before in
-    let s = start (o .before .before) in
-    let key = s .args .key .now in
-    tag-by _ _ _ _ _ _ (ap (tagOf (s .args .bytes .now) key) (o .v2 .given .1)) (q .add-tag-float .ensures)
+    tag-by _ _ _ _ _ _ (cased (start (o .before .before)) (o .v2 .given .1)) (q .add-tag-float .ensures)
 
 same-length-9 : tie.Need-same-length-9
 same-length-9 c = search needs
@@ -127,9 +136,7 @@ returns-3 c =
     let k = c .before .before .before .before .before .before in
     let q = k .before .before in
     let o = q .before .before .before .before .before .before in
-    let s = start (o .before .before) in
-    let key = s .args .key .now in
-    tag-by _ _ _ _ _ _ (ap (tagOf (s .args .bytes .now) key) (o .v3 .given .1)) (q .add-tag-double .ensures)
+    tag-by _ _ _ _ _ _ (cased (start (o .before .before)) (o .v3 .given .1)) (q .add-tag-double .ensures)
 
 same-length-13 : tie.Need-same-length-13
 same-length-13 c = search needs
@@ -148,9 +155,7 @@ returns-4 c =
     let k = c .before .before .before .before .before .before in
     let q = k .before .before in
     let o = q .before .before .before .before .before .before in
-    let s = start (o .before .before) in
-    let key = s .args .key .now in
-    tag-by _ _ _ _ _ _ (ap (tagOf (s .args .bytes .now) key) (o .v4 .given .1) ∙ ap (λ (z : ℤ). tagBits 4 key (bitsOf z)) (sym (int-same (q .before .before .before .before .before)))) (q .add-tag-int .ensures)
+    tag-by _ _ _ _ _ _ (cased (start (o .before .before)) (o .v4 .given .1) ∙ signed (start (o .before .before)) 4 (int-same (q .before .before .before .before .before))) (q .add-tag-int .ensures)
 
 same-length-17 : tie.Need-same-length-17
 same-length-17 c = search needs
@@ -169,9 +174,7 @@ returns-5 c =
     let k = c .before .before .before .before .before .before in
     let q = k .before .before in
     let o = q .before .before .before .before .before .before in
-    let s = start (o .before .before) in
-    let key = s .args .key .now in
-    tag-by _ _ _ _ _ _ (ap (tagOf (s .args .bytes .now) key) (o .v5 .given .1)) (q .add-tag-uint .ensures)
+    tag-by _ _ _ _ _ _ (cased (start (o .before .before)) (o .v5 .given .1)) (q .add-tag-uint .ensures)
 
 same-length-21 : tie.Need-same-length-21
 same-length-21 c = search needs
@@ -190,9 +193,7 @@ returns-6 c =
     let k = c .before .before .before .before .before .before in
     let q = k .before .before in
     let o = q .before .before .before .before .before .before in
-    let s = start (o .before .before) in
-    let key = s .args .key .now in
-    tag-by _ _ _ _ _ _ (ap (tagOf (s .args .bytes .now) key) (o .v6 .given .1) ∙ ap (λ (z : ℤ). tagBits 6 key (bitsOf z)) (sym (sint-same (q .before .before .before .before .before)))) (q .add-tag-sint .ensures)
+    tag-by _ _ _ _ _ _ (cased (start (o .before .before)) (o .v6 .given .1) ∙ signed (start (o .before .before)) 6 (sint-same (q .before .before .before .before .before))) (q .add-tag-sint .ensures)
 
 same-length-25 : tie.Need-same-length-25
 same-length-25 c = search needs
@@ -211,9 +212,7 @@ returns-7 c =
     let k = c .before .before .before .before .before .before in
     let q = k .before .before in
     let o = q .before .before .before .before .before .before in
-    let s = start (o .before .before) in
-    let key = s .args .key .now in
-    tag-by _ _ _ _ _ _ (ap (tagOf (s .args .bytes .now) key) (o .v7 .given .1)) (q .add-tag-bool .ensures)
+    tag-by _ _ _ _ _ _ (cased (start (o .before .before)) (o .v7 .given .1)) (q .add-tag-bool .ensures)
 
 pub tag-layer-spec : {M : Type 1} → statement M
 tag-layer-spec =
