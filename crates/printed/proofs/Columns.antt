@@ -9,7 +9,9 @@ use lib.Seq.{drop-cons}
 use Rattle.promise.specs.Answers.{Gives}
 use Rattle.printed.specs.Lending.{appended}
 use Rattle.promise.specs.Laid.{lay}
-use Rattle.promise.proofs.Laying.{lay-next, take-lay, length-lay}
+use Rattle.promise.specs.Puts.{Puts}
+use Rattle.promise.proofs.Fronts.{puts-start, puts-append, puts-next}
+use Rattle.promise.proofs.Laying.{take-lay, length-lay}
 use Rattle.printed.specs.Decimal.{ended}
 use borrow.Author.Tests.{le-leb, lt-leb}
 use Rattle.printed.specs.Printed.{Told, newline, column, shown, wordsHead, wordsText, wordsRoom, refusedHead, atHead, refusedText, refusedRoom, space}
@@ -26,31 +28,9 @@ column-turn ws i w h e = rw (drop-cons ws i 0 h, ← e, add-one i)
 pub column-done : (ws : List ℕ) (i : ℕ) → length ws ≤ i → column (drop i ws) ≡ []
 column-done ws i h = rw (drop-of-length-le ws h)
 
--- ---- piece after piece at the front of a text: the pieces so far are laid, and the next place is behind them
-pub record Front (done text : List ℕ) (at : ℕ) (l : List ℕ) : Type 0 where
-  pub place : at ≡ length done
-  pub inside : length done ≤ length text
-  pub laid : l ≡ lay 0 done text
-
-pub front-start : (head text l : List ℕ) → length head ≤ length text → l ≡ lay 0 head text → Front head text (length head) l
-front-start head text l h e = record { place = refl; inside = h; laid = e }
-
-module _ {done text : List ℕ} {at : ℕ} {l : List ℕ} (f : Front done text at l) (run : List ℕ) (h : length done + length run ≤ length text) where
-  zero : 0 + length done ≡ length done
-  zero = omega arith
-
-  pub front-append : (m : List ℕ) → m ≡ lay at run l → Front (done ++ run) text (at + length run) m
-  front-append m e = record {
-    place = rw (f .place) (simp length-append);
-    inside = simp length-append h;
-    laid = e ∙ rw (f .place, f .laid) (ap (λ (n : ℕ). lay n run (lay 0 done text)) (sym zero) ∙ lay-next 0 done run text (rw zero (f .inside)));
-  }
-
-  pub front-more : (r : ℕ) (m : List ℕ) → Gives (appended run at l) r m → Front (done ++ run) text r m
-  front-more r m g = rw (g .answer) (front-append m (g .memory))
-
-pub front-shown : (room : ℕ) {bytes text : List ℕ} {r : ℕ} {l : List ℕ} → room ≤ length text → Front bytes text r l → Gives (shown room bytes text) r l
-front-shown room {bytes} {text} h f = rw (le-leb room (length text) h) (record { answer = f .place; memory = f .laid })
+-- ---- pieces shown at the front of a text
+pub front-shown : (room : ℕ) {bytes text : List ℕ} {r : ℕ} {l : List ℕ} → room ≤ length text → Puts bytes text r l → Gives (shown room bytes text) r l
+front-shown room {bytes} {text} h f = rw (le-leb room (length text) h) (record { answer = f .count-is; memory = f .list-is })
 
 pub not-shown : (room : ℕ) (bytes text : List ℕ) → length text < room → Gives (shown room bytes text) 0 text
 not-shown room bytes text h = rw (lt-leb room (length text) h) (record { answer = refl; memory = refl })
@@ -66,9 +46,9 @@ module _ (text l1 l2 l3 : List ℕ) (r2 : ℕ) where
       → Gives (appended (column ws) r2 l2) r3 l3 → Gives (shown (wordsRoom ws) (wordsText ws) text) r3 l3
   words-shown r3 ws h e g k =
       let a = ended-short (length ws) newline in
-      let f1 = front-start wordsHead text l1 (omega arith) e in
-      let f2 = front-more f1 (ended (length ws) newline) (omega arith) r2 l2 g in
-      front-shown (wordsRoom ws) h (front-more f2 (column ws) (simp length-append (omega (arith, column-short ws, simp length-append at a))) r3 l3 k)
+      let f1 = puts-start wordsHead text l1 e in
+      let f2 = puts-next f1 (ended (length ws) newline) (omega arith) r2 l2 g in
+      front-shown (wordsRoom ws) h (puts-next f2 (column ws) (simp length-append (omega (arith, column-short ws, simp length-append at a))) r3 l3 k)
 
   pub refused-shown : (l4 : List ℕ) (r4 number points : ℕ) → refusedRoom ≤ length text → l1 ≡ lay 0 refusedHead text
       → Gives (appended (ended number space) 8 l1) r2 l2 → l3 ≡ lay r2 atHead l2
@@ -77,10 +57,10 @@ module _ (text l1 l2 l3 : List ℕ) (r2 : ℕ) where
   refused-shown l4 r4 number points h e g a k =
       let b = ended-short number space in
       let d = ended-short points newline in
-      let f1 = front-start refusedHead text l1 (omega arith) e in
-      let f2 = front-more f1 (ended number space) (omega arith) r2 l2 g in
-      let f3 = front-append f2 atHead (simp length-append (omega (arith, simp length-append at b))) l3 a in
-      front-shown refusedRoom h (front-more f3 (ended points newline) (simp length-append (omega (arith, simp length-append at b, simp length-append at d))) r4 l4 k)
+      let f1 = puts-start refusedHead text l1 e in
+      let f2 = puts-next f1 (ended number space) (omega arith) r2 l2 g in
+      let f3 = puts-append f2 atHead (simp length-append (omega (arith, simp length-append at b))) l3 a in
+      front-shown refusedRoom h (puts-next f3 (ended points newline) (simp length-append (omega (arith, simp length-append at b, simp length-append at d))) r4 l4 k)
 
 -- ---- what the room is for: the bytes never take more
 pub words-short : (ws : List ℕ) → length (wordsText ws) ≤ wordsRoom ws

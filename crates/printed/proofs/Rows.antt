@@ -17,7 +17,9 @@ use Rattle.printed.specs.Decimal.{ended}
 use Rattle.printed.specs.Printed.{newline, refusedHead, shown}
 use Rattle.printed.specs.Tiles.{okLine, outcomeLine, outcomeLines, bytesHead, hexDigit, hexByte, endsLine, hexFrom, hexLines, tileText, tileRoom}
 use Rattle.printed.proofs.Decimals.{ended-short}
-use Rattle.printed.proofs.Columns.{Front, front-start, front-append, front-more, front-shown}
+use Rattle.promise.specs.Puts.{Puts}
+use Rattle.promise.proofs.Fronts.{puts-start, puts-append, puts-next}
+use Rattle.printed.proofs.Columns.{front-shown}
 
 -- ---- outcomes
 pub outcome-short : (n : ℕ) → length (outcomeLine n) ≤ 29
@@ -88,7 +90,7 @@ tile-shown text l1 l2 l3 l4 r1 r3 r4 os bs h g1 e2 g3 g4 =
     let o = outcomes-long os in
     let x = hex-long (length bs) 0 bs in
     let z : r1 ≡ length (outcomeLines os) = omega (arith, g1 .answer) in
-    let f1 : Front (outcomeLines os) text r1 l1 = rw z (front-start (outcomeLines os) text l1 (omega arith) (g1 .memory)) in
-    let f2 = front-append f1 bytesHead (omega arith) l2 e2 in
-    let f3 = front-more f2 (ended (length bs) newline) (simp length-append (omega (arith, simp length-append at a))) r3 l3 g3 in
-    front-shown (tileRoom os bs) h (front-more f3 (hexLines bs) (simp length-append (omega (arith, simp length-append at a))) r4 l4 g4)
+    let f1 : Puts (outcomeLines os) text r1 l1 = rw z (puts-start (outcomeLines os) text l1 (g1 .memory)) in
+    let f2 = puts-append f1 bytesHead (omega arith) l2 e2 in
+    let f3 = puts-next f2 (ended (length bs) newline) (simp length-append (omega (arith, simp length-append at a))) r3 l3 g3 in
+    front-shown (tileRoom os bs) h (puts-next f3 (hexLines bs) (simp length-append (omega (arith, simp length-append at a))) r4 l4 g4)
