@@ -19,7 +19,7 @@ impl Text {
     // For `words N` and the words of any job: 27 bytes, and 21 for each of 16,384 words.
     pub const WORDS: usize = 27 + 21 * 16_384;
 
-    // For a tile's answer: the checker does not go through a larger list. It holds the answer of every script of up to 15,000 operations.
+    // For a tile's answer. The checker does not go through a larger list.
     pub const TILE: usize = 450_000;
 }
 
