@@ -23,7 +23,7 @@ use Rattle.layer.specs.State.{valid}
 use Rattle.layer.specs.Whole.{addFeature}
 use Rattle.layer.specs.Lookup.{Index, indexed, Current, Kept}
 use Rattle.layer.specs.Many.{Many, saidAdded, headAt, headsOk, andNext, done, addAll, addFeatures, withIndex, alongIndex, addIndexed}
-use Rattle.layer.specs.WholeSteps.{Long, CurrentIf, Known, Accepted, NotAccepted, LeavesFeature}
+use Rattle.layer.specs.WholeSteps.{Long, CurrentIf, Known, Accepted, NotAccepted, LeavesFeature, allRead}
 use Rattle.layer.proofs.Heads.{six, six-left, words-in, tags-in, ok-after}
 use Rattle.layer.proofs.Indexing.{kept-same, kept-on, settled}
 
@@ -88,11 +88,12 @@ module _ (heads words ws bytes : List ℕ) (d : Bool) (s : Layer) (m : Memory) (
     at-end : addAll 0 heads words ws bytes s m ≡ done n t l
     at-end = F .rest ∙ rw (drop-of-length-le heads {i = i} h)
 
-    pub ends-not : not d ≡ true → Gives (alongIndex (addAll 0 heads words ws bytes s m) x) (saidAdded (Refused State t n)) (withIndex l y)
-    ends-not k = answered heads words ws bytes s m x t n l y kept-here (F .index) (saidAdded (Refused State t n)) refl (at-end ∙ rw (← F .state, not-true d k))
-
-    pub ends : not d ≡ false → Gives (alongIndex (addAll 0 heads words ws bytes s m) x) (saidAdded (Done t n)) (withIndex l y)
-    ends k = answered heads words ws bytes s m x t n l y kept-here (F .index) (saidAdded (Done t n)) refl (at-end ∙ rw (← F .state, not-false d k))
+    pub ends : (r : Added) → r ≡ allRead d t n → Gives (alongIndex (addAll 0 heads words ws bytes s m) x) (saidAdded r) (withIndex l y)
+    ends r e = rw e (by d refl)
+      where
+        by : (b : Bool) → d ≡ b → Gives (alongIndex (addAll 0 heads words ws bytes s m) x) (saidAdded (allRead b t n)) (withIndex l y)
+        by true q = answered heads words ws bytes s m x t n l y kept-here (F .index) (saidAdded (Done t n)) refl (at-end ∙ rw (← F .state, q))
+        by false q = answered heads words ws bytes s m x t n l y kept-here (F .index) (saidAdded (Refused State t n)) refl (at-end ∙ rw (← F .state, q))
 
   module _ (h : i < length heads) where
     pub head-there : i + 6 ≤ length heads

@@ -16,6 +16,8 @@ use Rattle.layer.specs.declared.Open.{Open}
 use Rattle.layer.specs.declared.Open.the-variants.{Shut, Since}
 use Rattle.layer.specs.declared.Changed.{Changed}
 use Rattle.layer.specs.declared.Changed.the-variants.{Done, Refused}
+use Rattle.layer.specs.declared.many.Added.{Added}
+use Rattle.layer.specs.declared.many.Added.the-variants.{Done as AllDone, Refused as AllRefused}
 use Rattle.layer.specs.declared.whole_feature.Asked.{Asked}
 use Rattle.layer.specs.declared.whole_feature.Asked.the-variants.{Fine, Barred}
 use Rattle.layer.specs.declared.tag_list.Place.{Place}
@@ -166,3 +168,7 @@ pub record NotAccepted (c : Change) (q : Refusal) (s u : Layer) (m n : Memory) (
 abbrev pub LeavesFeature : Change → Layer → Changed → Memory → Memory → Index → Index → Type 0
 LeavesFeature c s (Done t) m n x y = Accepted c s t m n x y
 LeavesFeature c s (Refused q u) m n x y = NotAccepted c q s u m n x y
+
+-- behind the last head
+abbrev pub allRead : Bool → Layer → ℕ → Added
+allRead stands s n = cond stands (AllDone s n) (AllRefused State s n)

@@ -3,6 +3,7 @@ ghost use mathlib.Core.Path.{_≡_};
 ghost use Prim.Native.Nat.{_+_, _≤_};
 ghost use lib.ListN.{length};
 ghost use Rattle.layer.specs.Many.{headAt, headsOk, addIndexed};
+ghost use Rattle.layer.specs.WholeSteps.{allRead};
 ghost use Rattle.layer.specs.Lending.{Adds};
 use crate::Changed;
 use crate::Layer;
@@ -49,6 +50,16 @@ fn is_head_list(heads: &[u32], words: usize, tags: usize) -> bool
         t -= b;
     }
     (w == 0) & (t == 0)
+}
+
+// The answer behind the last head. Where there was none, no feature has asked STATE.
+fn all_read(stands: bool, s: Layer, n: usize) -> Added
+    ensures { λ r. ⌜ r ≡ allRead stands s n ⌝ }
+{
+    if stands {
+        return Added::Done(s, n);
+    }
+    Added::Refused(Refusal::State, s, n)
 }
 
 // Whole features one after the other, up to the first that is refused. A feature's head is six words: its kind, its id mark (0 or 1), the low and the high half
@@ -104,8 +115,5 @@ pub fn add_features(
         g = b;
         n += 1;
     }
-    if !stands {
-        return Added::Refused(Refusal::State, t, n);
-    }
-    Added::Done(t, n)
+    all_read(stands, t, n)
 }

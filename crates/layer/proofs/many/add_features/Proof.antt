@@ -6,7 +6,7 @@ use lib.ListN.{length}
 use native.Mathlib.Omega.{arith}
 use Rattle.layer.specs.Held.{mem}
 use Rattle.layer.specs.Lookup.{idx}
-use Rattle.layer.proofs.Going.{Going, begin, ends-not, ends, head-there, words-there, tags-there, known, stops, turn, as-done, as-refused, no-heads, heads-ok, all-added}
+use Rattle.layer.proofs.Going.{Going, begin, ends, head-there, words-there, tags-there, known, stops, turn, as-done, as-refused, no-heads, heads-ok, all-added}
 use borrow.Author.Needs.{needs}
 use Rattle.layer.proofs.many.add_features.Statement.{statement}
 use Rattle.layer.proofs.many.add_features.Tie as tie
@@ -181,6 +181,9 @@ loop-again c =
     let a = as-done _ _ _ _ _ _ _ (values-before-ki (ki-before-known-told c) .before .before .before .add-known .ensures) _ (c .before .u .given .1) in
     turn _ _ _ _ _ _ _ _ _ _ _ _ _ _ _ (at-loop-before-head-at (head-at-before-add-known-arg6 (add-known-arg6-before-values (values-before-ki (ki-before-known-told c)))) .loop .inv) (head-at-before-add-known-arg6 (add-known-arg6-before-values (values-before-ki (ki-before-known-told c))) .before .before .before .before .before .loop-test .taken) _ _ _ (head-at-before-add-known-arg6 (add-known-arg6-before-values (values-before-ki (ki-before-known-told c))) .head-at .ensures) (head-at-before-add-known-arg6 (add-known-arg6-before-values (values-before-ki (ki-before-known-told c))) .before .before .before .wide .ensures .same) (head-at-before-add-known-arg6 (add-known-arg6-before-values (values-before-ki (ki-before-known-told c))) .before .wide2 .ensures .same) _ _ _ a
 
+all-read-requires : tie.Need-all-read-requires Inv-loop μ-loop
+all-read-requires c κs = search needs
+
 same-length-7 : tie.Need-same-length-7 Inv-loop μ-loop
 same-length-7 c = c .before .before .loop .inv .long .keys
 
@@ -203,31 +206,7 @@ returns-3 : tie.Need-returns-3 Inv-loop μ-loop
 returns-3 c =
     let g = start-before-slice-known2 (slice-known2-before-else1 (else1-before-at-loop (c .before .before))) .args in
     all-added (g .heads .now) (g .words .now) (g .tags .now) (g .bytes .now) (g .s) (mem (g .keys .now) (g .values .now) (g .texts .now) (g .features .now)) (idx (g .ki .now) (g .vi .now)) _ (else1-before-at-loop (c .before .before) .before .is-head-list .ensures) (else1-before-at-loop (c .before .before) .if1 .left) _ _ _
-    (ends-not _ _ _ _ _ _ _ _ _ _ _ _ _ _ _ (c .before .before .loop .inv) (c .before .loop-test .left) (c .if2 .taken))
-
-same-length-13 : tie.Need-same-length-13 Inv-loop μ-loop
-same-length-13 c = c .before .before .loop .inv .long .keys
-
-same-length-14 : tie.Need-same-length-14 Inv-loop μ-loop
-same-length-14 c = c .before .before .loop .inv .long .values
-
-same-length-15 : tie.Need-same-length-15 Inv-loop μ-loop
-same-length-15 c = c .before .before .loop .inv .long .texts
-
-same-length-16 : tie.Need-same-length-16 Inv-loop μ-loop
-same-length-16 c = c .before .before .loop .inv .long .features
-
-same-length-17 : tie.Need-same-length-17 Inv-loop μ-loop
-same-length-17 c = c .before .before .loop .inv .kept .keys-long
-
-same-length-18 : tie.Need-same-length-18 Inv-loop μ-loop
-same-length-18 c = c .before .before .loop .inv .kept .values-long
-
-returns-4 : tie.Need-returns-4 Inv-loop μ-loop
-returns-4 c =
-    let g = start-before-slice-known2 (slice-known2-before-else1 (else1-before-at-loop (c .before .before))) .args in
-    all-added (g .heads .now) (g .words .now) (g .tags .now) (g .bytes .now) (g .s) (mem (g .keys .now) (g .values .now) (g .texts .now) (g .features .now)) (idx (g .ki .now) (g .vi .now)) _ (else1-before-at-loop (c .before .before) .before .is-head-list .ensures) (else1-before-at-loop (c .before .before) .if1 .left) _ _ _
-    (ends _ _ _ _ _ _ _ _ _ _ _ _ _ _ _ (c .before .before .loop .inv) (c .before .loop-test .left) (c .if2 .left))
+    (ends _ _ _ _ _ _ _ _ _ _ _ _ _ _ _ (c .before .before .loop .inv) (c .before .loop-test .left) _ (c .all-read .ensures))
 
 pub add-features-spec : {M : Type 1} → statement M
 add-features-spec =
@@ -272,17 +251,11 @@ add-features-spec =
     add-n
     loop-less
     loop-again
+    all-read-requires
     same-length-7
     same-length-8
     same-length-9
     same-length-10
     same-length-11
     same-length-12
-    returns-3
-    same-length-13
-    same-length-14
-    same-length-15
-    same-length-16
-    same-length-17
-    same-length-18
-    returns-4)
+    returns-3)
