@@ -12,8 +12,14 @@ impl Record {
     // The words before its geometry.
     pub const HEAD: usize = 6;
 
-    // Where they stand: the id mark, which the halves of the id follow, and how many tag words and geometry words there are.
+    // Where they stand: its kind, the id mark, the halves of the id, and how many tag words and geometry words there are.
+    pub const KIND: usize = 0;
+
     pub const MARK: usize = 1;
+
+    pub const LOW: usize = 2;
+
+    pub const HIGH: usize = 3;
 
     pub const TAGS: usize = 4;
 

@@ -8,6 +8,7 @@ ghost use Rattle.tile.specs.Features.{idField, featureMessage, recordMes
 ghost use Rattle.tile.specs.Steps.{Writable};
 use number::of_halves;
 use number::wide;
+use records::Record;
 use wire::field::Field;
 use wire::head::put_varint_field;
 use wire::head::varint_field_size;
@@ -70,7 +71,7 @@ pub(crate) fn record_size(words: &[u32]) -> usize
     requires { ⌜ recordSize (now words) ≤ length (now words) ⌝ }
     ensures { λ r. ⌜ r ≡ recordSize (now (words .entry)) ⌝ }
 {
-    6 + wide(words[5]) + wide(words[4])
+    Record::HEAD + wide(words[Record::GEOMETRY]) + wide(words[Record::TAGS])
 }
 
 // Of the record at the front of these words.
@@ -78,15 +79,15 @@ pub(crate) fn feature_size(words: &[u32]) -> usize
     requires { ⌜ recordSize (now words) ≤ length (now words) ⌝ }
     ensures { λ r. ⌜ r ≡ length (recordMessage (now (words .entry))) ⌝ }
 {
-    let tags = 6 + wide(words[5]);
-    let end = tags + wide(words[4]);
+    let tags = Record::HEAD + wide(words[Record::GEOMETRY]);
+    let end = tags + wide(words[Record::TAGS]);
     parts_size(
-        words[0],
-        words[1],
-        words[2],
-        words[3],
+        words[Record::KIND],
+        words[Record::MARK],
+        words[Record::LOW],
+        words[Record::HIGH],
         &words[tags..end],
-        &words[6..tags],
+        &words[Record::HEAD..tags],
     )
 }
 
@@ -94,15 +95,15 @@ pub(crate) fn put_feature(words: &[u32], out: &mut [u8]) -> usize
     requires { ⌜ Writable (recordSize (now words) ≤ length (now words)) (recordMessage (now words)) (length (now out)) ⌝ }
     ensures { λ r. ⌜ Gives (put (recordMessage (now (words .entry))) (now (out .entry))) r (now (out .exit)) ⌝ }
 {
-    let tags = 6 + wide(words[5]);
-    let end = tags + wide(words[4]);
+    let tags = Record::HEAD + wide(words[Record::GEOMETRY]);
+    let end = tags + wide(words[Record::TAGS]);
     put_parts(
-        words[0],
-        words[1],
-        words[2],
-        words[3],
+        words[Record::KIND],
+        words[Record::MARK],
+        words[Record::LOW],
+        words[Record::HIGH],
         &words[tags..end],
-        &words[6..tags],
+        &words[Record::HEAD..tags],
         out,
     )
 }

@@ -78,7 +78,7 @@ fn answer(
 // words, 4,096 values of three, 4,096 names of two, and texts of no more bytes than the file has; a record's words are at most twice the numbers that make
 // it (opening takes three and the geometry, a record six and the geometry; a tag adds two), and a tile's bytes at most twice the script's (a geometry
 // word takes four bytes there and at most five here). An outcome is given 29 bytes of text and a tile's byte 3: the text holds the answer of every script
-// but those of more than 15,000 operations, nearly all of one number, which are answered ROOM.
+// but those of more than about 15,000 operations, nearly all of one number, which are answered ROOM.
 fn main() {
     let mut file = [0u8; 65537];
     let n = io::read_full(libc::STDIN_FILENO, &mut file);
