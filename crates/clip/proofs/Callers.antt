@@ -30,7 +30,7 @@ use Rattle.clip.specs.declared.Clipped.the-variants.{Done, Refused}
 use Rattle.clip.specs.Domain.{limit, within, isCoord, isGood, isInside}
 use Rattle.clip.specs.Facts.{Within, Coord, Good}
 use Rattle.clip.specs.Cutting.{Crossing, Missing, At, crossAtX, crossAtY, replace, cutXMin, cutXMax, cutYMin, cutYMax, cuts, overlap, clip}
-use Rattle.clip.specs.Answer.{saidClipped, areCoords, clipped, segOf, clippedOrGiven}
+use Rattle.clip.specs.Answer.{saidClipped, areCoords, clipped}
 use Rattle.clip.specs.Demand3.{Demand3, Inside, Placed, Moved}
 use Rattle.whole.proofs.Cases.{le-is, lt-is, lt-not}
 use Rattle.promise.proofs.Joined.{both, both-is}
@@ -91,9 +91,6 @@ module _ (s : Seg) (b : BBox) where
   pub not-refused : isGood b ≡ true → areCoords s ≡ true → clipped s b ≡ accepted (clip b s ∷ [])
   unfolding clipped
   not-refused g e = rw (g, e) refl
-
-  pub not-given : isGood b ≡ true → areCoords s ≡ true → clippedOrGiven s b ≡ clip b s .seg
-  not-given g e = ap (λ (a : Said (List ClippedSeg)). segOf s (a .values)) (not-refused g e)
 
   -- an answer that is no refusal is the clip's, of a good box and ends within the limit
   by-cases : (g t : Bool) (c : ClippedSeg) → accepted (c ∷ []) ≡ cond g (cond t (accepted (clip b s ∷ [])) (refused CoordRefusal [])) (refused Box []) → (g ≡ true) × ((t ≡ true) × (c ≡ clip b s))

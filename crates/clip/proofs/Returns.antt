@@ -19,7 +19,7 @@ use Rattle.clip.specs.declared.Clipped.the-variants.{Done, Refused}
 use Rattle.refusal.specs.declared.Refusal.the-variants.{Box, Coord as CoordRefusal}
 use Rattle.clip.specs.Domain.{limit, isCoord, isGood}
 use Rattle.refusal.specs.Said.{Said, accepted, refused}
-use Rattle.clip.specs.Answer.{saidClipped, areCoords, clipped, segOf, clippedOrGiven}
+use Rattle.clip.specs.Answer.{saidClipped, areCoords, clipped}
 use Rattle.clip.specs.Numbers.{boxAt, cornered}
 use Rattle.clip.specs.Demand3.{Demand3}
 use Rattle.clip.specs.Facts.{Coord, Good, beside, besideX, besideY}
@@ -109,7 +109,7 @@ module _ (b : BBox) (l h : Pt) (el : l ≡ record { x = b .«x_min»; y = b .«y
   pub clip-cornered : (s : Seg) (c : ClippedSeg) → c ≡ clip (cornered l h) s → c ≡ clip b s
   clip-cornered s c e = e ∙ ap (λ (z : BBox). clip z s) corners
 
--- ---- clip, and the segment that it leaves
+-- ---- clip
 module _ (s : Seg) (b : BBox) where
   -- what a call has to say of its answer: the promise's second clause follows from the first
   abbrev pub Owed : Clipped → Type 0
@@ -125,9 +125,6 @@ module _ (s : Seg) (b : BBox) where
     pub bad-box : not g ≡ true → Owed (Refused Box)
     bad-box n = owed (Refused Box) (sym (no-box n))
 
-    pub kept-box : not g ≡ true → s ≡ clippedOrGiven s b
-    kept-box n = sym (ap (λ (a : Said (List ClippedSeg)). segOf s (a .values)) (no-box n))
-
     module _ (ng : not g ≡ false) where
       good-box : isGood b ≡ true
       good-box = sym eg ∙ not-false g ng
@@ -142,9 +139,6 @@ module _ (s : Seg) (b : BBox) where
         pub bad-coord : not t ≡ true → Owed (Refused CoordRefusal)
         bad-coord n = owed (Refused CoordRefusal) (sym (no-coord n))
 
-        pub kept-coord : not t ≡ true → s ≡ clippedOrGiven s b
-        kept-coord n = sym (ap (λ (a : Said (List ClippedSeg)). segOf s (a .values)) (no-coord n))
-
         module _ (nt : not t ≡ false) where
           pub coords : Coord (s .p0) × Coord (s .p1)
           coords = let k = both (isCoord (s .p0)) (isCoord (s .p1)) (sym et ∙ not-false t nt) in (coord-facts (k .0), coord-facts (k .1))
@@ -154,6 +148,3 @@ module _ (s : Seg) (b : BBox) where
 
           pub done : (c : ClippedSeg) → c ≡ clip b s → Owed (Done c)
           done c e = owed (Done c) (ap (λ (z : ClippedSeg). saidClipped (Done z)) e ∙ sym taken)
-
-          pub seg-done : (c : ClippedSeg) → c ≡ clip b s → c .seg ≡ clippedOrGiven s b
-          seg-done c e = ap (λ (z : ClippedSeg). z .seg) e ∙ sym (ap (λ (a : Said (List ClippedSeg)). segOf s (a .values)) taken)

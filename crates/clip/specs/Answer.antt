@@ -24,12 +24,3 @@ areCoords s = isCoord (s .p0) && isCoord (s .p1)
 -- what a call says
 unfoldable pub clipped : Seg → BBox → Said (List ClippedSeg)
 clipped s b = cond (isGood b) (cond (areCoords s) (accepted (clip b s ∷ [])) (refused Coord [])) (refused Box [])
-
--- the segment of an answer: as given where there is none
-abbrev pub segOf : Seg → List ClippedSeg → Seg
-segOf s [] = s
-segOf s (c ∷ cs) = c .seg
-
--- the clipped segment, or the segment as given where the call is refused
-abbrev pub clippedOrGiven : Seg → BBox → Seg
-clippedOrGiven s b = segOf s (clipped s b .values)

@@ -4,7 +4,8 @@ ghost use mathlib.Core.Path.{_≡_};
 ghost use Rattle.clip.specs.Domain.{limit, within, isCoord, isGood, isInside};
 ghost use Rattle.clip.specs.Facts.{beside, besideX, besideY};
 ghost use Rattle.clip.specs.Cutting.{least, most};
-ghost use Rattle.clip.specs.Answer.{saidClipped, areCoords, clipped, clippedOrGiven};
+ghost use Rattle.clip.specs.Answer.{saidClipped, areCoords, clipped};
+ghost use Rattle.clip.specs.Numbers.{between};
 ghost use Rattle.clip.specs.Demand3.{Demand3};
 use crate::cutting::cut_all;
 use refusal::Refusal;
@@ -176,21 +177,19 @@ pub fn clip(seg: Seg, bbox: BBox) -> Clipped
     Clipped::Done(cut_all(p0, p1, BBox::low(bbox), BBox::high(bbox)))
 }
 
-// The clipped segment, or the segment as given where `clip` refuses it: for callers that know that it does not.
-pub fn clip_or_given(seg: Seg, bbox: BBox) -> Seg
-    ensures { λ r. ⌜ r ≡ clippedOrGiven seg bbox ⌝ }
+// The same of two points, for callers that have the ends so.
+pub fn clip_between(from: Pt, to: Pt, bbox: BBox) -> Clipped
+    ensures { λ r. ⌜ saidClipped r ≡ clipped (between from to) bbox ⌝ }
 {
+    let seg = Seg { p0: from, p1: to };
     if !BBox::is_good(bbox) {
-        return seg;
+        return Clipped::Refused(Refusal::Box);
     }
     if !are_coords(seg) {
-        return seg;
+        return Clipped::Refused(Refusal::Coord);
     }
     if is_beside(bbox, seg) | is_beyond(bbox, seg) {
-        return seg;
+        return Clipped::Done(ClippedSeg { seg: seg });
     }
-    let p0 = seg.p0;
-    let p1 = seg.p1;
-    let c = cut_all(p0, p1, BBox::low(bbox), BBox::high(bbox));
-    c.seg
+    Clipped::Done(cut_all(from, to, BBox::low(bbox), BBox::high(bbox)))
 }

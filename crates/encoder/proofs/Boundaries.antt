@@ -1,23 +1,36 @@
--- Laws of the boundary points: the ends that moved, and a segment inside the box.
+-- Laws of the boundary points: what the clip gives, the ends that moved, and a segment inside the box.
 -- For callers:
 --     outside-is          a point is outside where it does not lie in the closed box
 --     inside-same stays   a segment inside the box is not cut, and then no end has moved
 use Prim.Native.Nat.{ℕ}
-use mathlib.Core.Path.{_≡_, refl, sym}
+use mathlib.Core.Path.{_≡_, refl, sym, ap}
 use mathlib.Core.Bool.{Bool, true, false, not, _&&_, _||_}
 use mathlib.Core.List.{[]}
 use native.Mathlib.Omega.{arith}
 use lib.Signed.{ltZ}
 use Rattle.whole.proofs.Cases.{le-not}
 use Rattle.whole.proofs.Equal.{eqZ-refl}
+use Rattle.refusal.specs.declared.Refusal.{Refusal}
 use Rattle.clip.specs.declared.Pt.{Pt}
 use Rattle.clip.specs.declared.Seg.{Seg}
 use Rattle.clip.specs.declared.BBox.{BBox}
-use Rattle.clip.specs.Domain.{isInside}
+use Rattle.clip.specs.declared.ClippedSeg.{ClippedSeg}
+use Rattle.clip.specs.declared.Clipped.{Clipped}
+use Rattle.clip.specs.declared.Clipped.the-variants.{Done, Refused}
+use Rattle.clip.specs.Domain.{isGood, isInside}
 use Rattle.clip.specs.Cutting.{clip}
-use Rattle.clip.proofs.Callers.{Kept, clip-inside}
+use Rattle.clip.specs.Answer.{areCoords, saidClipped, clipped}
+use Rattle.clip.proofs.Callers.{answered, never-refused, Kept, clip-inside}
 use Rattle.encoder.specs.Points.{samePt}
 use Rattle.encoder.specs.Boundary.{movedEnds, movedBy, outside}
+
+-- ---- the two answers of the clip, which is never refused
+module _ (s : Seg) (b : BBox) (r : Clipped) (h : saidClipped r ≡ clipped s b) where
+  pub clip-done : (c : ClippedSeg) → r ≡ Done c → c .seg ≡ clip b s .seg
+  clip-done c f = ap (λ (x : ClippedSeg). x .seg) (answered s b r h c f)
+
+  pub clip-refused : isGood b ≡ true → areCoords s ≡ true → (k : Refusal) → r ≡ Refused k → s ≡ clip b s .seg
+  clip-refused g e k f = absurd (never-refused s b r h k f g e)
 
 -- ---- the ends of the cut segment
 pub moved-is : (raw p : Pt) (cut : Seg) (t u : Bool) → t ≡ samePt raw (cut .p0) → u ≡ samePt p (cut .p1) →

@@ -11,6 +11,7 @@ ghost use Rattle.encoder.specs.Points.{inLimit};
 use crate::draft::Draft;
 use crate::points::is_same;
 use clip::BBox;
+use clip::Clipped;
 use clip::Pt;
 use clip::Seg;
 use words::geometry::Geometry;
@@ -29,7 +30,12 @@ pub(crate) fn clip_raw(raw: Seg, bbox: BBox) -> Seg
     requires { ⌜ areCoords raw ≡ true ⌝ }
     ensures { λ r. ⌜ r ≡ clip bbox raw .seg ⌝ }
 {
-    clip::clip_or_given(raw, bbox)
+    let p0 = raw.p0;
+    let p1 = raw.p1;
+    match clip::clip_between(p0, p1, bbox) {
+        Clipped::Done(c) => c.seg,
+        Clipped::Refused(_) => raw,
+    }
 }
 
 // Whether a point lies strictly outside an edge.

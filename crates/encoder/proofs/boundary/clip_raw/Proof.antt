@@ -1,15 +1,23 @@
 -- The clip of a good box and two coordinates is never refused.
-use mathlib.Core.Path.{_∙_}
-use Rattle.clip.proofs.Callers.{not-given}
+use Rattle.encoder.proofs.Boundaries.{clip-done, clip-refused}
 use borrow.Author.Needs.{needs}
 use Rattle.encoder.proofs.boundary.clip_raw.Statement.{statement}
 use Rattle.encoder.proofs.boundary.clip_raw.Tie as tie
 
-clip-or-given-requires : tie.Need-clip-or-given-requires
-clip-or-given-requires c κs = search needs
+clip-between-requires : tie.Need-clip-between-requires
+clip-between-requires c κs = search needs
+
+enum-known-c : tie.Need-enum-known-c
+enum-known-c c = search needs
+
+enum-told : tie.Need-enum-told
+enum-told c = search needs
 
 returns : tie.Need-returns
-returns c = let s : tie.Start = c .before in c .clip-or-given .ensures ∙ not-given (s .args .raw) (s .args .bbox) (s .pre .0) (s .pre .1)
+returns c = search (needs, clip-done, clip-refused)
+
+returns-2 : tie.Need-returns-2
+returns-2 c = search (needs, clip-done, clip-refused)
 
 pub clip-raw-spec : {M : Type 1} → statement M
-clip-raw-spec = tie.close (tie.spec clip-or-given-requires returns)
+clip-raw-spec = tie.close (tie.spec clip-between-requires enum-known-c enum-told returns returns-2)
