@@ -3,7 +3,8 @@ use Prim.Native.Nat.{ℕ}
 use Rattle.promise.specs.Answers.{Gives}
 use Rattle.layer.specs.Held.{Seen, Change}
 use Rattle.layer.specs.Whole.{addFeature}
-use Rattle.layer.specs.Lending.{Lent, entered, left, enteredIndex, leftLists}
+use Rattle.promise.specs.Lent.{Lent}
+use Rattle.layer.specs.Lending.{entered, left, enteredIndex, leftLists}
 use denote.Ref.{now}
 use Rattle.brinepost_tiles.specs.declared.carried.BpLayer.{BpLayer}
 use Rattle.brinepost_tiles.specs.declared.answers.BpChanged.{BpChanged}

@@ -4,9 +4,9 @@ use mathlib.Core.Bool.{Bool, cond}
 use mathlib.Core.List.{List}
 use lib.ListN.{length}
 use Prim.Native.Nat.{ℕ}
-use denote.Triple.Both.{Both}
 use denote.Ref.{RefT, now}
 use Rattle.promise.specs.Answers.{Written, Gives}
+use Rattle.promise.specs.Lent.{Lent}
 use Rattle.refusal.specs.Said.{Said}
 use Rattle.table.specs.declared.Found.{Found}
 use Rattle.table.specs.declared.Value.{Value}
@@ -23,10 +23,7 @@ use Rattle.layer.specs.Lookup.{Index, idx}
 use Rattle.layer.specs.Many.{Many, Lists, saidAdded, withIndex}
 use Rattle.layer.specs.WholeSteps.{Leaves, LeavesFeature, indexedBy}
 
--- a lent list, at entry and at exit
-abbrev pub Lent : Type 0
-Lent = Both (RefT (List ℕ)) (RefT (List ℕ))
-
+-- the lists at entry, and at exit
 abbrev pub entered : Lent → Lent → Lent → Lent → Memory
 entered k v t f = mem (now (k .entry)) (now (v .entry)) (now (t .entry)) (now (f .entry))
 

@@ -1,16 +1,12 @@
 -- What a step that writes promises of the text lent to it, said once for every step.
 use Prim.Native.Nat.{ℕ, _+_}
 use mathlib.Core.List.{List}
-use denote.Triple.Both.{Both}
-use denote.Ref.{RefT, now}
+use denote.Ref.{now}
 use lib.ListN.{length}
 use Rattle.promise.specs.Answers.{Written, Gives}
 use Rattle.promise.specs.Laid.{lay}
+use Rattle.promise.specs.Lent.{Lent}
 use Rattle.printed.specs.Printed.{shown, Told}
-
--- a lent list, at entry and at exit
-abbrev pub Lent : Type 0
-Lent = Both (RefT (List ℕ)) (RefT (List ℕ))
 
 -- bytes laid at a place of a text, and the place after them
 abbrev pub appended : List ℕ → ℕ → List ℕ → Written ℕ (List ℕ)

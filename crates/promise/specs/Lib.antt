@@ -2,3 +2,4 @@ pub mod Answers
 pub mod Laid
 pub mod Puts
 pub mod Widened
+pub mod Lent

@@ -5,9 +5,9 @@ use mathlib.Core.List.{List}
 use lib.Dec.{eqb}
 use lib.IntN.{ℤ}
 use lib.ListN.{take}
-use denote.Triple.Both.{Both}
-use denote.Ref.{RefT, now}
+use denote.Ref.{now}
 use Rattle.promise.specs.Answers.{Written, Gives}
+use Rattle.promise.specs.Lent.{Lent, LentOf}
 use Rattle.refusal.specs.Said.{Said}
 use Rattle.number_file.specs.Numbers.{reading as numbersRead}
 use Rattle.decoder.specs.declared.Reading.{Reading}
@@ -35,10 +35,7 @@ abbrev pub fileRead : List ℕ → Memory → Written (Said ℕ) Memory
 fileRead bytes m = onward (numbersRead bytes (m .words)) (m .out)
 
 -- what the program promises of the file and of the two buffers lent to it
-abbrev pub Lent : Type 0 → Type 0
-Lent A = Both (RefT (List A)) (RefT (List A))
-
-abbrev pub Reads : Reading → Lent ℕ → Lent ℕ → Lent ℤ → Type 0
+abbrev pub Reads : Reading → Lent → Lent → LentOf ℤ → Type 0
 Reads r bytes words out =
     Gives
     (fileRead (now (bytes .entry)) (buffers (now (words .entry)) (now (out .entry))))

@@ -9,7 +9,7 @@ use denote.Ref.{now}
 use Rattle.table.specs.Keys.{keysIn}
 use Rattle.layer.specs.Held.{smaller}
 use Rattle.tile.specs.declared.Tile.{Tile}
-use Rattle.layer.specs.Lending.{Lent}
+use Rattle.promise.specs.Lent.{Lent}
 
 -- the two lent lists
 pub record TileMemory : Type 0 where

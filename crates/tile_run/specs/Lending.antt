@@ -4,7 +4,8 @@ use lib.ListN.{length}
 use denote.Ref.{now}
 use Rattle.promise.specs.Answers.{Gives}
 use Rattle.layer.specs.Held.{Seen, Change}
-use Rattle.layer.specs.Lending.{Lent, entered, left}
+use Rattle.promise.specs.Lent.{Lent}
+use Rattle.layer.specs.Lending.{entered, left}
 use Rattle.tile.specs.Tiles.{tileEntered, tileLeft}
 use Rattle.script.specs.declared.Op.{Op}
 use Rattle.tile_run.specs.declared.hand.Hand.{Hand}

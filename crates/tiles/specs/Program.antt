@@ -12,7 +12,8 @@ use Rattle.refusal.specs.Refusals.{numberOf}
 use Rattle.refusal.specs.Said.{Said}
 use Rattle.number_file.specs.Numbers.{reading}
 use Rattle.printed.specs.Tiles.{tileText, tileRoom}
-use Rattle.printed.specs.Lending.{Lent, Tells}
+use Rattle.promise.specs.Lent.{Lent}
+use Rattle.printed.specs.Lending.{Tells}
 use Rattle.tile_run.specs.Operations.{Lists}
 use Rattle.tile_run.specs.Lending.{allEntered}
 use Rattle.tile_run.specs.Running.{Counts, RunLists, ranScript}
