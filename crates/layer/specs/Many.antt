@@ -9,7 +9,7 @@ use Rattle.promise.specs.Answers.{Written, kept}
 use Rattle.refusal.specs.declared.Refusal.the-variants.{Job, State}
 use Rattle.refusal.specs.Said.{Said, accepted, refused}
 use Rattle.whole.specs.Twos.{wide}
-use Rattle.records.specs.Records.{markAt}
+use Rattle.records.specs.Records.{markAt, idLowAt, idHighAt}
 use Rattle.layer.specs.declared.Layer.{Layer}
 use Rattle.layer.specs.Held.{Memory, seen, Change, refuses, holds, onto}
 use Rattle.layer.specs.State.{valid}
@@ -32,13 +32,7 @@ saidAdded (Refused r s n) = refused r (record { layer = s; count = n })
 abbrev pub headOf : ℕ → ℕ → ℕ → ℕ → Head
 headOf kind mark low high = record { kind = kind; «has_id» = eqb mark 1; id = wide low high }
 
--- where they stand behind the kind, in a head as in a record
-abbrev pub idLowAt : ℕ
-idLowAt = 2
-
-abbrev pub idHighAt : ℕ
-idHighAt = 3
-
+-- they stand there as in a record
 abbrev pub headAt : List ℕ → ℕ → Head
 headAt hs i = headOf (getD hs i 0) (getD hs (i + markAt) 0) (getD hs (i + idLowAt) 0) (getD hs (i + idHighAt) 0)
 

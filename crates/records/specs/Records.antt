@@ -10,12 +10,18 @@ use Rattle.words.specs.Geometries.{isKind}
 use Rattle.table.specs.declared.Found.{Found}
 use Rattle.table.specs.declared.Found.the-variants.{At, Nothing}
 
--- the words before the geometry, and where three of them stand: the id mark, which the halves of the id follow, and how many tag and geometry words there are
+-- the words before the geometry, and where they stand behind the kind: the id mark, the halves of the id, and how many tag and geometry words there are
 abbrev pub headWords : ℕ
 headWords = 6
 
 abbrev pub markAt : ℕ
 markAt = 1
+
+abbrev pub idLowAt : ℕ
+idLowAt = 2
+
+abbrev pub idHighAt : ℕ
+idHighAt = 3
 
 abbrev pub tagsAt : ℕ
 tagsAt = 4

@@ -9,6 +9,7 @@ use Rattle.wire.specs.declared.field.Field.the-variants.{FeatureId, FeatureTags
 use Rattle.wire.specs.Varints.{varint}
 use Rattle.wire.specs.Schema.{head}
 use Rattle.whole.specs.Twos.{wide}
+use Rattle.records.specs.Records.{headWords, markAt, idLowAt, idHighAt, tagsAt, geometryAt}
 use Rattle.wire.specs.Fields.{varintField, packedField, delimited}
 
 -- an id mark of 1 says that the id is set
@@ -22,11 +23,13 @@ featureMessage kind mark low high tags geometry =
 -- the record at the front of some words: kind, id mark, id low, id high, tag word count, geometry word count, the geometry, the tag words. How many words
 -- it takes, and its message
 abbrev pub recordSize : List ℕ → ℕ
-recordSize ws = 6 + getD ws 5 0 + getD ws 4 0
+recordSize ws = headWords + getD ws geometryAt 0 + getD ws tagsAt 0
 
 unfoldable pub recordMessage : List ℕ → List ℕ
 recordMessage ws =
-    featureMessage (getD ws 0 0) (getD ws 1 0) (getD ws 2 0) (getD ws 3 0) (take (getD ws 4 0) (drop (6 + getD ws 5 0) ws)) (take (getD ws 5 0) (drop 6 ws))
+    featureMessage (getD ws 0 0) (getD ws markAt 0) (getD ws idLowAt 0) (getD ws idHighAt 0)
+    (take (getD ws tagsAt 0) (drop (headWords + getD ws geometryAt 0) ws))
+    (take (getD ws geometryAt 0) (drop headWords ws))
 
 -- ---- a point with the id 0 and a tag; and a line without id, tags and words: its type alone
 point-with-id : recordMessage (1 ∷ 1 ∷ 0 ∷ 0 ∷ 2 ∷ 3 ∷ 9 ∷ 4 ∷ 4 ∷ 0 ∷ 200 ∷ []) ≡ 8 ∷ 0 ∷ 18 ∷ 3 ∷ 0 ∷ 200 ∷ 1 ∷ 24 ∷ 1 ∷ 34 ∷ 3 ∷ 9 ∷ 4 ∷ 4 ∷ []
