@@ -4,12 +4,12 @@ use mathlib.Core.Bool.{Bool, cond, _&&_}
 use mathlib.Core.List.{List}
 use lib.Dec.{eqb}
 use lib.ListN.{length}
+use Rattle.promise.specs.Laid.{lay}
 use Rattle.promise.specs.Answers.{Written, kept}
 use Rattle.refusal.specs.declared.Refusal.the-variants.{State, Empty}
 use Rattle.refusal.specs.Said.{Said}
 use Rattle.encoder.specs.declared.points.MaybePt.the-variants.{Nowhere}
 use Rattle.encoder.specs.Pushed.{countWord, closeWord}
-use Rattle.encoder.specs.Ends.{layEnd}
 use Rattle.encoder.specs.declared.GeomEncoder.{GeomEncoder}
 use Rattle.encoder.specs.States.{valid}
 use Rattle.encoder.specs.Answers.{Counted, turned, fitting}
@@ -32,7 +32,7 @@ unfoldable pub finished : GeomEncoder → GeomEncoder
 finished s = cond (eqb (s .kind) 1) s (cleared s (placeOf (closing s) s) (s .used + length (closing s)))
 
 abbrev pub closed : GeomEncoder → List ℕ → Written GeomEncoder (List ℕ)
-closed s out = record { answer = finished s; memory = layEnd (s .kind) (s .count) (s .«cmd_offset») (s .used) out }
+closed s out = record { answer = finished s; memory = lay (s .used) (closing s) (lay (s .«cmd_offset») (counting s) out) }
 
 -- EMPTY: "a point geometry with count 0 is completed"
 abbrev pub isEmpty : GeomEncoder → Bool
