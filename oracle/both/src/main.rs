@@ -19,12 +19,13 @@ mod scripts;
 mod shrink;
 mod tile_judge;
 mod tiles;
+mod varints;
 mod whole;
 
 use report::{Difference, Tally};
 use std::process::exit;
 
-const USAGE: &str = "usage: both jobs|clips|readings|tiles|arbitrary|arbitrary-tiles|spoiled-jobs|spoiled-readings|spoiled-tiles SEED COUNT, or both cases jobs|large_jobs|clips|tiles|large_tiles SEED COUNT";
+const USAGE: &str = "usage: both jobs|clips|readings|tiles|varints|arbitrary|arbitrary-tiles|spoiled-jobs|spoiled-readings|spoiled-tiles|spoiled-varints SEED COUNT, or both cases jobs|large_jobs|clips|tiles|large_tiles SEED COUNT";
 
 fn run(kind: &str, seed: u64, count: usize, tally: &mut Tally) -> Option<Difference> {
     match kind {
@@ -38,6 +39,9 @@ fn run(kind: &str, seed: u64, count: usize, tally: &mut Tally) -> Option<Differe
         "tiles" => tiles::compare(seed, count, false, tally),
         // The same: a byte of ours is changed.
         "spoiled-tiles" => tiles::compare(seed, count, true, tally),
+        "varints" => varints::compare(seed, count, false, tally),
+        // The same: our size is one more.
+        "spoiled-varints" => varints::compare(seed, count, true, tally),
         "arbitrary" => arbitrary::run(seed, count, tally),
         "arbitrary-tiles" => arbitrary_tiles::run(seed, count, tally),
         _ => {

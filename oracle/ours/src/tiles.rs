@@ -200,6 +200,18 @@ mod c {
             bytes: *mut u8,
             bytes_len: usize,
         ) -> Added;
+        pub fn bp_layer_size(
+            tile: Tile,
+            layer: Layer,
+            keys: *const u32,
+            keys_len: usize,
+            values: *const u32,
+            values_len: usize,
+            texts: *const u8,
+            texts_len: usize,
+            features: *const u32,
+            features_len: usize,
+        ) -> Counted;
         pub fn bp_num_layers(
             tile: Tile,
             names: *const u32,
@@ -421,6 +433,24 @@ impl Tile {
                 tile.names.len(),
                 tile.bytes.as_mut_ptr(),
                 tile.bytes.len(),
+            )
+        }
+    }
+
+    /// How many bytes adding the layer takes.
+    pub fn layer_size(self, layer: Layer, lists: &Lists) -> Counted {
+        unsafe {
+            c::bp_layer_size(
+                self,
+                layer,
+                lists.keys.as_ptr(),
+                lists.keys.len(),
+                lists.values.as_ptr(),
+                lists.values.len(),
+                lists.texts.as_ptr(),
+                lists.texts.len(),
+                lists.features.as_ptr(),
+                lists.features.len(),
             )
         }
     }
