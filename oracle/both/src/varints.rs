@@ -31,7 +31,10 @@ fn rust(place: Place, n: u64) -> (usize, Vec<u8>) {
     }
     tile.add_layer(feature.into_layer())
         .expect("the only layer of the tile");
-    (tile.compute_size(), tile.to_bytes().expect("bytes in memory"))
+    (
+        tile.compute_size(),
+        tile.to_bytes().expect("bytes in memory"),
+    )
 }
 
 fn accepted(changed: Changed) -> Layer {
@@ -58,27 +61,31 @@ fn ours(place: Place, n: u64) -> Result<(usize, Vec<u8>), String> {
     });
     let layer = accepted(layer.into_layer(&mut lists));
     let size = tile.layer_size(layer, &lists).count;
-    let (refusal, _) = add(tile, layer, &lists, size - 1);
-    if refusal != ROOM {
-        return Err(format!("refusal {refusal} with a byte too few"));
+    match add(tile, layer, &lists, size - 1)? {
+        (ROOM, _) => {}
+        (refusal, _) => return Err(format!("refusal {refusal} with a byte too few")),
     }
-    match add(tile, layer, &lists, size) {
+    match add(tile, layer, &lists, size)? {
         (0, bytes) => Ok((size, bytes)),
-        (refusal, _) => Err(format!("refusal {refusal} in {size} bytes, as it asked for")),
+        (refusal, _) => Err(format!("refusal {refusal} in the {size} bytes asked for")),
     }
 }
 
-/// Our layer added to the tile with so much room: the refusal, and every byte of that room.
-fn add(tile: Tile, layer: Layer, lists: &Lists, room: usize) -> (u32, Vec<u8>) {
+/// Our layer added to the tile with so much room: the refusal, and every byte of that room. Beside it nothing is written, and where refused nothing at all.
+fn add(tile: Tile, layer: Layer, lists: &Lists, room: usize) -> Result<(u32, Vec<u8>), String> {
     let mut bytes = Watched::new(room);
-    let added = {
-        let mut tile_lists = TileLists {
-            names: &mut [0; 2],
-            bytes: bytes.lent(),
-        };
-        tile.add_layer(layer, lists, &mut tile_lists)
+    let mut tile_lists = TileLists {
+        names: &mut [0; 2],
+        bytes: bytes.lent(),
     };
-    (added.refusal, bytes.lent().to_vec())
+    let refusal = tile.add_layer(layer, lists, &mut tile_lists).refusal;
+    let as_it_was = if refusal == 0 { 0 } else { room };
+    if !bytes.kept(as_it_was) {
+        return Err(format!(
+            "refusal {refusal}, and a byte that is not the tile's was written"
+        ));
+    }
+    Ok((refusal, bytes.lent().to_vec()))
 }
 
 /// What differs with a number, the varint of zero taking one byte; `spoil` is added to our size.
