@@ -4,7 +4,10 @@ use mvt_open::{GeomData, GeomType};
 use ours::tiles::{self, Features, Head, Indexes, Lists, TileLists, Value};
 
 const EXTENT: u32 = 4096;
-const WORDS: [u32; 3] = [9, 4, 4];
+/// A point's geometry.
+const POINT: [u32; 3] = [9, 4, 4];
+/// How many words a long geometry has.
+const LONG: usize = 400;
 
 /// A tag: a text, or kind and bits.
 #[derive(Clone)]
@@ -13,9 +16,10 @@ pub enum Content {
     Bits(u32, u64),
 }
 
-/// A point with an id and tags; the same tags as our lists have them, five words each and the bytes of their texts.
+/// A geometry with an id and tags; the same tags as our lists have them, five words each and the bytes of their texts.
 pub struct Feature {
     id: u64,
+    geometry: Vec<u32>,
     tags: Vec<(&'static str, Content)>,
     words: Vec<u32>,
     bytes: Vec<u8>,
@@ -61,9 +65,9 @@ impl Given {
                     .extend([tag[0] + from, tag[1], tag[2], tag[3] + text, tag[4]]);
             }
             let id = [feature.id as u32, (feature.id >> 32) as u32];
-            let sizes = [WORDS.len() as u32, feature.words.len() as u32];
+            let sizes = [feature.geometry.len() as u32, feature.words.len() as u32];
             given.heads.extend([1, 1, id[0], id[1], sizes[0], sizes[1]]);
-            given.words.extend(WORDS);
+            given.words.extend(&feature.geometry);
             given.bytes.extend(&feature.bytes);
         }
         given.features = features;
@@ -107,7 +111,7 @@ impl Memory {
 }
 
 impl Feature {
-    fn new(id: u64, tags: Vec<(&'static str, Content)>) -> Self {
+    fn new(id: u64, geometry: &[u32], tags: Vec<(&'static str, Content)>) -> Self {
         let (mut words, mut bytes) = (Vec::new(), Vec::new());
         let mut put = |text: &str| {
             let place = [bytes.len() as u32, text.len() as u32];
@@ -128,6 +132,7 @@ impl Feature {
         }
         Feature {
             id,
+            geometry: geometry.to_vec(),
             tags,
             words,
             bytes,
@@ -135,8 +140,17 @@ impl Feature {
     }
 }
 
-/// Features with five tags whose values are the same in all of them, or of which one is each feature's own.
+/// Points with five tags whose values are the same in all of them, or of which one is each feature's own.
 pub fn posts(count: usize, own: bool) -> Given {
+    tagged(count, own, &POINT)
+}
+
+/// Features with a long geometry, whose words all take so many bytes as varints, and the same five tags.
+pub fn ducts(count: usize, bytes: u32) -> Given {
+    tagged(count, false, &[4 << (7 * (bytes - 1)); LONG])
+}
+
+fn tagged(count: usize, own: bool, geometry: &[u32]) -> Given {
     let post = |at: u64| {
         let (place, code) = if own { (at, at) } else { (0, 0) };
         let name = format!("post {:02}", place % 50);
@@ -148,7 +162,7 @@ pub fn posts(count: usize, own: bool) -> Given {
             ("code", Content::Bits(3, code.to_bits())),
             ("open", Content::Bits(7, 1)),
         ];
-        Feature::new(at, tags)
+        Feature::new(at, geometry, tags)
     };
     Given::new((0..count as u64).map(post).collect())
 }
@@ -158,7 +172,7 @@ pub fn values(count: usize) -> Given {
     const KEYS: [&str; 8] = ["a", "b", "c", "d", "e", "f", "g", "h"];
     let feature = |at: u64| {
         let tags = (0..8).map(|k| (KEYS[k as usize], Content::Bits(5, 8 * at + k)));
-        Feature::new(at, tags.collect())
+        Feature::new(at, &POINT, tags.collect())
     };
     Given::new((0..count as u64 / 8).map(feature).collect())
 }
@@ -213,12 +227,18 @@ fn by_whole(layer: tiles::Layer, feature: &Feature, lists: &mut Lists) -> tiles:
         id: feature.id,
     };
     layer
-        .add_feature(head, &WORDS, &feature.words, &feature.bytes, lists)
+        .add_feature(
+            head,
+            &feature.geometry,
+            &feature.words,
+            &feature.bytes,
+            lists,
+        )
         .layer
 }
 
 fn by_calls(layer: tiles::Layer, feature: &Feature, lists: &mut Lists) -> tiles::Layer {
-    let opened = layer.into_feature(1, &WORDS, lists).layer;
+    let opened = layer.into_feature(1, &feature.geometry, lists).layer;
     let mut tagged = opened.set_id(feature.id, lists).layer;
     for (key, content) in &feature.tags {
         let value = match content {
@@ -235,7 +255,7 @@ pub fn rust(given: &Given) -> Vec<u8> {
     let mut tile = mvt_open::Tile::new(EXTENT);
     let mut layer = tile.create_layer("posts");
     for given in &given.features {
-        let geometry = GeomData::given(GeomType::Point, WORDS.to_vec());
+        let geometry = GeomData::given(GeomType::Point, given.geometry.clone());
         let mut feature = layer.into_feature(geometry);
         feature.set_id(given.id);
         for (key, content) in &given.tags {

@@ -6,15 +6,37 @@ ghost use Rattle.promise.specs.Answers.{Gives};
 ghost use Rattle.wire.specs.Varints.{varint};
 ghost use Rattle.promise.specs.Puts.{put, Puts};
 
-// Seven bits a byte: the place of the highest set bit, counted from 0, tells the last one. Zero has none, and takes one byte as all that seven bits hold.
 pub fn varint_size(n: u64) -> usize
     ensures { λ r. ⌜ r ≡ length (varint n) ⌝ }
 {
     if n < 128 {
         return 1;
     }
-    let highest = 63 - u64::leading_zeros(n);
-    (highest / 7 + 1) as usize
+    if n < 16_384 {
+        return 2;
+    }
+    if n < 2_097_152 {
+        return 3;
+    }
+    if n < 268_435_456 {
+        return 4;
+    }
+    if n < 34_359_738_368 {
+        return 5;
+    }
+    if n < 4_398_046_511_104 {
+        return 6;
+    }
+    if n < 562_949_953_421_312 {
+        return 7;
+    }
+    if n < 72_057_594_037_927_936 {
+        return 8;
+    }
+    if n < 9_223_372_036_854_775_808 {
+        return 9;
+    }
+    10
 }
 
 // The low seven bits, with the mark that more follow.

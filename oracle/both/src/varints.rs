@@ -60,7 +60,11 @@ fn ours(place: Place, n: u64) -> Result<(usize, Vec<u8>), String> {
         Place::Int => layer.add_tag(b"k", Value::Bits(4, n), &mut lists),
     });
     let layer = accepted(layer.into_layer(&mut lists));
-    let size = tile.layer_size(layer, &lists).count;
+    let asked = tile.layer_size(layer, &lists);
+    if asked.refusal != 0 {
+        return Err(format!("refusal {} of the size", asked.refusal));
+    }
+    let size = asked.count;
     match add(tile, layer, &lists, size - 1)? {
         (ROOM, _) => {}
         (refusal, _) => return Err(format!("refusal {refusal} with a byte too few")),
@@ -73,16 +77,16 @@ fn ours(place: Place, n: u64) -> Result<(usize, Vec<u8>), String> {
 
 /// Our layer added to the tile with so much room: the refusal, and every byte of that room. Beside it nothing is written, and where refused nothing at all.
 fn add(tile: Tile, layer: Layer, lists: &Lists, room: usize) -> Result<(u32, Vec<u8>), String> {
-    let mut bytes = Watched::new(room);
+    let (mut names, mut bytes) = (Watched::new(2), Watched::new(room));
     let mut tile_lists = TileLists {
-        names: &mut [0; 2],
+        names: names.lent(),
         bytes: bytes.lent(),
     };
     let refusal = tile.add_layer(layer, lists, &mut tile_lists).refusal;
-    let as_it_was = if refusal == 0 { 0 } else { room };
-    if !bytes.kept(as_it_was) {
+    let unwritten = |all: usize| if refusal == 0 { 0 } else { all };
+    if !bytes.kept(unwritten(room)) || !names.kept(unwritten(2)) {
         return Err(format!(
-            "refusal {refusal}, and a byte that is not the tile's was written"
+            "refusal {refusal}, and more was written than it says"
         ));
     }
     Ok((refusal, bytes.lent().to_vec()))
