@@ -25,13 +25,14 @@ use Rattle.clip.specs.declared.Pt.{Pt}
 use Rattle.clip.specs.declared.Seg.{Seg}
 use Rattle.clip.specs.declared.BBox.{BBox}
 use Rattle.clip.specs.declared.ClippedSeg.{ClippedSeg}
+use Rattle.clip.specs.declared.Edge.{Edge}
 use Rattle.clip.specs.declared.Clipped.{Clipped}
 use Rattle.clip.specs.declared.Clipped.the-variants.{Done, Refused}
 use Rattle.clip.specs.Domain.{limit, within, isCoord, isGood, isInside}
 use Rattle.clip.specs.Facts.{Within, Coord, Good}
-use Rattle.clip.specs.Cutting.{Crossing, Missing, At, crossAtX, crossAtY, replace, cutXMin, cutXMax, cutYMin, cutYMax, cuts, overlap, clip}
+use Rattle.clip.specs.Cutting.{Crossing, Missing, At, crossAtX, crossAtY, given, replace, cutXMin, cutXMax, cutYMin, cutYMax, cuts, overlap, clip}
 use Rattle.clip.specs.Answer.{saidClipped, areCoords, clipped}
-use Rattle.clip.specs.Demand3.{Demand3, Inside, Placed, Moved}
+use Rattle.clip.specs.Demand3.{Demand3, Inside, Placed, Moved, Kept as StayedAt}
 use Rattle.whole.proofs.Cases.{le-is, lt-is, lt-not}
 use Rattle.promise.proofs.Joined.{both, both-is}
 use Rattle.clip.proofs.Ends.{Proper}
@@ -119,8 +120,8 @@ module _ (s : Seg) (b : BBox) where
       pub answered : c ≡ clip b s
       answered = cases .1 .1
 
-      pub demand-clip : Demand3 b s (c .seg)
-      demand-clip = subst (λ (x : ClippedSeg). Demand3 b s (x .seg)) (sym answered) (demand-3 b (good-proper (good-facts was-good)) s)
+      pub demand-clip : Demand3 b s c
+      demand-clip = subst (Demand3 b s) (sym answered) (demand-3 b (good-proper (good-facts was-good)) s)
 
 -- ---- the clipped segment's ends lie within the limit
 between : {l u z : ℤ} → Within l → Within u → l ≤ℤ z → z ≤ℤ u → Within z
@@ -129,8 +130,8 @@ between hl hu h k = record { least = ≤-trans (hl .least) h; most = ≤-trans k
 pub inside-coord : {b : BBox} {p : Pt} → Good b → Inside b p → Coord p
 inside-coord g i = record { at-x = between (g .left) (g .right) (i .left) (i .right); at-y = between (g .bottom) (g .top) (i .bottom) (i .top) }
 
-placed-coord : {b : BBox} {s : Seg} (p r : Pt) → Good b → Coord p → Placed b s p r → Coord r
-placed-coord {b} {s} p r g h x = ⊎-elim (λ (e : r ≡ p). subst Coord (sym e) h) (λ (m : Moved b s r). inside-coord g (m .edge .inside)) x
+placed-coord : {b : BBox} {s : Seg} {e : Edge} (p r : Pt) → Good b → Coord p → Placed b s p r e → Coord r
+placed-coord {b} {s} {e} p r g h x = ⊎-elim (λ (k : StayedAt p r e). subst Coord (sym (k .same)) h) (λ (m : Moved b s p r e). inside-coord g (m .edge .inside)) x
 
 module _ {b : BBox} (s : Seg) (g : Good b) where
   pub clip-coord0 : Coord (s .p0) → Coord (clip b s .seg .p0)
@@ -151,27 +152,28 @@ pub record Kept (b : BBox) (p : Pt) : Type 0 where
   pub down : ltZ (p .y) (b .«y_min») ≡ false
   pub up : ltZ (b .«y_max») (p .y) ≡ false
 
-uncut : (s : Seg) (u v : Bool) (w : Crossing) → u ≡ false → v ≡ false → replace u v s w ≡ s
-uncut s u v Missing e f = refl
-uncut s u v (At p) e f = rw (e, f)
+uncut : (n : Edge) (c : ClippedSeg) (u v : Bool) (w : Crossing) → u ≡ false → v ≡ false → replace n u v c w ≡ c
+uncut n c u v Missing e f = refl
+uncut n c u v (At p) e f = rw (e, f)
 
-either : (t : Bool) (s : Seg) → cond t s s ≡ s
+either : (t : Bool) (s : ClippedSeg) → cond t s s ≡ s
 either true s = refl
 either false s = refl
 
 module _ (b : BBox) (s : Seg) (h : Kept b (s .p0)) (k : Kept b (s .p1)) where
-  cuts-inside : cuts b s ≡ s
+  cuts-inside : cuts b s ≡ given s
   unfolding cuts
   cuts-inside =
-      let e1 : cutXMin b s ≡ s = uncut s (ltZ (s .p0 .x) (b .«x_min»)) (ltZ (s .p1 .x) (b .«x_min»)) (crossAtX (s .p0) (s .p1) (b .«x_min») (b .«y_min») (b .«y_max»)) (h .left) (k .left) in
-      let e2 : cutXMax b s ≡ s = uncut s (ltZ (b .«x_max») (s .p0 .x)) (ltZ (b .«x_max») (s .p1 .x)) (crossAtX (s .p0) (s .p1) (b .«x_max») (b .«y_min») (b .«y_max»)) (h .right) (k .right) in
-      let e3 : cutYMin b s ≡ s = uncut s (ltZ (s .p0 .y) (b .«y_min»)) (ltZ (s .p1 .y) (b .«y_min»)) (crossAtY (s .p0) (s .p1) (b .«y_min») (b .«x_min») (b .«x_max»)) (h .down) (k .down) in
-      let e4 : cutYMax b s ≡ s = uncut s (ltZ (b .«y_max») (s .p0 .y)) (ltZ (b .«y_max») (s .p1 .y)) (crossAtY (s .p0) (s .p1) (b .«y_max») (b .«x_min») (b .«x_max»)) (h .up) (k .up) in
-      ap (λ (t : Seg). cutYMax b (cutYMin b (cutXMax b t))) e1 ∙ ap (λ (t : Seg). cutYMax b (cutYMin b t)) e2 ∙ ap (λ (t : Seg). cutYMax b t) e3 ∙ e4
+      let c = given s in
+      let e1 : cutXMin b c ≡ c = uncut _ c _ _ (crossAtX (s .p0) (s .p1) (b .«x_min») (b .«y_min») (b .«y_max»)) (h .left) (k .left) in
+      let e2 : cutXMax b c ≡ c = uncut _ c _ _ (crossAtX (s .p0) (s .p1) (b .«x_max») (b .«y_min») (b .«y_max»)) (h .right) (k .right) in
+      let e3 : cutYMin b c ≡ c = uncut _ c _ _ (crossAtY (s .p0) (s .p1) (b .«y_min») (b .«x_min») (b .«x_max»)) (h .down) (k .down) in
+      let e4 : cutYMax b c ≡ c = uncut _ c _ _ (crossAtY (s .p0) (s .p1) (b .«y_max») (b .«x_min») (b .«x_max»)) (h .up) (k .up) in
+      ap (λ (t : ClippedSeg). cutYMax b (cutYMin b (cutXMax b t))) e1 ∙ ap (λ (t : ClippedSeg). cutYMax b (cutYMin b t)) e2 ∙ ap (cutYMax b) e3 ∙ e4
 
-  pub clip-inside : clip b s .seg ≡ s
+  pub clip-inside : clip b s ≡ given s
   unfolding clip
-  clip-inside = rw cuts-inside (either (overlap b s) s)
+  clip-inside = rw cuts-inside (either (overlap b s) (given s))
 
 -- ---- both ends in a good box: the call accepts the segment as given
 inside-facts : (b : BBox) (p : Pt) → isInside b p ≡ true → Inside b p
@@ -185,9 +187,9 @@ inside-facts b p e =
 kept : {b : BBox} {p : Pt} → Inside b p → Kept b p
 kept i = record { left = lt-not (i .left); right = lt-not (i .right); down = lt-not (i .bottom); up = lt-not (i .top) }
 
-pub kept-inside : (s : Seg) (b : BBox) → isGood b ≡ true → isInside b (s .p0) ≡ true → isInside b (s .p1) ≡ true → clipped s b ≡ accepted (record { seg = s } ∷ [])
+pub kept-inside : (s : Seg) (b : BBox) → isGood b ≡ true → isInside b (s .p0) ≡ true → isInside b (s .p1) ≡ true → clipped s b ≡ accepted (given s ∷ [])
 kept-inside s b g e f =
     let i = inside-facts b (s .p0) e in
     let j = inside-facts b (s .p1) f in
     let c = both-is (coord-is (inside-coord (good-facts g) i)) (coord-is (inside-coord (good-facts g) j)) in
-    not-refused s b g c ∙ ap (λ (t : Seg). accepted (record { seg = t } ∷ [])) (clip-inside b s (kept i) (kept j))
+    not-refused s b g c ∙ ap (λ (t : ClippedSeg). accepted (t ∷ [])) (clip-inside b s (kept i) (kept j))

@@ -4,17 +4,20 @@
 use mathlib.Core.Path.{_≡_, refl, sym, subst}
 use mathlib.Core.Bool.{Bool, true, false, cond}
 use mathlib.Core.List.{List, [], _∷_}
-use mathlib.Core.Logic.{inl, ⊎-elim}
+use mathlib.Core.Logic.{inl, inr, ⊎-elim}
 use native.Mathlib.Omega.{arith}
 use lib.IntN.{ℤ, _-ℤ_, _*ℤ_}
 use lib.Signed.{_≤ℤ_, _<ℤ_}
 use Rattle.whole.proofs.Parts.{zarith, -parts}
 use Rattle.whole.proofs.Laws.{diff, ≤-or-<}
 use Rattle.whole.proofs.Auto.{reads, ≤:, ≤! }
+use Rattle.clip.specs.declared.Pt.{Pt}
 use Rattle.clip.specs.declared.Seg.{Seg}
 use Rattle.clip.specs.declared.BBox.{BBox}
-use Rattle.clip.specs.Cutting.{most, least, cuts, overlap, clip, swap}
-use Rattle.clip.specs.Demand3.{Inside, Share, Meets, along, Demand3}
+use Rattle.clip.specs.declared.Edge.{Edge}
+use Rattle.clip.specs.declared.Edge.the-variants.{Stayed}
+use Rattle.clip.specs.Cutting.{most, least, given, cuts, overlap, clip, swap}
+use Rattle.clip.specs.Demand3.{Inside, Share, Meets, along, Holds, Placed, Demand3}
 use Rattle.whole.proofs.Cases.{le-is}
 use Rattle.promise.proofs.Joined.{both-is}
 use Rattle.clip.proofs.Tests.{most-lt, lt-least}
@@ -22,7 +25,8 @@ use Rattle.clip.proofs.Ends.{Side, low, high, endsX, endsY, ends, swapB
 use Rattle.clip.proofs.Readings.{cuts-are-ends}
 use Rattle.clip.proofs.Slopes.{both-below, both-above}
 use Rattle.clip.proofs.Fates.{fate}
-use Rattle.clip.proofs.Tracks.{Cut, cut-is, swap-cut, Track, as-given, track, placed}
+use Rattle.clip.proofs.Tracks.{Cut, cut-is, swap-cut, Track, as-given as untouched, track, Lies, placed}
+use Rattle.clip.proofs.Names.{Told, as-given, told, told-cuts, not-both}
 use Rattle.clip.proofs.Held.{still-meets, State, begin, carry, at-y, keep, finish}
 
 module _ (b : BBox) (h : Proper b) where
@@ -43,7 +47,7 @@ module _ (b : BBox) (h : Proper b) where
     s3 = endsY low b s2
 
     tracked : Track b (t .p0) (t .p1) (ends b t .p0) (ends b t .p1)
-    tracked = track (track (track (track as-given (cut-x low t)) (cut-x high s1)) (cut-y low s2)) (cut-y high s3)
+    tracked = track (track (track (track untouched (cut-x low t)) (cut-x high s1)) (cut-y low s2)) (cut-y high s3)
 
     first-inside : Meets b t → Inside b (ends b t .p0)
     first-inside m0 =
@@ -88,23 +92,35 @@ unfolding overlap
 overlaps m = both-is (both-is (le-is (reaches _ _ _ (m .share) (m .left))) (le-is (starts _ _ _ (m .share) (m .right)))) (both-is (le-is (reaches _ _ _ (m .share) (m .bottom))) (le-is (starts _ _ _ (m .share) (m .top))))
 
 -- ---- demand 3
+-- where an end lies, and what is told of it
+together : {b : BBox} {s : Seg} {g p : Pt} {e : Edge} → Told b g e p → Lies b s g p → Placed b s g p e
+together as-given l = inl (record { stayed = refl; same = refl })
+together {b} {s} {g} (told e r o i k) l = ⊎-elim (λ (f : r ≡ g). absurd (not-both e b g o (subst (Holds e b) f k))) (λ m. inr (record { edge = m .0; near = m .1; passed = o; holds = k })) l
+
 module _ (b : BBox) (h : Proper b) (t : Seg) where
-  of-ends : Demand3 b t (ends b t)
-  of-ends =
-      let p = placed (tracked b h t) in
-      record { inside0 = λ m. first-inside b h t m; inside1 = λ m. first-inside b h (reversed t) (reversed-meets m); placed0 = p .0; placed1 = p .1 }
+  abbrev Of : Seg → Type 0
+  Of s = ((Meets b t → Inside b (s .p0)) × (Meets b t → Inside b (s .p1))) × (Lies b t (t .p0) (s .p0) × Lies b t (t .p1) (s .p1))
+
+  of-ends : Of (ends b t)
+  of-ends = ((λ m. first-inside b h t m, λ m. first-inside b h (reversed t) (reversed-meets m)), placed (tracked b h t))
 
   of-cuts : Demand3 b t (cuts b t)
-  of-cuts = subst (Demand3 b t) (sym (cuts-are-ends b t)) of-ends
+  of-cuts =
+      let o = subst Of (sym (cuts-are-ends b t)) of-ends in
+      let n = told-cuts b h t in
+      record { inside0 = o .0 .0; inside1 = o .0 .1; placed0 = together (n .told0) (o .1 .0); placed1 = together (n .told1) (o .1 .1) }
 
   -- where the overlap test answers w
-  of-either : (w : Bool) → (Meets b t → w ≡ true) → Demand3 b t (cond w (cuts b t) t)
+  of-either : (w : Bool) → (Meets b t → w ≡ true) → Demand3 b t (cond w (cuts b t) (given t))
   of-either true e = of-cuts
-  of-either false e = record { inside0 = λ m. never (e m); inside1 = λ m. never (e m); placed0 = inl refl; placed1 = inl refl }
+  of-either false e = record { inside0 = λ m. never (e m); inside1 = λ m. never (e m); placed0 = stayed; placed1 = stayed }
     where
       never : {A : Type 0} → false ≡ true → A
       never z = absurd (let y : _≡_ {A = Prim.Native.Nat.ℕ} 0 1 = cc in omega arith)
 
-  pub demand-3 : Demand3 b t (clip b t .seg)
+      stayed : {p : Pt} → Placed b t p p Stayed
+      stayed = inl (record { stayed = refl; same = refl })
+
+  pub demand-3 : Demand3 b t (clip b t)
   unfolding clip
   demand-3 = of-either (overlap b t) overlaps

@@ -2,6 +2,8 @@ pub mod Callers
 pub mod Demands
 pub mod Overlaps
 pub mod Readings
+pub mod Segments
+pub mod Names
 pub mod Roundings
 pub mod Tight
 pub mod Tests

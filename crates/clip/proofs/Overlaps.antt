@@ -11,7 +11,8 @@ use Rattle.whole.proofs.Auto.{reads, ≤:, <:}
 use Rattle.clip.specs.declared.Pt.{Pt}
 use Rattle.clip.specs.declared.Seg.{Seg}
 use Rattle.clip.specs.declared.BBox.{BBox}
-use Rattle.clip.specs.Cutting.{most, least, cuts, overlap, clip}
+use Rattle.clip.specs.declared.ClippedSeg.{ClippedSeg}
+use Rattle.clip.specs.Cutting.{most, least, given, cuts, overlap, clip}
 use Rattle.clip.specs.Demand3.{Inside, Share}
 use Rattle.promise.proofs.Joined.{by-four}
 use Rattle.clip.proofs.Tests.{most-lt, lt-least}
@@ -21,6 +22,7 @@ use Rattle.clip.proofs.Slopes.{Small}
 use Rattle.clip.proofs.Fates.{Half}
 use Rattle.clip.proofs.Tracks.{Cut, neither, first, second}
 use Rattle.clip.proofs.Demands.{cut-x, cut-y}
+use Rattle.clip.proofs.Names.{still-given}
 
 -- a number near the line between two that are below c is below c too, and the same above
 near-below : (c p e f : ℤ) {k d : ℤ} → Share k d → e <ℤ c → f <ℤ c → Small d (d *ℤ (p -ℤ e) -ℤ k *ℤ (f -ℤ e)) → c ≤ℤ p → ⊥
@@ -72,16 +74,19 @@ uncut x (first r o e h) = absurd (none-near (apart-back x) h (e .inside))
 uncut x (second r o e h) = absurd (none-near x h (e .inside))
 
 module _ (b : BBox) (h : Proper b) (t : Seg) where
-  pub cuts-apart : Apart b (t .p0) (t .p1) → cuts b t ≡ t
+  pub cuts-apart : Apart b (t .p0) (t .p1) → cuts b t ≡ given t
   cuts-apart x =
+      let e : cuts b t .seg ≡ t =
       cuts-are-ends b t ∙ ap (λ (s : Seg). endsY high b (endsY low b (endsX high b s))) (uncut x (cut-x b h low t)) ∙
       ap (λ (s : Seg). endsY high b (endsY low b s)) (uncut x (cut-x b h high t)) ∙ ap (endsY high b) (uncut x (cut-y b h low t)) ∙ uncut x (cut-y b h high t)
+      in
+      still-given b h t e
 
   -- the clip is the four cuts, without any test
-  pub clip-cuts : clip b t .seg ≡ cuts b t
+  pub clip-cuts : clip b t ≡ cuts b t
   unfolding clip overlap
   clip-cuts =
-      by-four (λ (s : Seg). s ≡ cuts b t) (leZ (b .«x_min») (most (t .p0 .x) (t .p1 .x))) (leZ (least (t .p0 .x) (t .p1 .x)) (b .«x_max»)) (leZ (b .«y_min») (most (t .p0 .y) (t .p1 .y))) (leZ (least (t .p0 .y) (t .p1 .y)) (b .«y_max»)) _ _
+      by-four (λ (c : ClippedSeg). c ≡ cuts b t) (leZ (b .«x_min») (most (t .p0 .x) (t .p1 .x))) (leZ (least (t .p0 .x) (t .p1 .x)) (b .«x_max»)) (leZ (b .«y_min») (most (t .p0 .y) (t .p1 .y))) (leZ (least (t .p0 .y) (t .p1 .y)) (b .«y_max»)) _ _
       (λ l r u o. refl)
       (λ e. let k = most-lt (t .p0 .x) (t .p1 .x) (b .«x_min») (le-no e) in sym (cuts-apart (left (k .0) (k .1))))
       (λ e. let k = lt-least (t .p0 .x) (t .p1 .x) (b .«x_max») (le-no e) in sym (cuts-apart (right (k .0) (k .1))))

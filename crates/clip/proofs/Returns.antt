@@ -23,7 +23,7 @@ use Rattle.clip.specs.Answer.{saidClipped, areCoords, clipped}
 use Rattle.clip.specs.Numbers.{boxAt, cornered}
 use Rattle.clip.specs.Demand3.{Demand3}
 use Rattle.clip.specs.Facts.{Coord, Good, beside, besideX, besideY}
-use Rattle.clip.specs.Cutting.{least, most, clip}
+use Rattle.clip.specs.Cutting.{least, most, given, clip}
 use Rattle.clip.proofs.Overlaps.{Apart, left, right, under, over, cuts-apart, clip-cuts}
 use Rattle.clip.proofs.Callers.{coord-facts, good-facts, good-is, good-proper, box-refused, coord-refused, not-refused, demand-clip}
 use Rattle.clip.proofs.Tests.{most-lt, lt-least}
@@ -78,24 +78,24 @@ or-cases true t e = inl refl
 or-cases false t e = inr e
 
 module _ (b : BBox) (s : Seg) (g : Good b) where
-  stays : Apart b (s .p0) (s .p1) → record { seg = s } ≡ clip b s
-  stays k = sym (ap (λ (t : Seg). record { seg = t }) (clip-cuts b (good-proper g) s ∙ cuts-apart b (good-proper g) s k))
+  stays : Apart b (s .p0) (s .p1) → given s ≡ clip b s
+  stays k = sym (clip-cuts b (good-proper g) s ∙ cuts-apart b (good-proper g) s k)
 
-  pub beside-x : besideX b s ≡ true → record { seg = s } ≡ clip b s
+  pub beside-x : besideX b s ≡ true → given s ≡ clip b s
   unfolding besideX beside
   beside-x t = ⊎-elim
       (λ h. let k = most-lt (s .p0 .x) (s .p1 .x) (b .«x_min») (lt-yes h) in stays (left (k .0) (k .1)))
       (λ h. let k = lt-least (s .p0 .x) (s .p1 .x) (b .«x_max») (lt-yes h) in stays (right (k .0) (k .1)))
       (or-cases (ltZ (most (s .p0 .x) (s .p1 .x)) (b .«x_min»)) (ltZ (b .«x_max») (least (s .p0 .x) (s .p1 .x))) t)
 
-  pub beside-y : besideY b s ≡ true → record { seg = s } ≡ clip b s
+  pub beside-y : besideY b s ≡ true → given s ≡ clip b s
   unfolding besideY beside
   beside-y t = ⊎-elim
       (λ h. let k = most-lt (s .p0 .y) (s .p1 .y) (b .«y_min») (lt-yes h) in stays (under (k .0) (k .1)))
       (λ h. let k = lt-least (s .p0 .y) (s .p1 .y) (b .«y_max») (lt-yes h) in stays (over (k .0) (k .1)))
       (or-cases (ltZ (most (s .p0 .y) (s .p1 .y)) (b .«y_min»)) (ltZ (b .«y_max») (least (s .p0 .y) (s .p1 .y))) t)
 
-  pub beside-either : (besideX b s || besideY b s) ≡ true → record { seg = s } ≡ clip b s
+  pub beside-either : (besideX b s || besideY b s) ≡ true → given s ≡ clip b s
   beside-either t = ⊎-elim beside-x beside-y (or-cases (besideX b s) (besideY b s) t)
 
 -- ---- a box by its corners
@@ -113,7 +113,7 @@ module _ (b : BBox) (l h : Pt) (el : l ≡ record { x = b .«x_min»; y = b .«y
 module _ (s : Seg) (b : BBox) where
   -- what a call has to say of its answer: the promise's second clause follows from the first
   abbrev pub Owed : Clipped → Type 0
-  Owed r = (saidClipped r ≡ clipped s b) × ((c : ClippedSeg) → r ≡ Done c → Demand3 b s (c .seg))
+  Owed r = (saidClipped r ≡ clipped s b) × ((c : ClippedSeg) → r ≡ Done c → Demand3 b s c)
 
   owed : (r : Clipped) → saidClipped r ≡ clipped s b → Owed r
   owed r e = (e, demand-clip s b r e)

@@ -6,6 +6,7 @@ use lib.IntN.{ℤ, pos, negsuc, _-ℤ_, _*ℤ_}
 use lib.Signed.{_<ℤ_, leZ-yes, ltZ-yes}
 use Rattle.whole.proofs.Auto.{reads, ≤:, <:}
 use Rattle.clip.specs.declared.Seg.{Seg}
+use Rattle.clip.specs.Cutting.{given}
 use Rattle.clip.specs.Samples.{from, ten}
 use Rattle.clip.specs.Demand3.{Share, along, Meets, Demand3}
 
@@ -24,7 +25,7 @@ middle = record {
   top = leZ-yes tt;
 }
 
-pub untouched : Demand3 ten through through → ⊥
+pub untouched : Demand3 ten through (given through) → ⊥
 untouched h = h .inside0 middle .left .le
 
 pub not-half : (k d : ℤ) → Share k d

@@ -1,9 +1,9 @@
 -- Parts (b) and (c) of demand 3. `Cut` is what one cut does to both ends, at x and, with x and y exchanged, at y. `Track` is what the cuts have made of the segment so far: each end moves at most once,
 -- since a moved end lies in the box and so is strictly beyond no edge. The first end to move comes to lie half a unit at most from the segment as given; the second half a unit at most from the segment
 -- as it then is, which is less than one from the segment as given (`twice-near`).
-use mathlib.Core.Path.{refl}
+use mathlib.Core.Path.{_≡_, refl}
 use mathlib.Core.List.{List, [], _∷_}
-use mathlib.Core.Logic.{inl, inr, ⊎-elim}
+use mathlib.Core.Logic.{_⊎_, inl, inr, ⊎-elim}
 use native.Mathlib.Omega.{arith}
 use lib.IntN.{ℤ, pos, _-ℤ_, _*ℤ_}
 use lib.Signed.{_<ℤ_}
@@ -12,8 +12,9 @@ use Rattle.whole.proofs.Laws.{prod, <-≤, diff, *-pos, *-nonneg}
 use Rattle.whole.proofs.Auto.{reads, ≤:, <:, ≤!, <! }
 use Rattle.clip.specs.declared.Pt.{Pt}
 use Rattle.clip.specs.declared.BBox.{BBox}
+use Rattle.clip.specs.declared.Seg.{Seg}
 use Rattle.clip.specs.Cutting.{swap}
-use Rattle.clip.specs.Demand3.{Inside, OnEdge, Share, Near, LessThan, along, Placed}
+use Rattle.clip.specs.Demand3.{Inside, OnEdge, Share, Near, LessThan, along}
 use Rattle.clip.proofs.Ends.{Side, low, high, edge, join, swapBox}
 use Rattle.clip.proofs.Slopes.{Small, Under, twice}
 use Rattle.clip.proofs.Fates.{Out, Half, Fate, clear, moved, stuck}
@@ -168,8 +169,12 @@ close {p} {q} {r} h = record {
   in-y = less (h .k) (h .d) (r .y) (p .y) (q .y) (h .in-y);
 }
 
-pub placed : {b : BBox} {p q r t : Pt} → Track b p q r t → Placed b (join p q) p r × Placed b (join p q) q t
+-- an end is as given, or lies on the box's edge and less than one from the segment as given
+abbrev pub Lies : BBox → Seg → Pt → Pt → Type 0
+Lies b s given after = (after ≡ given) ⊎ (OnEdge b after × Near s after)
+
+pub placed : {b : BBox} {p q r t : Pt} → Track b p q r t → Lies b (join p q) p r × Lies b (join p q) q t
 placed as-given = (inl refl, inl refl)
-placed (left-end r e h) = (inr (record { edge = e; near = close (one-back (one h)) }), inl refl)
-placed (right-end r e h) = (inl refl, inr (record { edge = e; near = close (one h) }))
-placed (both-ends r t e f h g) = (inr (record { edge = e; near = close h }), inr (record { edge = f; near = close g }))
+placed (left-end r e h) = (inr (e, close (one-back (one h))), inl refl)
+placed (right-end r e h) = (inl refl, inr (e, close (one h)))
+placed (both-ends r t e f h g) = (inr (e, close h), inr (f, close g))

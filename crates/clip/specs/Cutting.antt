@@ -12,6 +12,8 @@ use Rattle.clip.specs.declared.BBox.{BBox}
 use Rattle.clip.specs.declared.cutting.Meeting.{Meeting}
 use Rattle.clip.specs.declared.cutting.Meeting.the-variants.{Nowhere, At as AtY}
 use Rattle.clip.specs.declared.ClippedSeg.{ClippedSeg}
+use Rattle.clip.specs.declared.Edge.{Edge}
+use Rattle.clip.specs.declared.Edge.the-variants.{Stayed, XMin, XMax, YMin, YMax}
 use Rattle.clip.specs.Rounding.{round}
 
 -- the smaller and the larger of two numbers
@@ -56,6 +58,9 @@ swapped (At p) = At (swap p)
 abbrev pub swapSeg : Seg → Seg
 swapSeg s = record { p0 = swap (s .p0); p1 = swap (s .p1) }
 
+abbrev pub swapCut : ClippedSeg → ClippedSeg
+swapCut c = record { seg = swapSeg (c .seg); first = c .first; second = c .second }
+
 abbrev pub crossAtY : Pt → Pt → ℤ → ℤ → ℤ → Crossing
 crossAtY p q y a b = swapped (crossAtX (swap p) (swap q) y a b)
 
@@ -64,26 +69,45 @@ abbrev pub metAt : ℤ → Meeting → Crossing
 metAt x Nowhere = Missing
 metAt x (AtY y) = At (record { x = x; y = y })
 
--- a crossing replaces the end strictly outside that edge, if one is: out0 and out1 say whether p0 and p1 are
-abbrev pub replace : Bool → Bool → Seg → Crossing → Seg
-replace out0 out1 s Missing = s
-replace out0 out1 s (At p) = cond out0 (record { p0 = p; p1 = s .p1 }) (cond out1 (record { p0 = s .p0; p1 = p }) s)
+-- a segment as given: no end is moved
+abbrev pub given : Seg → ClippedSeg
+given s = record { seg = s; first = Stayed; second = Stayed }
 
-abbrev pub cutXMin : BBox → Seg → Seg
-cutXMin b s = replace (ltZ (s .p0 .x) (b .«x_min»)) (ltZ (s .p1 .x) (b .«x_min»)) s (crossAtX (s .p0) (s .p1) (b .«x_min») (b .«y_min») (b .«y_max»))
+-- an end moved to p, by the cut at that edge
+abbrev pub firstTo : Edge → Pt → ClippedSeg → ClippedSeg
+firstTo e p c = record { seg = record { p0 = p; p1 = c .seg .p1 }; first = e; second = c .second }
 
-abbrev pub cutXMax : BBox → Seg → Seg
-cutXMax b s = replace (ltZ (b .«x_max») (s .p0 .x)) (ltZ (b .«x_max») (s .p1 .x)) s (crossAtX (s .p0) (s .p1) (b .«x_max») (b .«y_min») (b .«y_max»))
+abbrev pub secondTo : Edge → Pt → ClippedSeg → ClippedSeg
+secondTo e p c = record { seg = record { p0 = c .seg .p0; p1 = p }; first = c .first; second = e }
 
-abbrev pub cutYMin : BBox → Seg → Seg
-cutYMin b s = replace (ltZ (s .p0 .y) (b .«y_min»)) (ltZ (s .p1 .y) (b .«y_min»)) s (crossAtY (s .p0) (s .p1) (b .«y_min») (b .«x_min») (b .«x_max»))
+-- a crossing replaces the end strictly outside that edge, if one is: out0 and out1 say whether p0 and p1 are. The edge is named for the end that it moves
+abbrev pub replace : Edge → Bool → Bool → ClippedSeg → Crossing → ClippedSeg
+replace e out0 out1 c Missing = c
+replace e out0 out1 c (At p) = cond out0 (firstTo e p c) (cond out1 (secondTo e p c) c)
 
-abbrev pub cutYMax : BBox → Seg → Seg
-cutYMax b s = replace (ltZ (b .«y_max») (s .p0 .y)) (ltZ (b .«y_max») (s .p1 .y)) s (crossAtY (s .p0) (s .p1) (b .«y_max») (b .«x_min») (b .«x_max»))
+abbrev pub cutXMin : BBox → ClippedSeg → ClippedSeg
+cutXMin b c =
+    replace XMin (ltZ (c .seg .p0 .x) (b .«x_min»)) (ltZ (c .seg .p1 .x) (b .«x_min»)) c
+    (crossAtX (c .seg .p0) (c .seg .p1) (b .«x_min») (b .«y_min») (b .«y_max»))
+
+abbrev pub cutXMax : BBox → ClippedSeg → ClippedSeg
+cutXMax b c =
+    replace XMax (ltZ (b .«x_max») (c .seg .p0 .x)) (ltZ (b .«x_max») (c .seg .p1 .x)) c
+    (crossAtX (c .seg .p0) (c .seg .p1) (b .«x_max») (b .«y_min») (b .«y_max»))
+
+abbrev pub cutYMin : BBox → ClippedSeg → ClippedSeg
+cutYMin b c =
+    replace YMin (ltZ (c .seg .p0 .y) (b .«y_min»)) (ltZ (c .seg .p1 .y) (b .«y_min»)) c
+    (crossAtY (c .seg .p0) (c .seg .p1) (b .«y_min») (b .«x_min») (b .«x_max»))
+
+abbrev pub cutYMax : BBox → ClippedSeg → ClippedSeg
+cutYMax b c =
+    replace YMax (ltZ (b .«y_max») (c .seg .p0 .y)) (ltZ (b .«y_max») (c .seg .p1 .y)) c
+    (crossAtY (c .seg .p0) (c .seg .p1) (b .«y_max») (b .«x_min») (b .«x_max»))
 
 -- at x_min, x_max, y_min, y_max in this order, each on the segment as it then is
-unfoldable pub cuts : BBox → Seg → Seg
-cuts b s = cutYMax b (cutYMin b (cutXMax b (cutXMin b s)))
+unfoldable pub cuts : BBox → Seg → ClippedSeg
+cuts b s = cutYMax b (cutYMin b (cutXMax b (cutXMin b (given s))))
 
 -- whether the segment's bounding rectangle and the box overlap, edges counted (`bounded_by`)
 unfoldable pub overlap : BBox → Seg → Bool
@@ -93,4 +117,4 @@ overlap b s =
 
 -- without overlap the segment as given
 unfoldable pub clip : BBox → Seg → ClippedSeg
-clip b s = record { seg = cond (overlap b s) (cuts b s) s }
+clip b s = cond (overlap b s) (cuts b s) (given s)

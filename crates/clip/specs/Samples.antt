@@ -7,8 +7,9 @@ use Rattle.refusal.specs.Said.{Said, accepted}
 use Rattle.clip.specs.declared.Seg.{Seg}
 use Rattle.clip.specs.declared.BBox.{BBox}
 use Rattle.clip.specs.declared.ClippedSeg.{ClippedSeg}
+use Rattle.clip.specs.declared.Edge.the-variants.{Stayed, XMax}
 use Rattle.clip.specs.Domain.{isCoord, isGood}
-use Rattle.clip.specs.Cutting.{crossAtX, cuts, overlap, clip}
+use Rattle.clip.specs.Cutting.{crossAtX, given, cuts, overlap, clip}
 use Rattle.clip.specs.Answer.{clipped}
 
 abbrev pub from : ℤ → ℤ → ℤ → ℤ → Seg
@@ -21,7 +22,7 @@ abbrev pub ten : BBox
 ten = box (pos 0) (pos 10)
 
 abbrev pub done : Seg → Said (List ClippedSeg)
-done s = accepted (record { seg = s } ∷ [])
+done s = accepted (given s ∷ [])
 
 -- an edge and a coordinate at the limit are accepted, one further they are refused as 3 and as 5; a box 0..0 is refused as 3
 abbrev pub inTen : Seg
@@ -35,7 +36,7 @@ pub edge-beyond : clipped inTen (box (pos 0) (pos 1073741824)) .number ≡ 3
 unfolding clipped isGood
 edge-beyond = refl
 
-pub coord-at-limit : clipped (from (pos 1) (pos 1) (pos 1073741823) (pos 1)) ten ≡ done (from (pos 1) (pos 1) (pos 10) (pos 1))
+pub coord-at-limit : clipped (from (pos 1) (pos 1) (pos 1073741823) (pos 1)) ten ≡ accepted (record { seg = from (pos 1) (pos 1) (pos 10) (pos 1); first = Stayed; second = XMax } ∷ [])
 unfolding clipped isGood isCoord clip overlap cuts crossAtX
 coord-at-limit = refl
 

@@ -7,11 +7,13 @@ ghost use lib.IntN.{pos};
 ghost use lib.Signed.{_<ℤ_, ltZ};
 ghost use Rattle.whole.specs.Floor.{floor};
 ghost use Rattle.clip.specs.Facts.{Coord, Good, Asked};
-ghost use Rattle.clip.specs.Cutting.{height, crossAtX, metAt, replace, swapSeg, clip};
+ghost use Rattle.clip.specs.Cutting.{height, crossAtX, metAt, firstTo, secondTo, replace, swapCut, clip};
 ghost use Rattle.clip.specs.Numbers.{cornered};
 use crate::ClippedSeg;
+use crate::Edge;
 use crate::Pt;
 use crate::Seg;
+use crate::stay;
 
 // Whether a segment crosses an edge's line, and at which y.
 enum Meeting {
@@ -54,91 +56,113 @@ fn intersect_at_x(p: Pt, q: Pt, x: i32, a: i32, b: i32) -> Meeting
     Meeting::Nowhere
 }
 
-// The cut at a lower edge: the end strictly below it goes to the crossing, if there is one.
-fn cut_low(s: Seg, x: i32, a: i32, b: i32) -> Seg
-    requires { ⌜ Coord (s .p0) ⌝ }
-    requires { ⌜ Coord (s .p1) ⌝ }
-    ensures { λ r. ⌜ r ≡ replace (ltZ (s .p0 .x) x) (ltZ (s .p1 .x) x) s (crossAtX (s .p0) (s .p1) x a b) ⌝ }
+// The first end moved to (x, y) by the cut at an edge; the second end.
+fn first_to(c: ClippedSeg, edge: Edge, x: i32, y: i32) -> ClippedSeg
+    ensures { λ r. ⌜ r ≡ firstTo edge (record { x = x; y = y }) c ⌝ }
 {
+    let s = c.seg;
+    let p1 = s.p1;
+    let second = c.second;
+    ClippedSeg {
+        seg: Seg {
+            p0: Pt { x: x, y: y },
+            p1: p1,
+        },
+        first: edge,
+        second: second,
+    }
+}
+
+fn second_to(c: ClippedSeg, edge: Edge, x: i32, y: i32) -> ClippedSeg
+    ensures { λ r. ⌜ r ≡ secondTo edge (record { x = x; y = y }) c ⌝ }
+{
+    let s = c.seg;
+    let p0 = s.p0;
+    let first = c.first;
+    ClippedSeg {
+        seg: Seg {
+            p0: p0,
+            p1: Pt { x: x, y: y },
+        },
+        first: first,
+        second: edge,
+    }
+}
+
+// The cut at a lower edge: the end strictly below it goes to the crossing, if there is one.
+fn cut_low(c: ClippedSeg, edge: Edge, x: i32, a: i32, b: i32) -> ClippedSeg
+    requires { ⌜ Coord (c .seg .p0) ⌝ }
+    requires { ⌜ Coord (c .seg .p1) ⌝ }
+    ensures { λ r. ⌜ r ≡ replace edge (ltZ (c .seg .p0 .x) x) (ltZ (c .seg .p1 .x) x) c (crossAtX (c .seg .p0) (c .seg .p1) x a b) ⌝ }
+{
+    let s = c.seg;
     let p0 = s.p0;
     let p1 = s.p1;
     let x0 = p0.x;
     let x1 = p1.x;
     if x0 < x {
         if x1 < x {
-            return s;
+            return c;
         }
         match intersect_at_x(p0, p1, x, a, b) {
-            Meeting::At(y) => {
-                return Seg {
-                    p0: Pt { x: x, y: y },
-                    p1: p1,
-                };
-            }
-            Meeting::Nowhere => return s,
+            Meeting::At(y) => return first_to(c, edge, x, y),
+            Meeting::Nowhere => return c,
         }
     }
     if x1 < x {
         match intersect_at_x(p1, p0, x, a, b) {
-            Meeting::At(y) => {
-                return Seg {
-                    p0: p0,
-                    p1: Pt { x: x, y: y },
-                };
-            }
-            Meeting::Nowhere => return s,
+            Meeting::At(y) => return second_to(c, edge, x, y),
+            Meeting::Nowhere => return c,
         }
     }
-    s
+    c
 }
 
 // The cut at an upper edge.
-fn cut_high(s: Seg, x: i32, a: i32, b: i32) -> Seg
-    requires { ⌜ Coord (s .p0) ⌝ }
-    requires { ⌜ Coord (s .p1) ⌝ }
-    ensures { λ r. ⌜ r ≡ replace (ltZ x (s .p0 .x)) (ltZ x (s .p1 .x)) s (crossAtX (s .p0) (s .p1) x a b) ⌝ }
+fn cut_high(c: ClippedSeg, edge: Edge, x: i32, a: i32, b: i32) -> ClippedSeg
+    requires { ⌜ Coord (c .seg .p0) ⌝ }
+    requires { ⌜ Coord (c .seg .p1) ⌝ }
+    ensures { λ r. ⌜ r ≡ replace edge (ltZ x (c .seg .p0 .x)) (ltZ x (c .seg .p1 .x)) c (crossAtX (c .seg .p0) (c .seg .p1) x a b) ⌝ }
 {
+    let s = c.seg;
     let p0 = s.p0;
     let p1 = s.p1;
     let x0 = p0.x;
     let x1 = p1.x;
     if x < x0 {
         if x < x1 {
-            return s;
+            return c;
         }
         match intersect_at_x(p1, p0, x, a, b) {
-            Meeting::At(y) => {
-                return Seg {
-                    p0: Pt { x: x, y: y },
-                    p1: p1,
-                };
-            }
-            Meeting::Nowhere => return s,
+            Meeting::At(y) => return first_to(c, edge, x, y),
+            Meeting::Nowhere => return c,
         }
     }
     if x < x1 {
         match intersect_at_x(p0, p1, x, a, b) {
-            Meeting::At(y) => {
-                return Seg {
-                    p0: p0,
-                    p1: Pt { x: x, y: y },
-                };
-            }
-            Meeting::Nowhere => return s,
+            Meeting::At(y) => return second_to(c, edge, x, y),
+            Meeting::Nowhere => return c,
         }
     }
-    s
+    c
 }
 
 // At y: x and y change roles.
-fn swap(s: Seg) -> Seg
-    ensures { λ r. ⌜ r ≡ swapSeg s ⌝ }
+fn swap(c: ClippedSeg) -> ClippedSeg
+    ensures { λ r. ⌜ r ≡ swapCut c ⌝ }
 {
+    let s = c.seg;
     let p0 = s.p0;
     let p1 = s.p1;
-    Seg {
-        p0: Pt { x: p0.y, y: p0.x },
-        p1: Pt { x: p1.y, y: p1.x },
+    let first = c.first;
+    let second = c.second;
+    ClippedSeg {
+        seg: Seg {
+            p0: Pt { x: p0.y, y: p0.x },
+            p1: Pt { x: p1.y, y: p1.x },
+        },
+        first: first,
+        second: second,
     }
 }
 
@@ -153,13 +177,13 @@ pub(crate) fn cut_all(p0: Pt, p1: Pt, low: Pt, high: Pt) -> ClippedSeg
     let bottom = low.y;
     let right = high.x;
     let top = high.y;
-    let s = Seg {
+    let c = stay(Seg {
         p0: Pt { x: p0.x, y: p0.y },
         p1: Pt { x: p1.x, y: p1.y },
-    };
-    let s1 = cut_low(s, left, bottom, top);
-    let s2 = cut_high(s1, right, bottom, top);
-    let s3 = cut_low(swap(s2), bottom, left, right);
-    let s4 = cut_high(s3, top, left, right);
-    ClippedSeg { seg: swap(s4) }
+    });
+    let c1 = cut_low(c, Edge::XMin, left, bottom, top);
+    let c2 = cut_high(c1, Edge::XMax, right, bottom, top);
+    let c3 = cut_low(swap(c2), Edge::YMin, bottom, left, right);
+    let c4 = cut_high(c3, Edge::YMax, top, left, right);
+    swap(c4)
 }

@@ -3,9 +3,9 @@
 ghost use mathlib.Core.Path.{_≡_};
 ghost use Rattle.clip.specs.Domain.{limit, within, isCoord, isGood, isInside};
 ghost use Rattle.clip.specs.Facts.{beside, besideX, besideY};
-ghost use Rattle.clip.specs.Cutting.{least, most};
+ghost use Rattle.clip.specs.Cutting.{least, most, given};
 ghost use Rattle.clip.specs.Answer.{saidClipped, areCoords, clipped};
-ghost use Rattle.clip.specs.Numbers.{between};
+ghost use Rattle.clip.specs.Numbers.{between, edgeNumber};
 ghost use Rattle.clip.specs.Demand3.{Demand3};
 use crate::cutting::cut_all;
 use refusal::Refusal;
@@ -29,14 +29,40 @@ pub struct BBox {
     pub y_max: i32,
 }
 
-// A clipped segment. Callers read it by `.seg`: what clipping tells besides is a field more.
+// What became of an end: it stayed as given, or the cut at that edge moved it. The definitions' `edgeNumber` has their numbers.
+pub enum Edge {
+    Stayed,
+    XMin,
+    XMax,
+    YMin,
+    YMax,
+}
+
+// A clipped segment, and what became of its first and of its second end.
 pub struct ClippedSeg {
     pub seg: Seg,
+    pub first: Edge,
+    pub second: Edge,
 }
 
 pub enum Clipped {
     Done(ClippedSeg),
     Refused(Refusal),
+}
+
+impl Edge {
+    // The number of what became of an end, 0 to 4 in the order of the cuts.
+    pub fn number(self) -> u32
+        ensures { λ r. ⌜ r ≡ edgeNumber self ⌝ }
+    {
+        match self {
+            Edge::Stayed => 0,
+            Edge::XMin => 1,
+            Edge::XMax => 2,
+            Edge::YMin => 3,
+            Edge::YMax => 4,
+        }
+    }
 }
 
 impl BBox {
@@ -155,10 +181,21 @@ fn is_beyond(b: BBox, s: Seg) -> bool
     are_beside(p0.y, p1.y, b.y_min, b.y_max)
 }
 
+// A segment as given: no end is moved.
+pub(crate) fn stay(s: Seg) -> ClippedSeg
+    ensures { λ r. ⌜ r ≡ given s ⌝ }
+{
+    ClippedSeg {
+        seg: s,
+        first: Edge::Stayed,
+        second: Edge::Stayed,
+    }
+}
+
 // The segment cut at the box: BOX, then COORD, else the clipped segment.
 pub fn clip(seg: Seg, bbox: BBox) -> Clipped
     ensures answer { λ r. ⌜ saidClipped r ≡ clipped seg bbox ⌝ }
-    ensures demand3 { λ r. ⌜ ((c : ClippedSeg) → r ≡ Clipped.Done c → Demand3 bbox seg (c .seg)) ⌝ }
+    ensures demand3 { λ r. ⌜ ((c : ClippedSeg) → r ≡ Clipped.Done c → Demand3 bbox seg c) ⌝ }
 {
     if !BBox::is_good(bbox) {
         return Clipped::Refused(Refusal::Box);
@@ -167,10 +204,10 @@ pub fn clip(seg: Seg, bbox: BBox) -> Clipped
         return Clipped::Refused(Refusal::Coord);
     }
     if is_beside(bbox, seg) {
-        return Clipped::Done(ClippedSeg { seg: seg });
+        return Clipped::Done(stay(seg));
     }
     if is_beyond(bbox, seg) {
-        return Clipped::Done(ClippedSeg { seg: seg });
+        return Clipped::Done(stay(seg));
     }
     let p0 = seg.p0;
     let p1 = seg.p1;
@@ -189,7 +226,7 @@ pub fn clip_between(from: Pt, to: Pt, bbox: BBox) -> Clipped
         return Clipped::Refused(Refusal::Coord);
     }
     if is_beside(bbox, seg) | is_beyond(bbox, seg) {
-        return Clipped::Done(ClippedSeg { seg: seg });
+        return Clipped::Done(stay(seg));
     }
     Clipped::Done(cut_all(from, to, BBox::low(bbox), BBox::high(bbox)))
 }

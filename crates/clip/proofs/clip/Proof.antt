@@ -40,22 +40,30 @@ returns-2 c =
 is-beside-requires : tie.Need-is-beside-requires
 is-beside-requires c κs = search needs
 
+stay-requires : tie.Need-stay-requires
+stay-requires c κs = search needs
+
 returns-3 : tie.Need-returns-3
 returns-3 c =
-    let f = c .before .before in
+    let t = c .before in
+    let f = t .before .before in
     let e = f .before .before in
     let s = start e in
-    are-coords-done f _ (beside-x (s .args .bbox) (s .args .seg) (is-good-box e) (sym (c .before .is-beside .ensures) ∙ c .if3 .taken))
+    are-coords-done f _ (c .stay .ensures ∙ beside-x (s .args .bbox) (s .args .seg) (is-good-box e) (sym (t .before .is-beside .ensures) ∙ t .if3 .taken))
 
 is-beyond-requires : tie.Need-is-beyond-requires
 is-beyond-requires c κs = search needs
 
+stay-requires-2 : tie.Need-stay-requires-2
+stay-requires-2 c κs = search needs
+
 returns-4 : tie.Need-returns-4
 returns-4 c =
-    let f = c .before .before .before .before in
+    let t = c .before in
+    let f = t .before .before .before .before in
     let e = f .before .before in
     let s = start e in
-    are-coords-done f _ (beside-y (s .args .bbox) (s .args .seg) (is-good-box e) (sym (c .before .is-beyond .ensures) ∙ c .if4 .taken))
+    are-coords-done f _ (c .stay2 .ensures ∙ beside-y (s .args .bbox) (s .args .seg) (is-good-box e) (sym (t .before .is-beyond .ensures) ∙ t .if4 .taken))
 
 low-requires : tie.Need-low-requires
 low-requires c κs = search needs
@@ -87,4 +95,4 @@ returns-5 c =
 pub clip-spec : {M : Type 1} → statement M
 clip-spec =
     tie.close
-    (tie.spec is-good-requires returns are-coords-requires returns-2 is-beside-requires returns-3 is-beyond-requires returns-4 low-requires high-requires cut-all-requires returns-5)
+    (tie.spec is-good-requires returns are-coords-requires returns-2 is-beside-requires stay-requires returns-3 is-beyond-requires stay-requires-2 returns-4 low-requires high-requires cut-all-requires returns-5)

@@ -1,6 +1,6 @@
 -- `clip::clip_between` meets its contract: BOX, then COORD, then the clip, where a segment beside the box stays.
 use borrow.Author.Needs.{needs}
-use mathlib.Core.Path.{_≡_}
+use mathlib.Core.Path.{_≡_, _∙_}
 use Rattle.clip.specs.declared.Seg.{Seg}
 use Rattle.clip.specs.declared.ClippedSeg.{ClippedSeg}
 use Rattle.clip.specs.declared.Clipped.the-variants.{Done}
@@ -49,14 +49,18 @@ is-beside-requires c κs = search needs
 is-beyond-requires : tie.Need-is-beyond-requires
 is-beyond-requires c κs = search needs
 
+stay-requires : tie.Need-stay-requires
+stay-requires c κs = search needs
+
 returns-3 : tie.Need-returns-3
 returns-3 c =
-    let y = c .before in
+    let t = c .before in
+    let y = t .before in
     let x = y .before in
     let f = x .before in
     let e = f .before .before in
     let s = start e in
-    said f (record { seg = seg s }) (beside-either (s .args .bbox) (seg s) (is-good-box e) (rw (x .is-beside .ensures, y .is-beyond .ensures) at (c .if3 .taken)))
+    said f _ (c .stay .ensures ∙ beside-either (s .args .bbox) (seg s) (is-good-box e) (rw (x .is-beside .ensures, y .is-beyond .ensures) at (t .if3 .taken)))
 
 low-requires : tie.Need-low-requires
 low-requires c κs = search needs
@@ -85,4 +89,4 @@ returns-4 c =
 pub clip-between-spec : {M : Type 1} → statement M
 clip-between-spec =
     tie.close
-    (tie.spec is-good-requires returns are-coords-requires returns-2 is-beside-requires is-beyond-requires returns-3 low-requires high-requires cut-all-requires returns-4)
+    (tie.spec is-good-requires returns are-coords-requires returns-2 is-beside-requires is-beyond-requires stay-requires returns-3 low-requires high-requires cut-all-requires returns-4)
