@@ -1,3 +1,3 @@
 
 // Appended to the second copy of lib.rs by oracle/setup: what the other tails add.
-pub use crate::encoder::{State, command_word, param_word};
+pub use crate::encoder::{NamedClip, State, command_word, named_clip, param_word};

@@ -6,6 +6,7 @@
 --     answered was-good were-coords demand-clip     where r is `Done c`: c is the clip's, box and ends were good, and demand 3 holds of c
 --     clip-coord0 clip-coord1 clip-within           the clipped segment's ends lie within the limit
 --     clip-inside                                   a segment with no end outside an edge stays as it is
+--     first-kept first-moved second-kept second-moved   an end is said to have stayed exactly where it is as given
 --     kept-inside                                   what a call says of a segment with both ends in a good box
 use mathlib.Core.Path.{_≡_, refl, sym, _∙_, ap, subst}
 use mathlib.Core.Bool.{Bool, true, false, cond, _&&_}
@@ -32,7 +33,10 @@ use Rattle.clip.specs.Domain.{limit, within, isCoord, isGood, isInside}
 use Rattle.clip.specs.Facts.{Within, Coord, Good}
 use Rattle.clip.specs.Cutting.{Crossing, Missing, At, crossAtX, crossAtY, given, replace, cutXMin, cutXMax, cutYMin, cutYMax, cuts, overlap, clip}
 use Rattle.clip.specs.Answer.{saidClipped, areCoords, clipped}
-use Rattle.clip.specs.Demand3.{Demand3, Inside, Placed, Moved, Kept as StayedAt}
+use Rattle.clip.specs.Demand3.{Demand3, Inside, Passed, Holds, Placed, Moved, Kept as StayedAt}
+use Rattle.clip.specs.Numbers.{isMoved}
+use Rattle.clip.specs.declared.Edge.the-variants.{Stayed, XMin, XMax, YMin, YMax}
+use Rattle.clip.proofs.Names.{not-both}
 use Rattle.whole.proofs.Cases.{le-is, lt-is, lt-not}
 use Rattle.promise.proofs.Joined.{both, both-is}
 use Rattle.clip.proofs.Ends.{Proper}
@@ -174,6 +178,39 @@ module _ (b : BBox) (s : Seg) (h : Kept b (s .p0)) (k : Kept b (s .p1)) where
   pub clip-inside : clip b s ≡ given s
   unfolding clip
   clip-inside = rw cuts-inside (either (overlap b s) (given s))
+
+-- ---- an end is said to have stayed exactly where it is as given
+placed-kept : {b : BBox} {s : Seg} {e : Edge} (p r : Pt) → Placed b s p r e → isMoved e ≡ false → r ≡ p
+placed-kept {b} {s} {e} p r x f = ⊎-elim (λ (k : StayedAt p r e). k .same) (λ (m : Moved b s p r e). absurd (named e (m .passed) f)) x
+  where
+    named : (n : Edge) → Passed n b p → isMoved n ≡ false → ⊥
+    named Stayed o g = o
+    named XMin o g = let z : _≡_ {A = ℕ} 0 1 = cc in omega arith
+    named XMax o g = let z : _≡_ {A = ℕ} 0 1 = cc in omega arith
+    named YMin o g = let z : _≡_ {A = ℕ} 0 1 = cc in omega arith
+    named YMax o g = let z : _≡_ {A = ℕ} 0 1 = cc in omega arith
+
+placed-moved : {b : BBox} {s : Seg} {e : Edge} (p r : Pt) → Placed b s p r e → isMoved e ≡ true → r ≡ p → ⊥
+placed-moved {b} {s} {e} p r x f g = ⊎-elim
+    (λ (k : StayedAt p r e). let h = sym (ap isMoved (k .stayed)) ∙ f in let z : _≡_ {A = ℕ} 0 1 = cc in omega arith)
+    (λ (m : Moved b s p r e). not-both e b p (m .passed) (subst (Holds e b) g (m .holds)))
+    x
+
+module _ (b : BBox) (s : Seg) (g : isGood b ≡ true) where
+  demanded : Demand3 b s (clip b s)
+  demanded = demand-3 b (good-proper (good-facts g)) s
+
+  pub first-kept : isMoved (clip b s .first) ≡ false → clip b s .seg .p0 ≡ s .p0
+  first-kept = placed-kept (s .p0) _ (demanded .placed0)
+
+  pub first-moved : isMoved (clip b s .first) ≡ true → clip b s .seg .p0 ≡ s .p0 → ⊥
+  first-moved = placed-moved (s .p0) _ (demanded .placed0)
+
+  pub second-kept : isMoved (clip b s .second) ≡ false → clip b s .seg .p1 ≡ s .p1
+  second-kept = placed-kept (s .p1) _ (demanded .placed1)
+
+  pub second-moved : isMoved (clip b s .second) ≡ true → clip b s .seg .p1 ≡ s .p1 → ⊥
+  second-moved = placed-moved (s .p1) _ (demanded .placed1)
 
 -- ---- both ends in a good box: the call accepts the segment as given
 inside-facts : (b : BBox) (p : Pt) → isInside b p ≡ true → Inside b p

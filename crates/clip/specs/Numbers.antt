@@ -1,5 +1,6 @@
--- A segment by its ends or its numbers, a box by its numbers or its lower and its upper corner, and the number of what became of an end.
+-- A segment by its ends or its numbers, a box by its numbers or its lower and its upper corner, the number of what became of an end, and whether it was moved.
 use Prim.Native.Nat.{ℕ}
+use mathlib.Core.Bool.{Bool, true, false}
 use lib.IntN.{ℤ}
 use Rattle.clip.specs.declared.Pt.{Pt}
 use Rattle.clip.specs.declared.Seg.{Seg}
@@ -26,3 +27,10 @@ edgeNumber XMin = 1
 edgeNumber XMax = 2
 edgeNumber YMin = 3
 edgeNumber YMax = 4
+
+abbrev pub isMoved : Edge → Bool
+isMoved Stayed = false
+isMoved XMin = true
+isMoved XMax = true
+isMoved YMin = true
+isMoved YMax = true

@@ -5,7 +5,7 @@ ghost use Rattle.clip.specs.Domain.{limit, within, isCoord, isGood, isIn
 ghost use Rattle.clip.specs.Facts.{beside, besideX, besideY};
 ghost use Rattle.clip.specs.Cutting.{least, most, given};
 ghost use Rattle.clip.specs.Answer.{saidClipped, areCoords, clipped};
-ghost use Rattle.clip.specs.Numbers.{between, edgeNumber};
+ghost use Rattle.clip.specs.Numbers.{between, edgeNumber, isMoved};
 ghost use Rattle.clip.specs.Demand3.{Demand3};
 use crate::cutting::cut_all;
 use refusal::Refusal;
@@ -61,6 +61,19 @@ impl Edge {
             Edge::XMax => 2,
             Edge::YMin => 3,
             Edge::YMax => 4,
+        }
+    }
+
+    // Whether the end was moved.
+    pub fn is_moved(self) -> bool
+        ensures { λ r. ⌜ r ≡ isMoved self ⌝ }
+    {
+        match self {
+            Edge::Stayed => false,
+            Edge::XMin => true,
+            Edge::XMax => true,
+            Edge::YMin => true,
+            Edge::YMax => true,
         }
     }
 }
@@ -182,7 +195,7 @@ fn is_beyond(b: BBox, s: Seg) -> bool
 }
 
 // A segment as given: no end is moved.
-pub(crate) fn stay(s: Seg) -> ClippedSeg
+pub fn stay(s: Seg) -> ClippedSeg
     ensures { λ r. ⌜ r ≡ given s ⌝ }
 {
     ClippedSeg {

@@ -1,22 +1,26 @@
 -- The two returns of `add_boundary_points`: the ends of the clip, those that moved in the box; and none.
-use mathlib.Core.Path.{_≡_, refl, ap, subst}
+use mathlib.Core.Path.{_≡_, refl, sym, _∙_, ap, subst}
 use mathlib.Core.Bool.{Bool, true, false, cond, not, _&&_, _||_}
-use mathlib.Core.List.{[], _∷_, _++_}
+use mathlib.Core.List.{List, [], _∷_, _++_}
 use Prim.Native.Nat.{ℕ}
 use native.Mathlib.Omega.{arith}
 use lib.Dec.{eqb}
 use Rattle.clip.specs.declared.Pt.{Pt}
 use Rattle.clip.specs.declared.Seg.{Seg}
+use Rattle.clip.specs.declared.BBox.{BBox}
+use Rattle.encoder.specs.declared.Edges.{Edges}
 use Rattle.clip.specs.Domain.{isCoord, isGood}
 use Rattle.clip.specs.Answer.{areCoords}
-use Rattle.clip.specs.Cutting.{clip}
+use Rattle.clip.specs.declared.ClippedSeg.{ClippedSeg}
+use Rattle.clip.specs.Cutting.{given, clip}
 use Rattle.encoder.specs.declared.boundary.Ends.{Ends}
 use Rattle.encoder.specs.declared.draft.Draft.{Draft}
 use Rattle.encoder.specs.Points.{inLimit, samePt}
-use Rattle.encoder.specs.Boundary.{moved, maybe, listOf, movedBy, outside, Brought}
-use Rattle.encoder.specs.Adding.{cutFrom, boundary}
+use Rattle.encoder.specs.Boundary.{moved, maybe, listOf, endsIn, namedBy, outside, Brought, BroughtBy}
+use Rattle.encoder.specs.Answers.{none}
+use Rattle.encoder.specs.Adding.{cutFrom, boundary, edgesFrom, edges}
 use Rattle.encoder.specs.Drafts.{stateIn}
-use Rattle.encoder.proofs.Boundaries.{inside-same, stays}
+use Rattle.encoder.proofs.Boundaries.{movedBy, moved-is, inside-same, stays}
 use Rattle.encoder.proofs.Tests.{fixed0, fixed1}
 
 -- what the code's test tells: no points, a raw point, and an end outside
@@ -46,29 +50,51 @@ cut-asked d p g l c u h =
     (g, rw (r, c))
 
 module _ (d : Draft) (p : Pt) (s : Seg) (i : s ≡ record { p0 = d .pen .raw; p1 = p }) where
-  pub brought-cut : isGood (d .bbox) ≡ true → (u : Bool) → (not (eqb (d .kind) 1) && d .joins && u) ≡ true → (cut : Seg) → cut ≡ clip (d .bbox) s .seg → (e : Ends) → e ≡ movedBy (d .pen .raw) p cut → Brought (d .bbox) (boundary (stateIn d) p) e
+  points-cut : isGood (d .bbox) ≡ true → (u : Bool) → (not (eqb (d .kind) 1) && d .joins && u) ≡ true → (e : Ends) → e ≡ movedBy (d .pen .raw) p (clip (d .bbox) s .seg) → Brought (d .bbox) (boundary (stateIn d) p) e
   unfolding boundary
-  brought-cut g u h cut c e m =
+  points-cut g u h e m =
       let (k, (j, x)) = told (eqb (d .kind) 1) (d .joins) u h in
-      rw (m, c, i) (record {
+      rw (m, i) (record {
         list = rw (k, j) (λ t. one-end (d .pen .raw) (clip (d .bbox) (record { p0 = d .pen .raw; p1 = p }) .seg .p0) t ++ one-end p (clip (d .bbox) (record { p0 = d .pen .raw; p1 = p }) .seg .p1) t);
         in0 = λ f. fixed0 (d .bbox) (record { p0 = d .pen .raw; p1 = p }) g (was-moved (samePt (d .pen .raw) (clip (d .bbox) (record { p0 = d .pen .raw; p1 = p }) .seg .p0)) f);
         in1 = λ f. fixed1 (d .bbox) (record { p0 = d .pen .raw; p1 = p }) g (was-moved (samePt p (clip (d .bbox) (record { p0 = d .pen .raw; p1 = p }) .seg .p1)) f);
       })
 
+  pub brought-cut : isGood (d .bbox) ≡ true → (u : Bool) → (not (eqb (d .kind) 1) && d .joins && u) ≡ true → (c : ClippedSeg) → c ≡ clip (d .bbox) s → BroughtBy (d .bbox) (boundary (stateIn d) p) (edges (stateIn d) p) c
+  unfolding edges
+  brought-cut g u h c e =
+      let (k, (j, x)) = told (eqb (d .kind) 1) (d .joins) u h in
+      let m : endsIn (clip (d .bbox) s) ≡ movedBy (d .pen .raw) p (clip (d .bbox) s .seg) = subst (λ (t : Seg). endsIn (clip (d .bbox) t) ≡ movedBy (d .pen .raw) p (clip (d .bbox) t .seg)) (sym i) (moved-is (d .bbox) (record { p0 = d .pen .raw; p1 = p }) g) in
+      record { points = points-cut g u h (endsIn c) (ap endsIn e ∙ m); names = rw (e, i, k, j) refl }
+
+pub brought-ends : {b : BBox} {l : List Pt} {n : Edges} {c : ClippedSeg} → BroughtBy b l n c → (e : Ends) → e ≡ endsIn c → Brought b l e
+brought-ends {b} {l} B e f = subst (Brought b l) (sym f) (B .points)
+
 module _ (d : Draft) (p : Pt) where
+  unnamed-by : (k j : Bool) → (not k && j && (outside (d .bbox) (d .pen .raw) || outside (d .bbox) p)) ≡ false → none ≡ cond k none (edgesFrom (d .bbox) (maybe j (d .pen .raw)) p)
+  unnamed-by true j e = refl
+  unnamed-by false false e = refl
+  unnamed-by false true e =
+      let s : Seg = record { p0 = d .pen .raw; p1 = p } in
+      sym (ap namedBy (inside-same s (d .bbox) (outside (d .bbox) (s .p0)) (outside (d .bbox) (s .p1)) refl refl (ap not e)))
+
   none-by : (k j : Bool) → (not k && j && (outside (d .bbox) (d .pen .raw) || outside (d .bbox) p)) ≡ false → [] ≡ cond k [] (cutFrom (d .bbox) (maybe j (d .pen .raw)) p)
   none-by true j e = refl
   none-by false false e = refl
   none-by false true e =
       let s : Seg = record { p0 = d .pen .raw; p1 = p } in
-      stays s (clip (d .bbox) s .seg) (inside-same s (d .bbox) (outside (d .bbox) (s .p0)) (outside (d .bbox) (s .p1)) refl refl (ap not e))
+      stays s (clip (d .bbox) s .seg) (ap (λ (c : ClippedSeg). c .seg) (inside-same s (d .bbox) (outside (d .bbox) (s .p0)) (outside (d .bbox) (s .p1)) refl refl (ap not e)))
 
   pub brought-none : (t u : Bool) → t ≡ outside (d .bbox) (d .pen .raw) → u ≡ outside (d .bbox) p → (not (eqb (d .kind) 1) && d .joins && (t || u)) ≡ false →
-      Brought (d .bbox) (boundary (stateIn d) p) (record { moved0 = false; moved1 = false; end0 = p; end1 = p })
-  unfolding boundary
-  brought-none t u e f h = record {
-    list = none-by (eqb (d .kind) 1) (d .joins) (rw (e, f) at h);
-    in0 = λ z. absurd (let z : _≡_ {A = ℕ} 0 1 = cc in omega arith);
-    in1 = λ z. absurd (let z : _≡_ {A = ℕ} 0 1 = cc in omega arith);
-  }
+      (c : ClippedSeg) → c ≡ given (record { p0 = p; p1 = p }) → BroughtBy (d .bbox) (boundary (stateIn d) p) (edges (stateIn d) p) c
+  unfolding boundary edges
+  brought-none t u e f h c g =
+      let o = rw (e, f) at h in
+      rw g (record {
+        points = record {
+          list = none-by (eqb (d .kind) 1) (d .joins) o;
+          in0 = λ z. absurd (let z : _≡_ {A = ℕ} 0 1 = cc in omega arith);
+          in1 = λ z. absurd (let z : _≡_ {A = ℕ} 0 1 = cc in omega arith);
+        };
+        names = unnamed-by (eqb (d .kind) 1) (d .joins) o;
+      })

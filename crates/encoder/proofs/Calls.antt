@@ -19,7 +19,8 @@ use Rattle.encoder.specs.Pushed.{moveTo, lineTo, closePath}
 use Rattle.encoder.specs.Ends.{Fitting, EndFits, layEnd}
 use Rattle.encoder.specs.declared.GeomEncoder.{GeomEncoder}
 use Rattle.encoder.specs.States.{valid, Valid}
-use Rattle.encoder.specs.Answers.{Counted, done, turned, fitting}
+use Rattle.encoder.specs.Answers.{Counted, done, turned, fitting, passed}
+use Rattle.encoder.specs.declared.Edges.{Edges}
 use Rattle.encoder.specs.Emitting.{placeOf}
 use Rattle.encoder.specs.Adding.{drawn, added}
 use Rattle.encoder.specs.Completing.{counting, closing, cleared, finished, isEmpty, completed}
@@ -83,6 +84,10 @@ module _ (s : GeomEncoder) (p : Pt) (out : List ℕ) where
     module _ (k : not t ≡ false) where
       pub add-asked : (valid s (length out) ≡ true) × (isCoord p ≡ true)
       add-asked = (w, yes-of t (isCoord p) f k)
+
+      pub add-edges : (n m : Edges) → m ≡ passed (fitting s out (drawn s p out) .answer) n → m ≡ passed (added s p out .answer) n
+      unfolding added
+      add-edges n m e = rw (add-asked .0, add-asked .1) e
 
       pub add-within : {a : Said Counted} {o : List ℕ} → Gives (fitting s out (drawn s p out)) a o → Gives (added s p out) a o
       unfolding added

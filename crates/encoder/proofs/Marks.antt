@@ -26,12 +26,13 @@ use Rattle.encoder.specs.declared.GeomEncoder.{GeomEncoder}
 use Rattle.encoder.specs.Pushed.{command}
 use Rattle.encoder.specs.Emitting.{Emission, steps, popped, pushed, emittedAt, emission}
 use Rattle.encoder.specs.Points.{clamped, samePt, between}
-use Rattle.encoder.specs.Boundary.{moved, movedEnds, movedBy}
+use Rattle.encoder.specs.Boundary.{moved, movedEnds}
 use Rattle.encoder.specs.Adding.{emitted}
 use Rattle.encoder.specs.Boundary.{outside}
 use Rattle.clip.proofs.Callers.{coord-facts, clip-within}
 use Rattle.promise.proofs.Joined.{both}
-use Rattle.encoder.proofs.Boundaries.{inside-same, stays}
+use Rattle.encoder.proofs.Boundaries.{movedBy, inside-same, stays}
+use Rattle.clip.specs.declared.ClippedSeg.{ClippedSeg}
 use Rattle.words.specs.Params.{param}
 use Rattle.promise.proofs.Stores.{two-stores}
 use Rattle.encoder.specs.declared.pen.Pen.{Pen}
@@ -156,7 +157,7 @@ module _ (b : BBox) (ring : Bool) (pen : Pen) (p : Pt) (out : List ℕ) where
   unfolding drawnBy
   draw-inside t e h last o g r k =
       let f : (outside b (pen .raw) || outside b p) ≡ false = sym e ∙ h in
-      let n : ends b (pen .raw) p ≡ [] = sym (stays (record { p0 = pen .raw; p1 = p }) _ (inside-same (record { p0 = pen .raw; p1 = p }) b (outside b (pen .raw)) (outside b p) refl refl (ap not f))) in
+      let n : ends b (pen .raw) p ≡ [] = sym (stays (record { p0 = pen .raw; p1 = p }) _ (ap (λ (c : ClippedSeg). c .seg) (inside-same (record { p0 = pen .raw; p1 = p }) b (outside b (pen .raw)) (outside b p) refl refl (ap not f)))) in
       let g′ : Gives (marked ring pen (clamped b p) out) last o = subst (λ (x : Pt). Gives (marked ring pen x out) last o) (sym (clamped-inside b p (neither (outside b (pen .raw)) (outside b p) f .1))) g in
       rw n (record { answer = k ∙ ap (λ (x : Pen). withRaw x p) (g′ .answer); memory = g′ .memory })
 

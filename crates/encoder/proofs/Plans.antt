@@ -24,7 +24,8 @@ use Rattle.encoder.specs.Answers.{done, turned, fitting}
 use Rattle.encoder.specs.Points.{inLimit, clamped}
 use Rattle.encoder.specs.Boundary.{maybe, Brought}
 use Rattle.encoder.specs.Emitting.{Emission, emittedAt, emission}
-use Rattle.encoder.specs.Adding.{boundary, emitted, emissions, drawn, ended}
+use Rattle.encoder.specs.Adding.{boundary, emitted, emissions, drawn, ended, edges}
+use Rattle.encoder.specs.declared.Edges.{Edges}
 use Rattle.encoder.specs.Planning.{emissionIf, planLimit, Ready}
 use Rattle.encoder.specs.Drafts.{draftOf, stateIn, emittedIf, Near, Planned, AllFit, laidAll}
 use Rattle.words.proofs.Rooms.{room-length}
@@ -135,6 +136,10 @@ module _ (s : GeomEncoder) (n : ℕ) (v : valid s n ≡ true) (p : Pt) (x : isCo
 
   ready : Ready maxWords (stateIn d)
   ready = rw drafted (valid-ready (valid-facts s n v))
+
+  -- what the point passes on is reckoned from the draft
+  pub edges-drafted : (m : Edges) → m ≡ edges (stateIn d) p → m ≡ edges s p
+  edges-drafted m f = f ∙ ap (λ (t : GeomEncoder). edges t p) drafted
 
   pub brought-asked : (isGood (d .bbox) ≡ true) × ((inLimit (stateIn d .«xy_end») ≡ true) × (isCoord p ≡ true))
   brought-asked = (ready .good, (subst (λ (t : GeomEncoder). inLimit (t .«xy_end») ≡ true) (sym drafted) (valid-facts s n v .end), x))

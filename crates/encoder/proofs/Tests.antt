@@ -15,7 +15,8 @@ use Rattle.clip.specs.Facts.{Coord}
 use Rattle.clip.specs.declared.Seg.{Seg}
 use Rattle.clip.specs.Cutting.{clip}
 use Rattle.clip.specs.Answer.{areCoords}
-use Rattle.clip.specs.Demand3.{Moved, Placed}
+use Rattle.clip.specs.Demand3.{Moved, Placed, Kept}
+use Rattle.clip.specs.declared.Edge.{Edge}
 use Rattle.clip.proofs.Demands.{demand-3}
 use Rattle.whole.proofs.Cases.{by-lt}
 use Rattle.clip.proofs.Callers.{coord-is, good-facts, good-proper}
@@ -49,11 +50,11 @@ clamp-in lo hi z l h =
     by-lt (λ (v : ℤ). v ≡ z) z lo lo (cond (ltZ hi z) hi z) (λ k. absurd (omega (zarith, l, k)))
     (λ j. by-lt (λ (v : ℤ). v ≡ z) hi z hi z (λ k. absurd (omega (zarith, h, k))) (λ k. refl))
 
-fixed : (b : BBox) (s : Seg) (p r : Pt) → Placed b s p r → samePt p r ≡ false → clamped b r ≡ r
-fixed b s p r x e =
+fixed : (b : BBox) (s : Seg) (p r : Pt) (n : Edge) → Placed b s p r n → samePt p r ≡ false → clamped b r ≡ r
+fixed b s p r n x e =
     ⊎-elim
-    (λ (k : r ≡ p). absurd (let f : samePt p r ≡ true = rw k (same-self p) in let z : _≡_ {A = ℕ} 0 1 = cc in omega arith))
-    (λ (m : Moved b s r). let i = m .edge .inside in rw (clamp-in (b .«x_min») (b .«x_max») (r .x) (i .left) (i .right), clamp-in (b .«y_min») (b .«y_max») (r .y) (i .bottom) (i .top)))
+    (λ (k : Kept p r n). absurd (let f : samePt p r ≡ true = rw (k .same) (same-self p) in let z : _≡_ {A = ℕ} 0 1 = cc in omega arith))
+    (λ (m : Moved b s p r n). let i = m .edge .inside in rw (clamp-in (b .«x_min») (b .«x_max») (r .x) (i .left) (i .right), clamp-in (b .«y_min») (b .«y_max») (r .y) (i .bottom) (i .top)))
     x
   where
     same-self : (q : Pt) → samePt q q ≡ true
@@ -61,10 +62,10 @@ fixed b s p r x e =
 
 module _ (b : BBox) (s : Seg) (g : isGood b ≡ true) where
   pub fixed0 : samePt (s .p0) (clip b s .seg .p0) ≡ false → clamped b (clip b s .seg .p0) ≡ clip b s .seg .p0
-  fixed0 = fixed b s (s .p0) (clip b s .seg .p0) (demand-3 b (good-proper (good-facts g)) s .placed0)
+  fixed0 = fixed b s (s .p0) (clip b s .seg .p0) _ (demand-3 b (good-proper (good-facts g)) s .placed0)
 
   pub fixed1 : samePt (s .p1) (clip b s .seg .p1) ≡ false → clamped b (clip b s .seg .p1) ≡ clip b s .seg .p1
-  fixed1 = fixed b s (s .p1) (clip b s .seg .p1) (demand-3 b (good-proper (good-facts g)) s .placed1)
+  fixed1 = fixed b s (s .p1) (clip b s .seg .p1) _ (demand-3 b (good-proper (good-facts g)) s .placed1)
 
 -- neither end of a segment is outside
 pub neither : (t u : Bool) → (t || u) ≡ false → (t ≡ false) × (u ≡ false)

@@ -19,6 +19,7 @@ use Rattle.refusal.specs.declared.Refusal.{Refusal}
 use Rattle.clip.specs.declared.Pt.{Pt}
 use Rattle.encoder.specs.declared.GeomEncoder.{GeomEncoder}
 use Rattle.encoder.specs.declared.Drawn.{Drawn}
+use Rattle.encoder.specs.declared.Edges.{Edges}
 use Rattle.encoder.specs.declared.Drawn.the-variants.{Done, Refused as NotDrawn}
 use Rattle.encoder.specs.Answers.{saidDrawn, done, turned}
 use Rattle.encoder.specs.Adding.{pointAt, added}
@@ -132,12 +133,12 @@ module _ (l : List ℤ) (from to : ℕ) (out₀ : List ℕ) (s : GeomEncoder) (o
     opened : go (partCalls (part (pointsOf l) from to)) from s out₀ ≡ go (add (pointIn l i) ∷ partCalls (part (pointsOf l) (i + 1) to)) i q out
     opened = I .rest ∙ rw (part-more l i to h k)
 
-    pub add-turn : (t : GeomEncoder) → r ≡ Done t → length o ≡ length out → Adding l from to out₀ s o t (i + 1)
-    add-turn t e f = one-more l from to out₀ s k i q t out o h (rw e at given) f I
+    pub add-turn : (t : GeomEncoder) (n : Edges) → r ≡ Done t n → length o ≡ length out → Adding l from to out₀ s o t (i + 1)
+    add-turn t v e f = one-more l from to out₀ s k i q t out o h (rw e at given) f I
 
-    pub add-more : (t : GeomEncoder) → r ≡ Done t → length o ≡ length out → (x : Stretch) (y : List ℕ) → Gives (stretched t l (i + 1) to o) x y →
+    pub add-more : (t : GeomEncoder) (n : Edges) → r ≡ Done t n → length o ≡ length out → (x : Stretch) (y : List ℕ) → Gives (stretched t l (i + 1) to o) x y →
         Adding l from to out₀ s y (x .state) (x .reached) × (i + 1 ≤ x .reached)
-    add-more t e f x y z = stretch-turn l from to out₀ s o t (i + 1) k (add-turn t e f) x y z
+    add-more t v e f x y z = stretch-turn l from to out₀ s o t (i + 1) k (add-turn t v e f) x y z
 
     pub add-stop : (x : Refusal) (t : GeomEncoder) → r ≡ NotDrawn x t → Gives (go (partCalls (part (pointsOf l) from to)) from s out₀) (outcomeOf to (Off x i)) o
     add-stop x t e =
@@ -148,8 +149,8 @@ module _ (l : List ℤ) (from to : ℕ) (out₀ : List ℕ) (s : GeomEncoder) (o
     over : go (partCalls (part (pointsOf l) from to)) from s out₀ ≡ go (complete ∷ []) to q out
     over = let e : i ≡ to = omega (arith, I .upto) in I .rest ∙ rw (part-over (pointsOf l) i to e, e)
 
-    pub part-done : (t : GeomEncoder) → r ≡ Done t → Gives (go (partCalls (part (pointsOf l) from to)) from s out₀) (outcomeOf to (On t)) o
-    part-done t e = rw (over ∙ go-on complete [] to q t out o (rw e at g)) (record { answer = refl; memory = refl })
+    pub part-done : (t : GeomEncoder) (n : Edges) → r ≡ Done t n → Gives (go (partCalls (part (pointsOf l) from to)) from s out₀) (outcomeOf to (On t)) o
+    part-done t v e = rw (over ∙ go-on complete [] to q t out o (rw e at g)) (record { answer = refl; memory = refl })
 
     pub part-stop : (x : Refusal) (t : GeomEncoder) → r ≡ NotDrawn x t → Gives (go (partCalls (part (pointsOf l) from to)) from s out₀) (outcomeOf to (Off x to)) o
     part-stop x t e =

@@ -15,10 +15,11 @@ use Rattle.clip.specs.Domain.{isCoord}
 use Rattle.clip.specs.Cutting.{clip}
 use Rattle.encoder.specs.declared.points.MaybePt.{MaybePt}
 use Rattle.encoder.specs.declared.points.MaybePt.the-variants.{Nowhere, At}
-use Rattle.encoder.specs.Boundary.{movedEnds}
+use Rattle.encoder.specs.Boundary.{movedEnds, namedBy}
 use Rattle.encoder.specs.declared.GeomEncoder.{GeomEncoder}
 use Rattle.encoder.specs.States.{valid}
-use Rattle.encoder.specs.Answers.{Counted, turned, fitting}
+use Rattle.encoder.specs.Answers.{Counted, turned, fitting, none}
+use Rattle.encoder.specs.declared.Edges.{Edges}
 use Rattle.encoder.specs.Emitting.{emission}
 
 -- ---- "clip the raw segment. Emit the first end if it moved, then the second if it moved."
@@ -29,6 +30,14 @@ cutFrom b (At q) p = movedEnds (record { p0 = q; p1 = p }) (clip b (record { p0 
 -- "For lines and polygons with an earlier raw point in this part"
 unfoldable pub boundary : GeomEncoder → Pt → List Pt
 boundary s p = cond (eqb (s .kind) 1) [] (cutFrom (s .bbox) (s .«xy_end») p)
+
+-- document 02, request (v): the edges of the raw segment that ends in the point; where no segment is clipped, none
+abbrev pub edgesFrom : BBox → MaybePt → Pt → Edges
+edgesFrom b Nowhere p = none
+edgesFrom b (At q) p = namedBy (clip b (record { p0 = q; p1 = p }))
+
+unfoldable pub edges : GeomEncoder → Pt → Edges
+edges s p = cond (eqb (s .kind) 1) none (edgesFrom (s .bbox) (s .«xy_end») p)
 
 -- "Then emit the point itself, always."
 abbrev pub emissions : GeomEncoder → Pt → List Pt

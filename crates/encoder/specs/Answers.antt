@@ -4,7 +4,7 @@
 use Prim.Native.Nat.{ℕ}
 use mathlib.Core.Bool.{cond}
 use mathlib.Core.List.{List, [], _∷_}
-use lib.Dec.{leb}
+use lib.Dec.{leb, eqb}
 use lib.ListN.{length}
 use Rattle.promise.specs.Answers.{Written, kept}
 use Rattle.refusal.specs.declared.Refusal.{Refusal}
@@ -16,6 +16,8 @@ use Rattle.words.specs.Geometries.{isKind, room}
 use Rattle.encoder.specs.declared.GeomEncoder.{GeomEncoder}
 use Rattle.encoder.specs.declared.Started.{Started}
 use Rattle.encoder.specs.declared.Started.the-variants.{Fresh, Refused as NotStarted}
+use Rattle.clip.specs.declared.Edge.the-variants.{Stayed}
+use Rattle.encoder.specs.declared.Edges.{Edges}
 use Rattle.encoder.specs.declared.Drawn.{Drawn}
 use Rattle.encoder.specs.declared.Drawn.the-variants.{Done, Refused as NotDrawn}
 use Rattle.encoder.specs.States.{fresh}
@@ -31,8 +33,19 @@ abbrev pub turned : Refusal → GeomEncoder → Said Counted
 turned r s = refused r (record { count = 0; state = s })
 
 abbrev pub saidDrawn : Drawn → Said Counted
-saidDrawn (Done s) = done s
+saidDrawn (Done s e) = done s
 saidDrawn (NotDrawn r s) = turned r s
+
+-- the edges of an answer: those of the accepted point, and of a refused call none (document 02, request (v))
+abbrev pub none : Edges
+none = record { first = Stayed; second = Stayed }
+
+abbrev pub edgesOf : Drawn → Edges
+edgesOf (Done s e) = e
+edgesOf (NotDrawn r s) = none
+
+abbrev pub passed : Said Counted → Edges → Edges
+passed a e = cond (eqb (a .number) 0) e none
 
 -- ROOM, the last check: w is the result reckoned without a limit on room
 abbrev pub fitting : GeomEncoder → List ℕ → Written GeomEncoder (List ℕ) → Written (Said Counted) (List ℕ)

@@ -4,14 +4,14 @@ ghost use mathlib.Core.Bool.{true};
 ghost use Rattle.clip.specs.Answer.{areCoords};
 ghost use Rattle.clip.specs.Cutting.{clip};
 ghost use Rattle.clip.specs.Domain.{isCoord, isGood};
-ghost use Rattle.encoder.specs.Adding.{boundary};
-ghost use Rattle.encoder.specs.Boundary.{outside, movedBy, Brought};
+ghost use Rattle.encoder.specs.Adding.{boundary, edges};
+ghost use Rattle.encoder.specs.Boundary.{outside, endsIn, BroughtBy};
 ghost use Rattle.encoder.specs.Drafts.{stateIn};
 ghost use Rattle.encoder.specs.Points.{inLimit};
 use crate::draft::Draft;
-use crate::points::is_same;
 use clip::BBox;
 use clip::Clipped;
+use clip::ClippedSeg;
 use clip::Pt;
 use clip::Seg;
 use words::geometry::Geometry;
@@ -25,16 +25,16 @@ pub(crate) struct Ends {
 }
 
 // The raw segment cut at the box. The clip of a good box and two coordinates is never refused.
-pub(crate) fn clip_raw(raw: Seg, bbox: BBox) -> Seg
+pub(crate) fn clip_raw(raw: Seg, bbox: BBox) -> ClippedSeg
     requires { ⌜ isGood bbox ≡ true ⌝ }
     requires { ⌜ areCoords raw ≡ true ⌝ }
-    ensures { λ r. ⌜ r ≡ clip bbox raw .seg ⌝ }
+    ensures { λ r. ⌜ r ≡ clip bbox raw ⌝ }
 {
     let p0 = raw.p0;
     let p1 = raw.p1;
     match clip::clip_between(p0, p1, bbox) {
-        Clipped::Done(c) => c.seg,
-        Clipped::Refused(_) => raw,
+        Clipped::Done(c) => c,
+        Clipped::Refused(_) => clip::stay(raw),
     }
 }
 
@@ -51,28 +51,30 @@ pub(crate) fn is_outside(p: Pt, b: BBox) -> bool
     (x < left) | (right < x) | (y < bottom) | (top < y)
 }
 
-// The ends of the segment from raw to p, once it is cut.
-pub(crate) fn moved_ends(raw: Pt, p: Pt, cut: Seg) -> Ends
-    ensures { λ r. ⌜ r ≡ movedBy raw p cut ⌝ }
+// The ends of a cut segment: one that an edge is named for has moved.
+pub(crate) fn ends_of(cut: ClippedSeg) -> Ends
+    ensures { λ r. ⌜ r ≡ endsIn cut ⌝ }
 {
-    let c0 = cut.p0;
-    let c1 = cut.p1;
-    let same0 = is_same(raw, c0);
-    let same1 = is_same(p, c1);
+    let s = cut.seg;
+    let end0 = s.p0;
+    let end1 = s.p1;
+    let first = cut.first;
+    let second = cut.second;
     Ends {
-        moved0: !same0,
-        moved1: !same1,
-        end0: c0,
-        end1: c1,
+        moved0: first.is_moved(),
+        moved1: second.is_moved(),
+        end0: end0,
+        end1: end1,
     }
 }
 
-// The boundary points that p brings, in order. A segment inside the box is not cut, and need not be clipped to see it.
-pub(crate) fn add_boundary_points(d: Draft, p: Pt) -> Ends
+// The segment that p ends, cut: the boundary points that p brings, in order, and the edges. A segment inside the box is not cut, and need not be clipped
+// to see it.
+pub(crate) fn add_boundary_points(d: Draft, p: Pt) -> ClippedSeg
     requires { ⌜ isGood (d .bbox) ≡ true ⌝ }
     requires { ⌜ inLimit (stateIn d .«xy_end») ≡ true ⌝ }
     requires { ⌜ isCoord p ≡ true ⌝ }
-    ensures { λ r. ⌜ Brought (d .bbox) (boundary (stateIn d) p) r ⌝ }
+    ensures { λ r. ⌜ BroughtBy (d .bbox) (boundary (stateIn d) p) (edges (stateIn d) p) r ⌝ }
 {
     let bbox = d.bbox;
     let pen = d.pen;
@@ -80,13 +82,7 @@ pub(crate) fn add_boundary_points(d: Draft, p: Pt) -> Ends
     let out0 = is_outside(raw, bbox);
     let out1 = is_outside(p, bbox);
     if (d.kind != Geometry::POINT) & d.joins & (out0 | out1) {
-        let cut = clip_raw(Seg { p0: raw, p1: p }, bbox);
-        return moved_ends(raw, p, cut);
+        return clip_raw(Seg { p0: raw, p1: p }, bbox);
     }
-    Ends {
-        moved0: false,
-        moved1: false,
-        end0: p,
-        end1: p,
-    }
+    clip::stay(Seg { p0: p, p1: p })
 }

@@ -10,10 +10,12 @@ ghost use Rattle.promise.specs.Answers.{Gives};
 ghost use Rattle.clip.specs.Domain.{isCoord};
 ghost use Rattle.words.specs.Geometries.{maxWords};
 ghost use Rattle.encoder.specs.States.{valid};
-ghost use Rattle.encoder.specs.Answers.{saidStarted, started, saidDrawn, fitting};
-ghost use Rattle.encoder.specs.Adding.{drawn, pointAt, added};
+ghost use Rattle.encoder.specs.Answers.{saidStarted, started, saidDrawn, fitting, none, edgesOf, passed};
+ghost use Rattle.encoder.specs.Boundary.{namedBy};
+ghost use Rattle.encoder.specs.Adding.{drawn, pointAt, added, edges};
 ghost use Rattle.encoder.specs.Completing.{cleared, finished, completed};
 use crate::boundary::add_boundary_points;
+use crate::boundary::ends_of;
 use crate::commands::figures_fit;
 use crate::commands::write_end;
 use crate::draft::draft_of;
@@ -25,6 +27,8 @@ use crate::points::MaybePt;
 use crate::points::are_in_limit;
 use crate::points::make_point;
 use clip::BBox;
+use clip::ClippedSeg;
+use clip::Edge;
 use clip::Pt;
 use refusal::Refusal;
 use words::geometry::Geometry;
@@ -55,8 +59,14 @@ pub enum Started {
     Refused(Refusal),
 }
 
+// What became of the ends of the raw segment that a point ends: the first, which is the point before it, and the second.
+pub struct Edges {
+    pub first: Edge,
+    pub second: Edge,
+}
+
 pub enum Drawn {
-    Done(GeomEncoder),
+    Done(GeomEncoder, Edges),
     Refused(Refusal, GeomEncoder),
 }
 
@@ -112,16 +122,40 @@ fn finish(s: GeomEncoder) -> GeomEncoder
     clear(s, place, used)
 }
 
+// ---- the edges
+// Those of a cut segment, and those where no segment is cut.
+fn named(cut: ClippedSeg) -> Edges
+    ensures { λ r. ⌜ r ≡ namedBy cut ⌝ }
+{
+    let first = cut.first;
+    let second = cut.second;
+    Edges {
+        first: first,
+        second: second,
+    }
+}
+
+fn no_edges() -> Edges
+    ensures { λ r. ⌜ r ≡ none ⌝ }
+{
+    Edges {
+        first: Edge::Stayed,
+        second: Edge::Stayed,
+    }
+}
+
 // ---- the calls
 // A coordinate added to a state that breaks no rule: ROOM; then everything that is written.
 fn draw(s: GeomEncoder, p: Pt, words: &mut [u32]) -> Drawn
     requires { ⌜ valid s (length (now words)) ≡ true ⌝ }
     requires { ⌜ isCoord p ≡ true ⌝ }
-    ensures { λ r. ⌜ Gives (fitting s (now (words .entry)) (drawn s p (now (words .entry)))) (saidDrawn r) (now (words .exit)) ⌝ }
+    ensures answer { λ r. ⌜ Gives (fitting s (now (words .entry)) (drawn s p (now (words .entry)))) (saidDrawn r) (now (words .exit)) ⌝ }
+    ensures edges { λ r. ⌜ edgesOf r ≡ passed (fitting s (now (words .entry)) (drawn s p (now (words .entry))) .answer) (edges s p) ⌝ }
 {
     let d = draft_of(s);
     let bbox = d.bbox;
-    let ends = add_boundary_points(d, p);
+    let cut = add_boundary_points(d, p);
+    let ends = ends_of(cut);
     let q = make_point(p, bbox);
     let plan = plan_point(d, ends, q);
     let last = plan.last;
@@ -130,13 +164,14 @@ fn draw(s: GeomEncoder, p: Pt, words: &mut [u32]) -> Drawn
         return Drawn::Refused(Refusal::Room, s);
     }
     write_plan(d, plan, ends, q, words);
-    Drawn::Done(state_of(set_end(last, p)))
+    Drawn::Done(state_of(set_end(last, p)), named(cut))
 }
 
 // A point added to a state that breaks no rule: COORD, ROOM.
 pub(crate) fn add_valid(s: GeomEncoder, p: Pt, words: &mut [u32]) -> Drawn
     requires { ⌜ valid s (length (now words)) ≡ true ⌝ }
-    ensures { λ r. ⌜ Gives (added s p (now (words .entry))) (saidDrawn r) (now (words .exit)) ⌝ }
+    ensures answer { λ r. ⌜ Gives (added s p (now (words .entry))) (saidDrawn r) (now (words .exit)) ⌝ }
+    ensures edges { λ r. ⌜ edgesOf r ≡ passed (added s p (now (words .entry)) .answer) (edges s p) ⌝ }
 {
     if !BBox::is_coord(p) {
         return Drawn::Refused(Refusal::Coord, s);
@@ -147,7 +182,8 @@ pub(crate) fn add_valid(s: GeomEncoder, p: Pt, words: &mut [u32]) -> Drawn
 // A part of a state that breaks no rule, completed: EMPTY, ROOM; then everything that is written.
 pub(crate) fn complete_valid(s: GeomEncoder, words: &mut [u32]) -> Drawn
     requires { ⌜ valid s (length (now words)) ≡ true ⌝ }
-    ensures { λ r. ⌜ Gives (completed s (now (words .entry))) (saidDrawn r) (now (words .exit)) ⌝ }
+    ensures answer { λ r. ⌜ Gives (completed s (now (words .entry))) (saidDrawn r) (now (words .exit)) ⌝ }
+    ensures edges { λ r. ⌜ edgesOf r ≡ none ⌝ }
 {
     if (s.kind == Geometry::POINT) & (s.count == 0) {
         return Drawn::Refused(Refusal::Empty, s);
@@ -158,7 +194,7 @@ pub(crate) fn complete_valid(s: GeomEncoder, words: &mut [u32]) -> Drawn
         return Drawn::Refused(Refusal::Room, s);
     }
     write_end(s.kind, s.count, s.cmd_offset, s.used, words);
-    Drawn::Done(next)
+    Drawn::Done(next, no_edges())
 }
 
 impl GeomEncoder {
@@ -201,7 +237,8 @@ impl GeomEncoder {
 
     // Adds a point to the words: STATE, COORD, ROOM.
     pub fn add_point(self, x: i32, y: i32, words: &mut [u32]) -> Drawn
-        ensures { λ r. ⌜ Gives (added self (pointAt x y) (now (words .entry))) (saidDrawn r) (now (words .exit)) ⌝ }
+        ensures answer { λ r. ⌜ Gives (added self (pointAt x y) (now (words .entry))) (saidDrawn r) (now (words .exit)) ⌝ }
+        ensures edges { λ r. ⌜ edgesOf r ≡ passed (added self (pointAt x y) (now (words .entry)) .answer) (edges self (pointAt x y)) ⌝ }
     {
         if !is_valid(self, words.len()) {
             return Drawn::Refused(Refusal::State, self);
@@ -211,7 +248,8 @@ impl GeomEncoder {
 
     // Completes a part: STATE, EMPTY, ROOM.
     pub fn complete_geom(self, words: &mut [u32]) -> Drawn
-        ensures { λ r. ⌜ Gives (completed self (now (words .entry))) (saidDrawn r) (now (words .exit)) ⌝ }
+        ensures answer { λ r. ⌜ Gives (completed self (now (words .entry))) (saidDrawn r) (now (words .exit)) ⌝ }
+        ensures edges { λ r. ⌜ edgesOf r ≡ none ⌝ }
     {
         if !is_valid(self, words.len()) {
             return Drawn::Refused(Refusal::State, self);

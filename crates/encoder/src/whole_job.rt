@@ -65,7 +65,7 @@ fn add_part(s: GeomEncoder, points: &[i32], from: usize, to: usize, words: &mut 
         let x = points[2 * i];
         let y = points[2 * i + 1];
         match add_valid(q, Pt { x: x, y: y }, words) {
-            Drawn::Done(t) => q = t,
+            Drawn::Done(t, _) => q = t,
             Drawn::Refused(r, _) => return Course::Off(r, i),
         }
         i += 1;
@@ -77,7 +77,7 @@ fn add_part(s: GeomEncoder, points: &[i32], from: usize, to: usize, words: &mut 
         i = plain.reached;
     }
     match complete_valid(q, words) {
-        Drawn::Done(t) => Course::On(t),
+        Drawn::Done(t, _) => Course::On(t),
         Drawn::Refused(r, _) => Course::Off(r, to),
     }
 }

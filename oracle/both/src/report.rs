@@ -12,6 +12,12 @@ impl Tally {
         }
     }
 
+    pub fn add_all(&mut self, other: Tally) {
+        for (name, count) in other.0 {
+            self.add(name, count);
+        }
+    }
+
     pub fn text(&self) -> String {
         let counts: Vec<String> = self
             .0

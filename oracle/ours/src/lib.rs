@@ -10,6 +10,8 @@ pub struct Clipped {
     pub y0: i32,
     pub x1: i32,
     pub y1: i32,
+    pub edge0: u32,
+    pub edge1: u32,
 }
 
 #[repr(C)]
@@ -64,6 +66,8 @@ pub struct Drawn {
     pub refusal: u32,
     pub words: usize,
     pub state: Encoder,
+    pub edge0: u32,
+    pub edge1: u32,
 }
 
 mod c {
@@ -92,6 +96,21 @@ mod c {
             ends_len: usize,
             words: *mut u32,
             words_len: usize,
+        ) -> Job;
+        pub fn bp_encode_job_edges(
+            kind: u32,
+            x_min: i32,
+            x_max: i32,
+            y_min: i32,
+            y_max: i32,
+            points: *const i32,
+            points_len: usize,
+            ends: *const u32,
+            ends_len: usize,
+            words: *mut u32,
+            words_len: usize,
+            edges: *mut u32,
+            edges_len: usize,
         ) -> Job;
         pub fn bp_decode(
             words: *const u32,
@@ -143,6 +162,35 @@ pub fn encode_job(
             ends.len(),
             words.as_mut_ptr(),
             words.len(),
+        )
+    }
+}
+
+/// With a list that takes the edges which moved the ends of each raw segment.
+pub fn encode_job_edges(
+    kind: u32,
+    edges: [i32; 4],
+    points: &[i32],
+    ends: &[u32],
+    words: &mut [u32],
+    moved: &mut [u32],
+) -> Job {
+    let [x_min, x_max, y_min, y_max] = edges;
+    unsafe {
+        c::bp_encode_job_edges(
+            kind,
+            x_min,
+            x_max,
+            y_min,
+            y_max,
+            points.as_ptr(),
+            points.len(),
+            ends.as_ptr(),
+            ends.len(),
+            words.as_mut_ptr(),
+            words.len(),
+            moved.as_mut_ptr(),
+            moved.len(),
         )
     }
 }

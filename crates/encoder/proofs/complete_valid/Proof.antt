@@ -22,6 +22,9 @@ returns-2 c = search (needs, end-empty, end-used, end-room, end-done)
 write-end-requires : tie.Need-write-end-requires
 write-end-requires c κs = search (needs, end-fits)
 
+no-edges-requires : tie.Need-no-edges-requires
+no-edges-requires c κs = search needs
+
 same-length : tie.Need-same-length
 same-length c = search needs
 
@@ -37,5 +40,6 @@ complete-valid-spec =
     room-requires
     returns-2
     write-end-requires
+    no-edges-requires
     same-length
     returns-3)

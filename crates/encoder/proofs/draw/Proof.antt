@@ -1,10 +1,18 @@
 -- The plan is that of the point; ROOM, or everything that it says.
-use mathlib.Core.Path.{refl}
-use Rattle.encoder.proofs.Plans.{brought-asked, plan-asked, draw-room, write-asked, end-asked, draw-done}
+use mathlib.Core.Path.{refl, _∙_}
+use Rattle.encoder.proofs.Plans.{edges-drafted, brought-asked, plan-asked, draw-room, write-asked, end-asked, draw-done}
+use Rattle.encoder.proofs.Bounds.{brought-ends}
+use Rattle.encoder.proofs.Said.{passed-none, passed-on}
+use Rattle.refusal.specs.declared.Refusal.the-variants.{Room}
+use Rattle.encoder.specs.Adding.{boundary}
+use Rattle.encoder.specs.Boundary.{Brought}
+use Rattle.encoder.specs.Drafts.{stateIn}
 use borrow.Author.Needs.{needs}
 use Rattle.encoder.proofs.draw.Statement.{statement}
 use Rattle.encoder.proofs.draw.Tie as tie
 use Rattle.encoder.proofs.boundary.add_boundary_points.Reads as add-boundary-points-reads
+use Rattle.encoder.proofs.boundary.ends_of.Reads as ends-of-reads
+use Rattle.encoder.proofs.named.Reads as named-reads
 use Rattle.encoder.proofs.draft.draft_of.Reads as draft-of-reads
 use Rattle.encoder.proofs.plan.plan_point.Reads as plan-point-reads
 use Rattle.encoder.proofs.draft.set_end.Reads as set-end-reads
@@ -13,11 +21,15 @@ use Rattle.encoder.proofs.plan.write_plan.Reads as write-plan-reads
 use Rattle.encoder.proofs.points.make_point.Reads as make-point-reads
 use Rattle.words.proofs.geometry.Geometry.room.Reads as room-reads
 
-abbrev at-draft : (c : tie.After-make-point) → tie.After-draft-of
+abbrev at-draft : (c : tie.After-ends-of) → tie.After-draft-of
 at-draft c = c .before .before .before
 
 abbrev at-plan : (c : tie.After-struct-known) → tie.After-plan-point
 at-plan c = c .before .before .before
+
+-- the ends that the point brings
+brought : (c : tie.After-ends-of) → let d = at-draft c in Brought (d .draft-of .result .bbox) (boundary (stateIn (d .draft-of .result)) (d .before .before .args .p)) (c .ends-of .result)
+brought c = brought-ends (c .before .add-boundary-points .ensures) _ (c .ends-of .ensures)
 
 draft-of-requires : tie.Need-draft-of-requires
 draft-of-requires c κs = search needs
@@ -25,32 +37,74 @@ draft-of-requires c κs = search needs
 add-boundary-points-requires : tie.Need-add-boundary-points-requires
 add-boundary-points-requires c κs = let d = c .before in let s = d .before .before in brought-asked (s .args .s) _ (s .pre .0) (s .args .p) (s .pre .1) (d .draft-of .result) (d .draft-of .ensures)
 
+ends-of-requires : tie.Need-ends-of-requires
+ends-of-requires c κs = search needs
+
 make-point-requires : tie.Need-make-point-requires
 make-point-requires c κs = search needs
 
 plan-point-requires : tie.Need-plan-point-requires
-plan-point-requires c κs = let d = at-draft c in let s = d .before .before in plan-asked (s .args .s) _ (s .pre .0) (s .args .p) (s .pre .1) (d .draft-of .result) (d .draft-of .ensures) (c .before .add-boundary-points .result) (c .before .add-boundary-points .ensures) _ (c .make-point .ensures)
+plan-point-requires c κs =
+    let n = c .before in
+    let d = at-draft n in
+    let s = d .before .before in
+    plan-asked (s .args .s) _ (s .pre .0) (s .args .p) (s .pre .1) (d .draft-of .result) (d .draft-of .ensures) (n .ends-of .result) (brought n) _ (c .make-point .ensures)
 
 room-requires : tie.Need-room-requires
 room-requires c κs = search needs
 
 returns : tie.Need-returns
-returns c = let k = at-plan (c .before) in let q = k .before in let d = at-draft q in let s = d .before .before in draw-room (s .args .s) _ (s .pre .0) (s .args .p) (s .pre .1) (d .draft-of .result) (d .draft-of .ensures) (q .before .add-boundary-points .result) (q .before .add-boundary-points .ensures) _ (q .make-point .ensures) (k .plan-point .result) (k .plan-point .ensures) (s .args .words .now) refl _ (c .before .before .room .ensures) (c .if1 .taken)
+returns c =
+    let k = at-plan (c .before) in
+    let q = k .before in
+    let n = q .before in
+    let d = at-draft n in
+    let s = d .before .before in
+    let g = draw-room (s .args .s) _ (s .pre .0) (s .args .p) (s .pre .1) (d .draft-of .result) (d .draft-of .ensures) (n .ends-of .result) (brought n) _ (q .make-point .ensures) (k .plan-point .result) (k .plan-point .ensures) (s .args .words .now) refl _ (c .before .before .room .ensures) (c .if1 .taken) in
+    (g, passed-none _ _ Room (s .args .s) (g .answer))
 
 write-plan-requires : tie.Need-write-plan-requires
-write-plan-requires c κs = let e = c .before in let k = at-plan (e .before) in let q = k .before in let d = at-draft q in let s = d .before .before in write-asked (s .args .s) _ (s .pre .0) (s .args .p) (s .pre .1) (d .draft-of .result) (d .draft-of .ensures) (q .before .add-boundary-points .result) (q .before .add-boundary-points .ensures) _ (q .make-point .ensures) (k .plan-point .result) (k .plan-point .ensures) (s .args .words .now) refl _ (e .before .before .room .ensures) (e .if1 .left)
+write-plan-requires c κs =
+    let e = c .before in
+    let k = at-plan (e .before) in
+    let q = k .before in
+    let n = q .before in
+    let d = at-draft n in
+    let s = d .before .before in
+    write-asked (s .args .s) _ (s .pre .0) (s .args .p) (s .pre .1) (d .draft-of .result) (d .draft-of .ensures) (n .ends-of .result) (brought n) _ (q .make-point .ensures) (k .plan-point .result) (k .plan-point .ensures) (s .args .words .now) refl _ (e .before .before .room .ensures) (e .if1 .left)
 
 set-end-requires : tie.Need-set-end-requires
 set-end-requires c κs = search needs
 
 state-of-requires : tie.Need-state-of-requires
-state-of-requires c κs = let w = c .before .before .before in let e = w .before .before in let k = at-plan (e .before) in let q = k .before in let d = at-draft q in let s = d .before .before in end-asked (s .args .s) _ (s .pre .0) (s .args .p) (s .pre .1) (d .draft-of .result) (d .draft-of .ensures) (q .before .add-boundary-points .result) (q .before .add-boundary-points .ensures) _ (q .make-point .ensures) (k .plan-point .result) (k .plan-point .ensures) (s .args .words .now) refl _ (e .before .before .room .ensures) (e .if1 .left) (c .set-end .result) (c .set-end .ensures)
+state-of-requires c κs =
+    let w = c .before .before .before in
+    let e = w .before .before in
+    let k = at-plan (e .before) in
+    let q = k .before in
+    let n = q .before in
+    let d = at-draft n in
+    let s = d .before .before in
+    end-asked (s .args .s) _ (s .pre .0) (s .args .p) (s .pre .1) (d .draft-of .result) (d .draft-of .ensures) (n .ends-of .result) (brought n) _ (q .make-point .ensures) (k .plan-point .result) (k .plan-point .ensures) (s .args .words .now) refl _ (e .before .before .room .ensures) (e .if1 .left) (c .set-end .result) (c .set-end .ensures)
+
+named-requires : tie.Need-named-requires
+named-requires c κs = search needs
 
 same-length : tie.Need-same-length
 same-length c = search needs
 
 returns-2 : tie.Need-returns-2
-returns-2 c = let w = c .before .before .before .before in let e = w .before .before in let k = at-plan (e .before) in let q = k .before in let d = at-draft q in let s = d .before .before in draw-done (s .args .s) _ (s .pre .0) (s .args .p) (s .pre .1) (d .draft-of .result) (d .draft-of .ensures) (q .before .add-boundary-points .result) (q .before .add-boundary-points .ensures) _ (q .make-point .ensures) (k .plan-point .result) (k .plan-point .ensures) (s .args .words .now) refl _ (e .before .before .room .ensures) (e .if1 .left) _ (w .write-plan .ensures) (c .before .set-end .result) (c .before .set-end .ensures) _ (c .state-of .ensures)
+returns-2 c =
+    let t = c .before in
+    let w = t .before .before .before .before in
+    let e = w .before .before in
+    let k = at-plan (e .before) in
+    let q = k .before in
+    let n = q .before in
+    let d = at-draft n in
+    let s = d .before .before in
+    let g = draw-done (s .args .s) _ (s .pre .0) (s .args .p) (s .pre .1) (d .draft-of .result) (d .draft-of .ensures) (n .ends-of .result) (brought n) _ (q .make-point .ensures) (k .plan-point .result) (k .plan-point .ensures) (s .args .words .now) refl _ (e .before .before .room .ensures) (e .if1 .left) _ (w .write-plan .ensures) (t .before .set-end .result) (t .before .set-end .ensures) _ (t .state-of .ensures) in
+    (g, passed-on _ _ _ _ (g .answer) (edges-drafted (s .args .s) _ (s .pre .0) (s .args .p) (s .pre .1) (d .draft-of .result) (d .draft-of .ensures) _ (c .named .ensures ∙ n .before .add-boundary-points .ensures .names)))
 
 pub draw-spec : {M : Type 1} → statement M
 draw-spec =
@@ -58,6 +112,7 @@ draw-spec =
     (tie.spec
     draft-of-requires
     add-boundary-points-requires
+    ends-of-requires
     make-point-requires
     plan-point-requires
     room-requires
@@ -65,5 +120,6 @@ draw-spec =
     write-plan-requires
     set-end-requires
     state-of-requires
+    named-requires
     same-length
     returns-2)

@@ -1,12 +1,12 @@
--- The ends of the clip where a segment leaves the box, else none.
+-- The clip where a segment leaves the box, else none.
 use mathlib.Core.Path.{refl}
 use Rattle.encoder.proofs.Bounds.{cut-asked, brought-cut, brought-none}
 use borrow.Author.Needs.{needs}
 use Rattle.encoder.proofs.boundary.add_boundary_points.Statement.{statement}
 use Rattle.encoder.proofs.boundary.add_boundary_points.Tie as tie
+use Rattle.clip.proofs.stay.Reads as stay-reads
 use Rattle.encoder.proofs.boundary.clip_raw.Reads as clip-raw-reads
 use Rattle.encoder.proofs.boundary.is_outside.Reads as is-outside-reads
-use Rattle.encoder.proofs.boundary.moved_ends.Reads as moved-ends-reads
 
 abbrev at-start : (c : tie.After-is-outside2) → tie.Start
 at-start c = c .before .before .before .before .before
@@ -20,14 +20,14 @@ is-outside-requires-2 c κs = search needs
 clip-raw-requires : tie.Need-clip-raw-requires
 clip-raw-requires c κs = let s = at-start (c .before .before .before) in cut-asked (s .args .d) (s .args .p) (s .pre .0) (s .pre .1 .0) (s .pre .1 .1) _ (c .if1 .taken)
 
-moved-ends-requires : tie.Need-moved-ends-requires
-moved-ends-requires c κs = search needs
-
 returns : tie.Need-returns
-returns c = let t = c .before .before in let s = at-start (t .before .before .before) in brought-cut (s .args .d) (s .args .p) _ refl (s .pre .0) _ (t .if1 .taken) _ (c .before .clip-raw .ensures) _ (c .moved-ends .ensures)
+returns c = let t = c .before in let s = at-start (t .before .before .before) in brought-cut (s .args .d) (s .args .p) _ refl (s .pre .0) _ (t .if1 .taken) _ (c .clip-raw .ensures)
+
+stay-requires : tie.Need-stay-requires
+stay-requires c κs = search needs
 
 returns-2 : tie.Need-returns-2
-returns-2 c = let o = c .before .before .before in let s = at-start o in brought-none (s .args .d) (s .args .p) _ _ (o .before .is-outside .ensures) (o .is-outside2 .ensures) (c .if1 .left)
+returns-2 c = let e = c .before in let o = e .before .before .before in let s = at-start o in brought-none (s .args .d) (s .args .p) _ _ (o .before .is-outside .ensures) (o .is-outside2 .ensures) (e .if1 .left) _ (c .stay .ensures)
 
 pub add-boundary-points-spec : {M : Type 1} → statement M
 add-boundary-points-spec =
@@ -36,6 +36,6 @@ add-boundary-points-spec =
     is-outside-requires
     is-outside-requires-2
     clip-raw-requires
-    moved-ends-requires
     returns
+    stay-requires
     returns-2)

@@ -60,7 +60,7 @@ returns c =
     let x = point .before .before .before in
     let turn = x .before in
     add-stop _ _ _ _ _ _ _ _ (turn .before .loop .inv) (turn .loop-test .taken) (turn .before .before .before .pre .1 .0) (point .add-valid .result) _ (x .x .given) (point .before .before .y .given)
-    (point .add-valid .ensures) _ _ (c .before .r .given .1)
+    (point .add-valid .ensures .0) _ _ (c .before .r .given .1)
 
 add-i : tie.Need-add-i Inv-loop μ-loop
 add-i c = search needs
@@ -74,7 +74,7 @@ loop-again c =
     let x = point .before .before .before in
     let turn = x .before in
     add-turn _ _ _ _ _ _ _ _ (turn .before .loop .inv) (turn .loop-test .taken) (turn .before .before .before .pre .1 .0) (point .add-valid .result) _ (x .x .given) (point .before .before .y .given)
-    (point .add-valid .ensures) _ (c .before .before .before .t .given .1) (search needs)
+    (point .add-valid .ensures .0) _ _ (c .before .before .before .t .given .1) (search needs)
 
 add-stretch-requires : tie.Need-add-stretch-requires Inv-loop μ-loop
 add-stretch-requires c κs =
@@ -82,7 +82,7 @@ add-stretch-requires c κs =
     let x = point .before .before .before in
     let turn = x .before in
     add-turn _ _ _ _ _ _ _ _ (turn .before .loop .inv) (turn .loop-test .taken) (turn .before .before .before .pre .1 .0) (point .add-valid .result) _ (x .x .given) (point .before .before .y .given)
-    (point .add-valid .ensures) _ (c .before .before .before .before .t .given .1) (search needs) .sound
+    (point .add-valid .ensures .0) _ _ (c .before .before .before .before .t .given .1) (search needs) .sound
 
 loop-less-2 : tie.Need-loop-less-2 Inv-loop μ-loop
 loop-less-2 c =
@@ -92,7 +92,7 @@ loop-less-2 c =
     let turn = x .before in
     let more =
     add-more _ _ _ _ _ _ _ _ (turn .before .loop .inv) (turn .loop-test .taken) (turn .before .before .before .pre .1 .0) (point .add-valid .result) _ (x .x .given) (point .before .before .y .given)
-    (point .add-valid .ensures) _ (told .before .t .given .1) (search needs) _ _ (c .before .before .before .add-stretch .ensures) in
+    (point .add-valid .ensures .0) _ _ (told .before .t .given .1) (search needs) _ _ (c .before .before .before .add-stretch .ensures) in
     omega (arith, more .1, turn .loop-test .taken)
 
 loop-again-2 : tie.Need-loop-again-2 Inv-loop μ-loop
@@ -103,7 +103,7 @@ loop-again-2 c =
     let turn = x .before in
     let more =
     add-more _ _ _ _ _ _ _ _ (turn .before .loop .inv) (turn .loop-test .taken) (turn .before .before .before .pre .1 .0) (point .add-valid .result) _ (x .x .given) (point .before .before .y .given)
-    (point .add-valid .ensures) _ (told .before .t .given .1) (search needs) _ _ (c .before .before .before .add-stretch .ensures) in
+    (point .add-valid .ensures .0) _ _ (told .before .t .given .1) (search needs) _ _ (c .before .before .before .add-stretch .ensures) in
     more .0
 
 complete-valid-requires : tie.Need-complete-valid-requires Inv-loop μ-loop
