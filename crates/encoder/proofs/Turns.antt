@@ -37,7 +37,7 @@ use Rattle.encoder.proofs.Within.{go-sound}
 use Rattle.encoder.proofs.Courses.{go-on, go-off, off-list, then, go-then}
 
 -- the element at j, and those behind it
-next : {A : Type 0} (l : List A) (j k : ℕ) (d : A) → k ≡ suc j → j < length l → drop j l ≡ getD l j d ∷ drop k l
+pub next : {A : Type 0} (l : List A) (j k : ℕ) (d : A) → k ≡ suc j → j < length l → drop j l ≡ getD l j d ∷ drop k l
 next l j k d e h = rw e (drop-cons l j d h)
 
 -- ---- the ends: `is_job`
@@ -84,10 +84,10 @@ points-at (x ∷ y ∷ l) (suc i) h =
     let c : suc i + 1 ≡ suc (i + 1) = omega arith in
     rw (b, a, c) (points-at l i (omega arith))
 
-part-more : (l : List ℤ) (i to : ℕ) → i < to → to ≤ length l / 2 → part (pointsOf l) i to ≡ pointIn l i ∷ part (pointsOf l) (i + 1) to
+pub part-more : (l : List ℤ) (i to : ℕ) → i < to → to ≤ length l / 2 → part (pointsOf l) i to ≡ pointIn l i ∷ part (pointsOf l) (i + 1) to
 part-more l i to h k = let e : to - i ≡ suc (to - (i + 1)) = omega arith in rw (points-at l i (omega arith), e)
 
-part-over : (ps : List Pt) (i to : ℕ) → i ≡ to → part ps i to ≡ []
+pub part-over : (ps : List Pt) (i to : ℕ) → i ≡ to → part ps i to ≡ []
 part-over ps i to e = let z : to - i ≡ 0 = omega arith in rw z
 
 pub record Adding (l : List ℤ) (from to : ℕ) (out₀ : List ℕ) (s : GeomEncoder) (out : List ℕ) (q : GeomEncoder) (i : ℕ) : Type 0 where
@@ -158,14 +158,14 @@ module _ (l : List ℤ) (from to : ℕ) (out₀ : List ℕ) (s : GeomEncoder) (o
         rw (over ∙ go-off complete [] to q t out o x g′) (record { answer = refl; memory = off-list complete [] to q t out o x g′ })
 
 -- ---- the parts: `add_parts`
-ends-more : (from x : ℕ) (es : List ℕ) (n : ℕ) → endsAt from (x ∷ es) n ≡ true → (from ≤ x) × (endsAt x es n ≡ true)
+pub ends-more : (from x : ℕ) (es : List ℕ) (n : ℕ) → endsAt from (x ∷ es) n ≡ true → (from ≤ x) × (endsAt x es n ≡ true)
 ends-more from x es n = by (leb from x) refl
   where
     by : (b : Bool) → leb from x ≡ b → cond b (endsAt x es n) false ≡ true → (from ≤ x) × (endsAt x es n ≡ true)
     by true h e = (leb-true from x h, e)
     by false h e = absurd (let z : _≡_ {A = ℕ} 0 1 = cc in omega arith)
 
-ends-le : (from : ℕ) (es : List ℕ) (n : ℕ) → endsAt from es n ≡ true → from ≤ n
+pub ends-le : (from : ℕ) (es : List ℕ) (n : ℕ) → endsAt from es n ≡ true → from ≤ n
 ends-le from [] n e = let h = eqb-true from n e in omega arith
 ends-le from (x ∷ es) n e = let (h, k) = ends-more from x es n e in let m = ends-le x es n k in omega arith
 

@@ -1,4 +1,4 @@
--- Laws of the whole job: what each `return` of `encode` gives; and an answer is known by what it says.
+-- Laws of the whole job: what each `return` of `encode` gives; and an answer is known by what it says. `good-ends`, `start-refused` and `start-fresh` are for every job, whatever it writes.
 use mathlib.Core.Path.{_≡_, refl, sym, _∙_, ap, subst}
 use mathlib.Core.Bool.{Bool, true, false, cond, not}
 use mathlib.Core.List.{List, [], _∷_}
@@ -40,7 +40,7 @@ one-encoded (Refused r n) (Refused r′ m) e =
     λ k. Refused (i k) (j k)
 
 -- ---- what the checks tell
-good-ends : (points : List ℤ) (ends : List ℕ) → isJob points ends ≡ true → endsAt 0 ends (length points / 2) ≡ true
+pub good-ends : (points : List ℤ) (ends : List ℕ) → isJob points ends ≡ true → endsAt 0 ends (length points / 2) ≡ true
 unfolding isJob
 good-ends points ends = by (eqb (length ends) 0) (eqb (length points % 2) 0)
   where
@@ -50,11 +50,8 @@ good-ends points ends = by (eqb (length ends) 0) (eqb (length points % 2) 0)
     by false false e = absurd (let z : _≡_ {A = ℕ} 0 1 = cc in omega arith)
 
 -- KIND and BOX are those of a fresh encoder: b is what `new` answers
-abbrev Go : Type 0
-Go = Written (Said ℕ) (List ℕ)
-
 module _ (kind : ℕ) (bbox : BBox) (b : Started) (f : saidStarted b ≡ started kind bbox) where
-  start-refused : (x : Refusal) → b ≡ NotStarted x → (w : Go) (out : List ℕ) → Gives (cond (isKind kind) (cond (isGood bbox) w (kept (refused Box 0) out)) (kept (refused Kind 0) out)) (refused x 0) out
+  pub start-refused : {M : Type 0} (x : Refusal) → b ≡ NotStarted x → (w : Written (Said ℕ) M) (out : M) → Gives (cond (isKind kind) (cond (isGood bbox) w (kept (refused Box 0) out)) (kept (refused Kind 0) out)) (refused x 0) out
   start-refused x g w out = by (isKind kind) (isGood bbox) (sym (ap saidStarted g) ∙ f)
     where
       by : (k h : Bool) → refused x [] ≡ cond k (cond h (accepted (fresh kind bbox ∷ [])) (refused Box [])) (refused Kind []) →
@@ -63,7 +60,7 @@ module _ (kind : ℕ) (bbox : BBox) (b : Started) (f : saidStarted b ≡ started
       by true false e = record { answer = ap (λ (r : Refusal). refused r 0) (one-refusal x Box e); memory = refl }
       by false h e = record { answer = ap (λ (r : Refusal). refused r 0) (one-refusal x Kind e); memory = refl }
 
-  start-fresh : (s : GeomEncoder) → b ≡ Fresh s → (isKind kind ≡ true) × ((isGood bbox ≡ true) × (s ≡ fresh kind bbox))
+  pub start-fresh : (s : GeomEncoder) → b ≡ Fresh s → (isKind kind ≡ true) × ((isGood bbox ≡ true) × (s ≡ fresh kind bbox))
   start-fresh s g = by (isKind kind) (isGood bbox) refl refl (sym (ap saidStarted g) ∙ f)
     where
       by : (k h : Bool) → isKind kind ≡ k → isGood bbox ≡ h → accepted (s ∷ []) ≡ cond k (cond h (accepted (fresh kind bbox ∷ [])) (refused Box [])) (refused Kind []) →

@@ -29,7 +29,7 @@ enum Course {
     Off(Refusal, usize),
 }
 
-fn is_job(points: &[i32], ends: &[u32]) -> bool
+pub fn is_job(points: &[i32], ends: &[u32]) -> bool
     ensures { λ r. ⌜ r ≡ isJob (now (points .entry)) (now (ends .entry)) ⌝ }
 {
     if ends.len() == 0 {

@@ -79,9 +79,13 @@ pub fn differs(case: &Case, spoil: bool) -> Option<String> {
 
 /// The Rust against what is written out of a corner.
 fn corner(segment: [i32; 4], cut: [i32; 4], moved: [u32; 2]) -> Option<Difference> {
-    let said = judge::named_clip(segment, [0, 10, 0, 10]);
-    (said != (cut, moved)).then(|| Difference {
-        what: format!("the Rust {said:?}, written out {:?}", (cut, moved)),
+    let what = match std::panic::catch_unwind(|| judge::named_clip(segment, [0, 10, 0, 10])) {
+        Ok(said) if said == (cut, moved) => return None,
+        Ok(said) => format!("the Rust {said:?}, written out {:?}", (cut, moved)),
+        Err(panic) => judge::panicked(panic),
+    };
+    Some(Difference {
+        what,
         input: format!("{segment:?} in the box 0..10"),
     })
 }

@@ -4,7 +4,28 @@
 use crate::jobs::{self, other_edge};
 use crate::judge::{Job, COORD, LIMIT, ROOM};
 use crate::lent::Lent;
-use crate::report::Tally;
+use crate::report::{Difference, Tally};
+
+/// Jobs in the box 0..10 with their edges written out by hand: kind, ends, points, edges.
+type Written = (u32, &'static [u32], &'static [i32], &'static [u32]);
+
+const WRITTEN: [Written; 7] = [
+    (2, &[2], &[-5, 3, 15, 8], &[0, 0, 1, 2]),
+    (2, &[2], &[-1, -1, 11, 11], &[0, 0, 1, 2]),
+    (3, &[3], &[5, 5, 15, 5, 5, 15], &[0, 0, 0, 2, 2, 4]),
+    // Points are not cut, and a part's first point ends no segment.
+    (1, &[2], &[-5, 3, 15, 8], &[0, 0, 0, 0]),
+    (
+        2,
+        &[2, 4],
+        &[5, 5, 15, 5, 15, 5, 5, 5],
+        &[0, 0, 0, 2, 0, 0, 2, 0],
+    ),
+    // The end that moved is the last point already and gives no words; it is named all the same.
+    (2, &[3], &[10, 10, 11, 11, 10, 10], &[0, 0, 0, 2, 2, 0]),
+    // A segment that misses the box.
+    (2, &[2], &[-1, -1, -1, 11], &[0, 0, 0, 0]),
+];
 
 const FAR: [i32; 4] = [LIMIT + 1, -LIMIT - 1, i32::MAX, i32::MIN];
 
@@ -38,15 +59,39 @@ fn run(
         return Err(format!("edges, with {entries} entries: {what}"));
     }
     let short = entries < 2 * (expected.points + 1);
-    match expected.refusal {
-        COORD if short => tally.add("lists of edges that end before COORD", 1),
-        ROOM if short => tally.add("lists of edges that end before ROOM", 1),
-        _ => tally.add("other lists of edges", 1),
-    }
     let ends = expected.moved.iter().filter(|edge| **edge != 0);
+    tally.add("lists of edges", 1);
+    match expected.refusal {
+        ROOM if short => tally.add("too short, with ROOM", 1),
+        COORD if short => tally.add("too short, with COORD", 1),
+        _ => (),
+    }
     tally.add("edges compared", expected.moved.len());
     tally.add("of them not 0", ends.count());
     Ok((given, words))
+}
+
+/// The Rust's edges and ours against those that are written out.
+pub fn written() -> Option<Difference> {
+    WRITTEN.into_iter().find_map(|(kind, ends, points, edges)| {
+        let job = Job {
+            kind,
+            edges: [0, 10, 0, 10],
+            ends: ends.to_vec(),
+            points: points.to_vec(),
+            room: 6 * points.len(),
+        };
+        let said = jobs::expected(&job, usize::MAX).moved;
+        let what = if said == edges {
+            run(&job, edges.len(), false, &mut Tally::default()).err()?
+        } else {
+            format!("the Rust's edges {said:?}, written out {edges:?}")
+        };
+        Some(Difference {
+            what,
+            input: format!("{job:?}"),
+        })
+    })
 }
 
 /// What differs; where the list is long enough, also from the job without edges.

@@ -338,8 +338,11 @@ fn one(
     None
 }
 
-/// The fixed cases in each of the three rooms, with and without a look at every call; the large ones; then the random ones.
+/// The edges that are written out; the fixed cases in each of the three rooms, with and without a look at every call; the large ones; then the random ones.
 pub fn compare(seed: u64, count: usize, spoil: Spoil, tally: &mut Tally) -> Option<Difference> {
+    if let Some(found) = edges::written() {
+        return Some(found);
+    }
     let mut rooms = Random::new(seed ^ 0x5EED);
     for file in cases::fixed_jobs() {
         for at in 0..12 {
