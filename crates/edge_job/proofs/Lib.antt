@@ -1,3 +1,4 @@
 pub mod Calls
 pub mod Turns
 pub mod Whole
+pub mod Same

@@ -1,14 +1,16 @@
 -- Document 02, request (v): "The encoder and the job pass these on in order." The whole job of document 01 with a second lent list, two entries for each
 -- raw point: what became of the first and of the second end of the raw segment that ends in the point, 0 0 where no segment is clipped.
 -- A call for a point whose entries the list lacks is refused as ROOM, its last check. Words, answers and refusals are else those of the whole job
--- (`same-words`, `same-answer` of proofs/Same).
+-- (`same-job` of proofs/Same).
 use Prim.Native.Nat.{ℕ, _+_, _*_, _/_}
 use mathlib.Core.Bool.{Bool, cond}
 use mathlib.Core.List.{List, [], _∷_}
 use lib.Dec.{leb, eqb}
 use lib.IntN.{ℤ}
 use lib.ListN.{length}
-use Rattle.promise.specs.Answers.{Written, kept}
+use denote.Ref.{now}
+use Rattle.promise.specs.Answers.{Written, Gives, kept}
+use Rattle.promise.specs.Lent.{Lent}
 use Rattle.promise.specs.Laid.{lay}
 use Rattle.refusal.specs.declared.Refusal.{Refusal}
 use Rattle.refusal.specs.declared.Refusal.the-variants.{Job, Kind, Box, State, Coord, Room}
@@ -102,3 +104,7 @@ goAll points ends s m = go (jobCalls (pointsOf points) 0 ends) 0 s m
 
 abbrev pub endOf : List ℤ → Course → Outcome
 endOf points r = outcomeOf (length points / 2) r
+
+-- the answer, and both lists after the call, are those of w
+abbrev pub Writes : {A : Type 0} → (Lists → Written A Lists) → A → Lent → Lent → Type 0
+Writes w r words edges = Gives (w (lists (now (words .entry)) (now (edges .entry)))) r (lists (now (words .exit)) (now (edges .exit)))

@@ -4,13 +4,12 @@ ghost use mathlib.Core.Path.{_≡_};
 ghost use mathlib.Core.Bool.{true};
 ghost use Prim.Native.Nat.{_+_, _*_, _/_, _≤_};
 ghost use lib.ListN.{length};
-ghost use Rattle.promise.specs.Answers.{Gives};
 ghost use Rattle.promise.specs.Laid.{lay};
 ghost use Rattle.encoder.specs.Adding.{pointAt};
 ghost use Rattle.encoder.specs.Answers.{saidDrawn};
 ghost use Rattle.encoder.specs.Calls.{partCalls};
 ghost use Rattle.encoder.specs.Jobs.{pointsOf, endsAt, part, saidEncoded};
-ghost use Rattle.edge_job.specs.EdgeJobs.{lists, entries, unroomed, edged, go, goAll, edgeJob, outcomeOf, endOf};
+ghost use Rattle.edge_job.specs.EdgeJobs.{entries, unroomed, edged, go, goAll, edgeJob, outcomeOf, endOf, Writes};
 use clip::BBox;
 use clip::Pt;
 use encoder::Drawn;
@@ -61,10 +60,7 @@ pub fn add_point(
     words: &mut [u32],
     edges: &mut [u32],
 ) -> Drawn
-    ensures { λ r. ⌜
-        Gives (edged s (pointAt x y) i (lists (now (words .entry)) (now (edges .entry)))) (saidDrawn r)
-        (lists (now (words .exit)) (now (edges .exit)))
-        ⌝ }
+    ensures { λ r. ⌜ Writes (edged s (pointAt x y) i) (saidDrawn r) words edges ⌝ }
 {
     if edges.len() / 2 <= i {
         return Drawn::Refused(refuse(s, Pt { x: x, y: y }, words.len()), s);
@@ -89,10 +85,7 @@ fn add_part(
 ) -> Course
     requires { ⌜ from ≤ to ⌝ }
     requires { ⌜ to ≤ length (now points) / 2 ⌝ }
-    ensures { λ r. ⌜
-        Gives (go (partCalls (part (pointsOf (now (points .entry))) from to)) from s (lists (now (words .entry)) (now (edges .entry)))) (outcomeOf to r)
-        (lists (now (words .exit)) (now (edges .exit)))
-        ⌝ }
+    ensures { λ r. ⌜ Writes (go (partCalls (part (pointsOf (now (points .entry))) from to)) from s) (outcomeOf to r) words edges ⌝ }
 {
     let mut q = s;
     let mut i = from;
@@ -120,10 +113,7 @@ fn add_parts(
     edges: &mut [u32],
 ) -> Course
     requires { ⌜ endsAt 0 (now ends) (length (now points) / 2) ≡ true ⌝ }
-    ensures { λ r. ⌜
-        Gives (goAll (now (points .entry)) (now (ends .entry)) s (lists (now (words .entry)) (now (edges .entry)))) (endOf (now (points .entry)) r)
-        (lists (now (words .exit)) (now (edges .exit)))
-        ⌝ }
+    ensures { λ r. ⌜ Writes (goAll (now (points .entry)) (now (ends .entry)) s) (endOf (now (points .entry)) r) words edges ⌝ }
 {
     let mut q = s;
     let mut from = 0;
@@ -149,10 +139,7 @@ pub fn encode(
     words: &mut [u32],
     edges: &mut [u32],
 ) -> Encoded
-    ensures { λ r. ⌜
-        Gives (edgeJob kind bbox (now (points .entry)) (now (ends .entry)) (lists (now (words .entry)) (now (edges .entry)))) (saidEncoded r)
-        (lists (now (words .exit)) (now (edges .exit)))
-        ⌝ }
+    ensures { λ r. ⌜ Writes (edgeJob kind bbox (now (points .entry)) (now (ends .entry))) (saidEncoded r) words edges ⌝ }
 {
     if !encoder::whole_job::is_job(points, ends) {
         return Encoded::Refused(Refusal::Job, 0);
