@@ -10,9 +10,9 @@
  * States. A state goes in and comes back by value, and nothing is kept between calls. Two of them are compared field by field: what stands between the
  *   fields (padding) no promise speaks of. None has to be cleared before a call: what a function answers has every field.
  * Refusals. `refusal` is 0 where a call is accepted, else a number of bp_refusal, and the first check that fails tells it: each function names its checks
- *   in their order. A refused call writes nowhere, says 0 for its counts and gives the state back as it was given. Two differ. A whole job leaves at its
- *   first refused call the words as the accepted calls left them, and says how many points were accepted. Many features in one call keep up to the first
- *   refused feature what the accepted ones made, say how many these are and give back the layer with them.
+ *   in their order. A refused call writes nowhere, says 0 for its counts and edges and gives the state back as it was given. Two differ. A whole job leaves
+ *   at its first refused call the words as the accepted calls left them, and says how many points were accepted. Many features in one call keep up to the
+ *   first refused feature what the accepted ones made, say how many these are and give back the layer with them.
  * Threads. No function reads or writes anything but what it is given, so any may be called from any number of threads at once, as long as no list that one
  *   call writes is lent to another call at the same time.
  * What the libraries need. libbrinepost_tiles.a calls memset of the program's C library; nothing else is called, and no memory is allocated. */
@@ -29,7 +29,7 @@ extern "C" {
 /* The number of this interface. It is raised by one with every change of a declaration below (a struct's fields, a function's parameters, a constant, the
  * refusals) or of what one means; a declaration more leaves it. bp_version and bp_tiles_version answer the number of the archive: where that is not
  * BP_VERSION, header and archive do not belong together. */
-#define BP_VERSION 1
+#define BP_VERSION 2
 uint32_t bp_version(void);       /* of libbrinepost.a */
 uint32_t bp_tiles_version(void); /* of libbrinepost_tiles.a */
 
@@ -104,15 +104,20 @@ typedef struct bp_box {
     int32_t x_min, x_max, y_min, y_max;
 } bp_box;
 
-/* The two ends after the cut; all 0 where refused. */
+/* What became of an end of a segment: it is as it was given, or the cut at that edge moved it. */
+enum bp_edge { BP_STAYED = 0, BP_X_MIN = 1, BP_X_MAX = 2, BP_Y_MIN = 3, BP_Y_MAX = 4 };
+
+/* The two ends after the cut, and what became of each, a number of bp_edge; all 0 where refused. */
 typedef struct bp_clipped {
     uint32_t refusal;
     int32_t x0, y0, x1, y1;
+    uint32_t edge0, edge1;
 } bp_clipped;
 
 /* Cuts the segment from (x0, y0) to (x1, y1) at the box, at x_min, x_max, y_min and y_max in this order: BOX, COORD.
  * A segment that meets the box has both ends in it afterwards. An end that moved lies on the box's edge, less than one from a point of the exact segment in
- * x and in y, also of a segment that misses the box, of which an end may have moved; an end that did not move is as it was given. */
+ * x and in y, also of a segment that misses the box, of which an end may have moved; an end that did not move is as it was given. An end moves at most once,
+ * and edge0 and edge1 tell the edge whose cut moved it, outside which it was given; of two edges that meet where it came to lie, that one alone. */
 bp_clipped bp_clip(int32_t x0, int32_t y0, int32_t x1, int32_t y1, int32_t x_min, int32_t x_max, int32_t y_min, int32_t y_max);
 
 /* ---- a whole job */
@@ -167,17 +172,19 @@ typedef struct bp_started {
 
 typedef struct bp_drawn {
     uint32_t refusal;
-    size_t words; /* how many are used; 0 where refused */
+    size_t words;          /* how many are used; 0 where refused */
     bp_encoder state;
+    uint32_t edge0, edge1; /* what became of the ends of the segment from the part's last raw point to this one; 0 where none is cut, and where refused */
 } bp_drawn;
 
 /* A fresh state: KIND, BOX. */
 bp_started bp_encoder_new(uint32_t kind, int32_t x_min, int32_t x_max, int32_t y_min, int32_t y_max);
 
-/* Adds a point to this part: STATE, COORD, ROOM. `words` is the same list at every call of one geometry. */
+/* Adds a point to this part: STATE, COORD, ROOM. `words` is the same list at every call of one geometry. The edges are those of bp_clip for
+ * the segment that the point ends; a part's first point ends none, and no point of kind 1 does. */
 bp_drawn bp_encoder_add_point(bp_encoder state, int32_t x, int32_t y, uint32_t *words, size_t words_len);
 
-/* Completes this part: STATE, EMPTY, ROOM. */
+/* Completes this part: STATE, EMPTY, ROOM. Its edges are 0. */
 bp_drawn bp_encoder_complete_geom(bp_encoder state, uint32_t *words, size_t words_len);
 
 /* The state's count. Nothing is checked. */

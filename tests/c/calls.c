@@ -4,11 +4,13 @@
 #include "check.h"
 
 /* ---- the header's layout, as the library has it */
-SIZE(bp_clipped, 20);
+SIZE(bp_clipped, 28);
 AT(bp_clipped, x0, 4);
 AT(bp_clipped, y0, 8);
 AT(bp_clipped, x1, 12);
 AT(bp_clipped, y1, 16);
+AT(bp_clipped, edge0, 20);
+AT(bp_clipped, edge1, 24);
 SIZE(bp_job, 24);
 AT(bp_job, points, 8);
 AT(bp_job, words, 16);
@@ -30,9 +32,11 @@ AT(bp_encoder, pt0, 52);
 AT(bp_encoder, pt1, 64);
 SIZE(bp_started, 88);
 AT(bp_started, state, 8);
-SIZE(bp_drawn, 96);
+SIZE(bp_drawn, 104);
 AT(bp_drawn, words, 8);
 AT(bp_drawn, state, 16);
+AT(bp_drawn, edge0, 96);
+AT(bp_drawn, edge1, 100);
 
 /* ---- lists with a guard on both sides; what is not written stays */
 enum { GUARD = 8, ROOM = 64 };
@@ -61,13 +65,13 @@ static void written(int line, const uint32_t *expected, size_t count)
 static void clips(void)
 {
     bp_clipped c = bp_clip(-20, 1, 60, 30, -3, 40, 5, 17);
-    SAME(0, c.refusal), SAME(-3, c.x0), SAME(7, c.y0), SAME(24, c.x1), SAME(17, c.y1);
+    SAME(0, c.refusal), SAME(-3, c.x0), SAME(7, c.y0), SAME(24, c.x1), SAME(17, c.y1), SAME(BP_X_MIN, c.edge0), SAME(BP_Y_MAX, c.edge1);
     c = bp_clip(60, 30, -20, 1, -3, 40, 5, 17);
-    SAME(0, c.refusal), SAME(24, c.x0), SAME(17, c.y0), SAME(-3, c.x1), SAME(7, c.y1);
+    SAME(0, c.refusal), SAME(24, c.x0), SAME(17, c.y0), SAME(-3, c.x1), SAME(7, c.y1), SAME(BP_Y_MAX, c.edge0), SAME(BP_X_MIN, c.edge1);
     c = bp_clip(-BP_LIMIT, -500000000, BP_LIMIT, 600000000, -1000, 2000, -90000000, 80000000);
     SAME(0, c.refusal), SAME(-1000, c.x0), SAME(49999488, c.y0), SAME(2000, c.x1), SAME(50001025, c.y1);
     c = bp_clip(1, 2, 3, 4, 0, 10, 0, BP_LIMIT + 1);
-    SAME(BP_BOX, c.refusal), SAME(0, c.x0), SAME(0, c.y0), SAME(0, c.x1), SAME(0, c.y1);
+    SAME(BP_BOX, c.refusal), SAME(0, c.x0), SAME(0, c.y0), SAME(0, c.x1), SAME(0, c.y1), SAME(0, c.edge0), SAME(0, c.edge1);
     /* each edge and each coordinate at the limit and beyond it */
     const int32_t far = BP_LIMIT;
     SAME(0, bp_clip(far, far, -far, -far, -far, far, -far, far).refusal);
@@ -81,6 +85,69 @@ static void clips(void)
     SAME(BP_COORD, bp_clip(0, -far - 1, 1, 1, 0, 10, 0, 10).refusal);
     SAME(BP_COORD, bp_clip(0, 0, INT32_MAX, 1, 0, 10, 0, 10).refusal);
     SAME(BP_COORD, bp_clip(0, 0, 1, INT32_MIN, 0, 10, 0, 10).refusal);
+}
+
+static void edges_are(int line, uint32_t edge0, uint32_t edge1, uint32_t given0, uint32_t given1)
+{
+    same("edge0", line, edge0, given0);
+    same("edge1", line, edge1, given1);
+}
+#define EDGES(edge0_is, edge1_is, answer) edges_are(__LINE__, edge0_is, edge1_is, (answer).edge0, (answer).edge1)
+
+static void clip_is(int line, bp_clipped expected, bp_clipped c)
+{
+    same("refusal", line, expected.refusal, c.refusal);
+    same("x0", line, expected.x0, c.x0), same("y0", line, expected.y0, c.y0);
+    same("x1", line, expected.x1, c.x1), same("y1", line, expected.y1, c.y1);
+    edges_are(line, expected.edge0, expected.edge1, c.edge0, c.edge1);
+}
+#define CLIP(x0, y0, x1, y1, ...) clip_is(__LINE__, (bp_clipped){__VA_ARGS__}, bp_clip(x0, y0, x1, y1, 0, 10, 0, 10))
+
+/* What became of each end, by its number, in the box from 0 to 10. */
+static void edges(void)
+{
+    SAME(0, BP_STAYED), SAME(1, BP_X_MIN), SAME(2, BP_X_MAX), SAME(3, BP_Y_MIN), SAME(4, BP_Y_MAX);
+    CLIP(-1, -1, 11, 11, 0, 0, 0, 10, 10, 1, 2);
+    CLIP(11, 11, -1, -1, 0, 10, 10, 0, 0, 2, 1);
+    CLIP(-1, 0, 1, -1, 0, 0, 0, 0, 0, 1, 3); /* the corner is reached by both ends, each by a cut of its own */
+    CLIP(0, -1, -1, 1, 0, 0, 0, -1, 1, 3, 0); /* x_min holds the first end too, and its cut did not move it */
+    CLIP(10, 10, 11, 11, 0, 10, 10, 10, 10, 0, 2);
+    CLIP(0, 5, 0, 20, 0, 0, 5, 0, 10, 0, 4);
+    CLIP(0, 0, 10, 10, 0, 0, 0, 10, 10, 0, 0); /* on the edges, and not moved */
+    CLIP(-5, 20, -1, 30, 0, -5, 20, -1, 30, 0, 0); /* outside, and not moved */
+    CLIP(-1, -1, 11, BP_LIMIT + 1, BP_COORD, 0, 0, 0, 0, 0, 0);
+
+    /* a ring that leaves the box and comes back; then a point of a part of its own */
+    fill();
+    bp_drawn d = bp_encoder_add_point(bp_encoder_new(BP_POLYGON, 0, 10, 0, 10).state, 5, 5, words, ROOM);
+    SAME(0, d.refusal), EDGES(0, 0, d);
+    d = bp_encoder_add_point(d.state, 15, 5, words, ROOM);
+    SAME(0, d.refusal), EDGES(0, 2, d);
+    const bp_encoder open = d.state;
+    d = bp_encoder_add_point(open, 5, 15, words, ROOM);
+    SAME(0, d.refusal), EDGES(2, 4, d);
+    /* the same segment refused, by each check, names none */
+    EDGES(0, 0, bp_encoder_add_point(open, 5, BP_LIMIT + 1, words, ROOM));
+    bp_drawn r = bp_encoder_add_point(open, 5, 15, words, open.used);
+    SAME(BP_ROOM, r.refusal), EDGES(0, 0, r);
+    bp_encoder s = open;
+    s.pt0.is_set = 2;
+    r = bp_encoder_add_point(s, 5, 15, words, ROOM);
+    SAME(BP_STATE, r.refusal), EDGES(0, 0, r);
+    d = bp_encoder_complete_geom(d.state, words, ROOM);
+    SAME(0, d.refusal), EDGES(0, 0, d);
+    d = bp_encoder_add_point(d.state, 15, 15, words, ROOM);
+    SAME(0, d.refusal), EDGES(0, 0, d);
+
+    /* lines pass them on as polygons do, points never */
+    d = bp_encoder_add_point(bp_encoder_new(BP_LINE, 0, 10, 0, 10).state, -1, -1, words, ROOM);
+    SAME(0, d.refusal), EDGES(0, 0, d);
+    d = bp_encoder_add_point(d.state, 11, 11, words, ROOM);
+    SAME(0, d.refusal), EDGES(1, 2, d);
+    d = bp_encoder_add_point(bp_encoder_new(BP_POINT, 0, 10, 0, 10).state, -1, -1, words, ROOM);
+    SAME(0, d.refusal), EDGES(0, 0, d);
+    d = bp_encoder_add_point(d.state, 11, 11, words, ROOM);
+    SAME(0, d.refusal), EDGES(0, 0, d);
 }
 
 /* Two parts that cross a box with four different edges. */
@@ -159,6 +226,7 @@ static void given_back(int at, bp_encoder s, bp_drawn d, uint32_t refusal)
 {
     same("refusal", at, refusal, d.refusal);
     same("words", at, 0, d.words);
+    edges_are(at, 0, 0, d.edge0, d.edge1);
     same("the state given back", at, 0, memcmp(&s, &d.state, offsetof(bp_encoder, pt1) + sizeof(bp_point)));
 }
 #define GIVEN_BACK(s, d, refusal) given_back(__LINE__, s, d, refusal)
@@ -289,6 +357,7 @@ int main(void)
     inlines();
     refused_new();
     clips();
+    edges();
     jobs();
     readings();
     calls();

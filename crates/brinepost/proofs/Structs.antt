@@ -20,7 +20,9 @@ use Rattle.encoder.specs.declared.Started.{Started}
 use Rattle.encoder.specs.declared.Started.the-variants.{Fresh, Refused as NotStarted}
 use Rattle.encoder.specs.declared.Drawn.{Drawn}
 use Rattle.encoder.specs.declared.Drawn.the-variants.{Done, Refused as NotDrawn}
-use Rattle.encoder.specs.Answers.{saidStarted, saidDrawn}
+use Rattle.encoder.specs.declared.Edges.{Edges}
+use Rattle.encoder.specs.Answers.{saidStarted, saidDrawn, edgesOf}
+use Rattle.clip.specs.Numbers.{edgeNumber}
 use Rattle.brinepost.specs.declared.vertices.BpReading.{BpReading}
 use Rattle.brinepost.specs.declared.work.BpJob.{BpJob}
 use Rattle.brinepost.specs.declared.state.BpEncoder.{BpEncoder}
@@ -63,10 +65,10 @@ module _ (r : Started) where
   start-not k n c e h i = rw (e, h, i)
 
 module _ (given : BpEncoder) (r : Drawn) where
-  pub drawn-done : (s : GeomEncoder) (c : BpEncoder) → r ≡ Done s → c ≡ stateTo s → _≡_ {A = BpDrawn} (record { refusal = 0; words = s .used; state = c }) (flatDrawn given (saidDrawn r))
+  pub drawn-done : (s : GeomEncoder) (e : Edges) (c : BpEncoder) (m n : ℕ) → r ≡ Done s e → c ≡ stateTo s → m ≡ edgeNumber (e .first) → n ≡ edgeNumber (e .second) → _≡_ {A = BpDrawn} (record { refusal = 0; words = s .used; state = c; edge0 = m; edge1 = n }) (flatDrawn given (edgesOf r) (saidDrawn r))
   unfolding flatDrawn
-  drawn-done s c e h = rw (e, h)
+  drawn-done s e c m n f h i j = rw (f, h, i, j)
 
-  pub drawn-not : (k : Refusal) (s : GeomEncoder) (a : BpDrawn) → r ≡ NotDrawn k s → a ≡ flagged given k → a ≡ flatDrawn given (saidDrawn r)
+  pub drawn-not : (k : Refusal) (s : GeomEncoder) (a : BpDrawn) → r ≡ NotDrawn k s → a ≡ flagged given k → a ≡ flatDrawn given (edgesOf r) (saidDrawn r)
   unfolding flatDrawn
   drawn-not k s a e h = rw (e, never-zero k) h

@@ -1,12 +1,13 @@
 -- What C is told follows from what the proved function said, for a call that carries a state by its flags too.
 use Prim.Native.Nat.{ℕ}
 use mathlib.Core.Path.{_≡_, refl, sym, _∙_, ap}
-use mathlib.Core.Bool.{Bool, true, false, not, _&&_}
+use mathlib.Core.Bool.{Bool, true, false, not, _&&_, cond}
 use mathlib.Core.List.{List, [], _∷_}
 use borrow.Author.Tests.{not-true, not-false}
 use mir.Syntax.{w32}
 use mir.Val.{toZ, ofZ}
 use lib.IntN.{ℤ}
+use lib.Dec.{eqb}
 use Rattle.whole.proofs.Machine.{Back}
 use Rattle.promise.specs.Answers.{Written, Gives}
 use Rattle.refusal.specs.declared.Refusal.{Refusal}
@@ -22,13 +23,16 @@ use Rattle.clip.specs.declared.Clipped.the-variants.{Done as Cut, Refused as No
 use Rattle.clip.specs.Domain.{isGood, isInside}
 use Rattle.clip.specs.Answer.{saidClipped, clipped}
 use Rattle.clip.specs.Numbers.{segAt, boxAt}
+use Rattle.clip.specs.Cutting.{given as asGiven}
+use Rattle.clip.specs.declared.Edge.{Edge}
 use Rattle.promise.proofs.Joined.{both}
 use Rattle.clip.proofs.Callers.{box-refused, kept-inside}
 use Rattle.encoder.specs.declared.GeomEncoder.{GeomEncoder}
 use Rattle.encoder.specs.declared.Started.{Started}
 use Rattle.encoder.specs.declared.Drawn.{Drawn}
-use Rattle.encoder.specs.Answers.{Counted, saidStarted, started, saidDrawn}
-use Rattle.encoder.specs.Adding.{added, pointAt}
+use Rattle.encoder.specs.declared.Edges.{Edges}
+use Rattle.encoder.specs.Answers.{Counted, saidStarted, started, saidDrawn, none, edgesOf, passed}
+use Rattle.encoder.specs.Adding.{added, pointAt, edges}
 use Rattle.encoder.specs.Completing.{completed}
 use Rattle.brinepost.specs.declared.segment.BpClipped.{BpClipped}
 use Rattle.brinepost.specs.declared.state.BpEncoder.{BpEncoder}
@@ -36,7 +40,7 @@ use Rattle.brinepost.specs.declared.calls.BpStarted.{BpStarted}
 use Rattle.brinepost.specs.declared.calls.BpDrawn.{BpDrawn}
 use Rattle.brinepost.specs.Segments.{ends, flatClip}
 use Rattle.brinepost.specs.Carried.{areFlags, stateOf}
-use Rattle.brinepost.specs.Drawing.{flatStarted, flatDrawn, flagged, unlessFlagged}
+use Rattle.brinepost.specs.Drawing.{flatStarted, flatDrawn, flagged, unlessFlagged, addedFrom, completedFrom}
 
 -- a segment and a box made of numbers, and the numbers of a clipped segment, as the machine reads them back
 abbrev read : ℤ → ℤ
@@ -46,8 +50,8 @@ module _ {x0 y0 x1 y1 : ℤ} (b0 : Back w32 x0) (c0 : Back w32 y0) (b1 : Back w3
   pub seg-read : (s : Seg) → s ≡ segAt (read x0) (read y0) (read x1) (read y1) → s ≡ segAt x0 y0 x1 y1
   seg-read s e = rw (b0, c0, b1, c1) at e
 
-  pub ends-read : (r : BpClipped) → r ≡ ends 0 (record { seg = segAt (read x0) (read y0) (read x1) (read y1) } ∷ []) → r ≡ ends 0 (record { seg = segAt x0 y0 x1 y1 } ∷ [])
-  ends-read r e = rw (b0, c0, b1, c1) at e
+  pub ends-read : (m n : Edge) (r : BpClipped) → r ≡ ends 0 (record { seg = segAt (read x0) (read y0) (read x1) (read y1); first = m; second = n } ∷ []) → r ≡ ends 0 (record { seg = segAt x0 y0 x1 y1; first = m; second = n } ∷ [])
+  ends-read m n r e = rw (b0, c0, b1, c1) at e
 
 pub box-read : {l r b t : ℤ} → Back w32 l → Back w32 r → Back w32 b → Back w32 t → (x : BBox) → x ≡ boxAt (read l) (read r) (read b) (read t) → x ≡ boxAt l r b t
 box-read bl br bb bt x e = rw (bl, br, bb, bt) at e
@@ -61,9 +65,9 @@ module _ (s : Seg) (b : BBox) (g : Bool) (eg : g ≡ isGood b) (r : BpClipped) w
   unfolding flatClip
   clip-box n e = e ∙ sym (ap flatClip (box-refused s b (sym eg ∙ not-true g n)))
 
-  pub clip-kept : not g ≡ false → (u v : Bool) → u ≡ isInside b (s .p0) → v ≡ isInside b (s .p1) → (u && v) ≡ true → (t : Seg) → s ≡ t → r ≡ ends 0 (record { seg = t } ∷ []) → r ≡ flatClip (clipped s b)
+  pub clip-kept : not g ≡ false → (u v : Bool) → u ≡ isInside b (s .p0) → v ≡ isInside b (s .p1) → (u && v) ≡ true → (t : Seg) → s ≡ t → r ≡ ends 0 (asGiven t ∷ []) → r ≡ flatClip (clipped s b)
   unfolding flatClip
-  clip-kept n u v eu ev i t f e = let h = both u v i in e ∙ ap (λ (z : Seg). ends 0 (record { seg = z } ∷ [])) (sym f) ∙ sym (ap flatClip (kept-inside s b (sym eg ∙ not-false g n) (sym eu ∙ h .0) (sym ev ∙ h .1)))
+  clip-kept n u v eu ev i t f e = let h = both u v i in e ∙ ap (λ (z : Seg). ends 0 (asGiven z ∷ [])) (sym f) ∙ sym (ap flatClip (kept-inside s b (sym eg ∙ not-false g n) (sym eu ∙ h .0) (sym ev ∙ h .1)))
 
 -- what the clip said, by its two cases
 module _ (a : Clipped) (s : Seg) (b : BBox) (e : saidClipped a ≡ clipped s b) (r : BpClipped) where
@@ -78,25 +82,41 @@ module _ (a : Clipped) (s : Seg) (b : BBox) (e : saidClipped a ≡ clipped s b) 
 pub start-told : (a : Started) (kind : ℕ) (b : BBox) (r : BpStarted) → saidStarted a ≡ started kind b → r ≡ flatStarted (saidStarted a) → r ≡ flatStarted (started kind b)
 start-told a kind b r e h = h ∙ ap flatStarted e
 
+-- ---- the edges: a refused call names none, so what was passed on once is told as it is
+passed-once : (b : Bool) (e : Edges) → cond b (cond b e none) none ≡ cond b e none
+passed-once true e = refl
+passed-once false e = refl
+
+passes-none : (b : Bool) → cond b none none ≡ none
+passes-none true = refl
+passes-none false = refl
+
+told-once : (given : BpEncoder) (e : Edges) (a : Said Counted) → flatDrawn given (passed a e) a ≡ flatDrawn given e a
+unfolding flatDrawn
+told-once given e a = rw (passed-once (eqb (a .number) 0) e)
+
 -- ---- a call with a carried state: t is what its flags were answered to be
-module _ (given : BpEncoder) (out : List ℕ) (t : Bool) (e : t ≡ areFlags given) where
-  flags-no : (w : Written (Said Counted) (List ℕ)) (r : BpDrawn) → not t ≡ true → r ≡ flagged given State → Gives (unlessFlagged given out w) r out
+module _ (given : BpEncoder) (out : List ℕ) (t : Bool) (f : t ≡ areFlags given) where
+  flags-no : (e : Edges) (w : Written (Said Counted) (List ℕ)) (r : BpDrawn) → not t ≡ true → r ≡ flagged given State → Gives (unlessFlagged given out e w) r out
   unfolding unlessFlagged
-  flags-no w r h k = rw (sym e ∙ not-true t h) (record { answer = k; memory = refl })
+  flags-no e w r h k = rw (sym f ∙ not-true t h) (record { answer = k; memory = refl })
 
-  flags-yes : (w : Written (Said Counted) (List ℕ)) (a : Drawn) (r : BpDrawn) (m : List ℕ) → not t ≡ false → Gives w (saidDrawn a) m → r ≡ flatDrawn given (saidDrawn a) → Gives (unlessFlagged given out w) r m
+  flags-yes : (e : Edges) (w : Written (Said Counted) (List ℕ)) (a : Drawn) (r : BpDrawn) (m : List ℕ) → not t ≡ false → Gives w (saidDrawn a) m → edgesOf a ≡ passed (w .answer) e → r ≡ flatDrawn given (edgesOf a) (saidDrawn a) → Gives (unlessFlagged given out e w) r m
   unfolding unlessFlagged
-  flags-yes w a r m h g k = rw (sym e ∙ not-false t h) (told-gives (flatDrawn given) w (saidDrawn a) r m g k)
+  flags-yes e w a r m h g n k =
+      let p : edgesOf a ≡ passed (saidDrawn a) e = n ∙ ap (λ (x : Said Counted). passed x e) (sym (g .answer)) in
+      let q : r ≡ flatDrawn given e (saidDrawn a) = k ∙ ap (λ (x : Edges). flatDrawn given x (saidDrawn a)) p ∙ told-once given e (saidDrawn a) in
+      rw (sym f ∙ not-false t h) (told-gives (flatDrawn given e) w (saidDrawn a) r m g q)
 
-  pub add-flagged : (x y : ℤ) (r : BpDrawn) → not t ≡ true → r ≡ flagged given State → Gives (unlessFlagged given out (added (stateOf given) (pointAt x y) out)) r out
-  add-flagged x y r h k = flags-no (added (stateOf given) (pointAt x y) out) r h k
+  pub add-flagged : (x y : ℤ) (r : BpDrawn) → not t ≡ true → r ≡ flagged given State → Gives (addedFrom given x y out) r out
+  add-flagged x y r h k = flags-no (edges (stateOf given) (pointAt x y)) (added (stateOf given) (pointAt x y) out) r h k
 
-  pub complete-flagged : (r : BpDrawn) → not t ≡ true → r ≡ flagged given State → Gives (unlessFlagged given out (completed (stateOf given) out)) r out
-  complete-flagged r h k = flags-no (completed (stateOf given) out) r h k
+  pub complete-flagged : (r : BpDrawn) → not t ≡ true → r ≡ flagged given State → Gives (completedFrom given out) r out
+  complete-flagged r h k = flags-no none (completed (stateOf given) out) r h k
 
-  module _ (h : not t ≡ false) (s : GeomEncoder) (k : s ≡ stateOf given) (a : Drawn) (r : BpDrawn) (m : List ℕ) (q : r ≡ flatDrawn given (saidDrawn a)) where
-    pub add-told : (x y : ℤ) → Gives (added s (pointAt x y) out) (saidDrawn a) m → Gives (unlessFlagged given out (added (stateOf given) (pointAt x y) out)) r m
-    add-told x y g = rw (← k) (flags-yes (added s (pointAt x y) out) a r m h g q)
+  module _ (h : not t ≡ false) (s : GeomEncoder) (k : s ≡ stateOf given) (a : Drawn) (r : BpDrawn) (m : List ℕ) (q : r ≡ flatDrawn given (edgesOf a) (saidDrawn a)) where
+    pub add-told : (x y : ℤ) → Gives (added s (pointAt x y) out) (saidDrawn a) m → edgesOf a ≡ passed (added s (pointAt x y) out .answer) (edges s (pointAt x y)) → Gives (addedFrom given x y out) r m
+    add-told x y g n = rw (← k) (flags-yes (edges s (pointAt x y)) (added s (pointAt x y) out) a r m h g n q)
 
-    pub complete-told : Gives (completed s out) (saidDrawn a) m → Gives (unlessFlagged given out (completed (stateOf given) out)) r m
-    complete-told g = rw (← k) (flags-yes (completed s out) a r m h g q)
+    pub complete-told : Gives (completed s out) (saidDrawn a) m → edgesOf a ≡ none → Gives (completedFrom given out) r m
+    complete-told g n = rw (← k) (flags-yes none (completed s out) a r m h g (n ∙ sym (passes-none (eqb (completed s out .answer .number) 0))) q)

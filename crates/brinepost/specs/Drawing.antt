@@ -10,8 +10,10 @@ use Rattle.refusal.specs.declared.Refusal.the-variants.{State}
 use Rattle.refusal.specs.Refusals.{numberOf}
 use Rattle.refusal.specs.Said.{Said}
 use Rattle.encoder.specs.declared.GeomEncoder.{GeomEncoder}
-use Rattle.encoder.specs.Answers.{Counted}
-use Rattle.encoder.specs.Adding.{added, pointAt}
+use Rattle.clip.specs.Numbers.{edgeNumber}
+use Rattle.encoder.specs.declared.Edges.{Edges}
+use Rattle.encoder.specs.Answers.{Counted, none, passed}
+use Rattle.encoder.specs.Adding.{added, pointAt, edges}
 use Rattle.encoder.specs.Completing.{completed}
 use Rattle.brinepost.specs.declared.state.BpEncoder.{BpEncoder}
 use Rattle.brinepost.specs.declared.calls.BpStarted.{BpStarted}
@@ -27,19 +29,28 @@ carriedFirst (s ∷ ss) = stateTo s
 unfoldable pub flatStarted : Said (List GeomEncoder) → BpStarted
 flatStarted a = record { refusal = a .number; state = carriedFirst (a .values) }
 
--- the refusal's number, the words used (0 where refused), and the next state, or the state exactly as C gave it
-unfoldable pub flatDrawn : BpEncoder → Said Counted → BpDrawn
-flatDrawn given a = record { refusal = a .number; words = a .values .count; state = cond (eqb (a .number) 0) (stateTo (a .values .state)) given }
+-- the refusal's number, the words used (0 where refused), the next state, or the state exactly as C gave it, and the numbers of e, the edges of the segment
+-- that the point ends (0 and 0 where refused)
+unfoldable pub flatDrawn : BpEncoder → Edges → Said Counted → BpDrawn
+flatDrawn given e a =
+    record {
+      refusal = a .number;
+      words = a .values .count;
+      state = cond (eqb (a .number) 0) (stateTo (a .values .state)) given;
+      edge0 = edgeNumber (passed a e .first);
+      edge1 = edgeNumber (passed a e .second);
+    }
 
 abbrev pub flagged : BpEncoder → Refusal → BpDrawn
-flagged given r = record { refusal = numberOf r; words = 0; state = given }
+flagged given r = record { refusal = numberOf r; words = 0; state = given; edge0 = 0; edge1 = 0 }
 
 -- a flag that is neither 0 nor 1 is STATE
-unfoldable pub unlessFlagged : BpEncoder → List ℕ → Written (Said Counted) (List ℕ) → Written BpDrawn (List ℕ)
-unlessFlagged given out w = cond (areFlags given) (told (flatDrawn given) w) (kept (flagged given State) out)
+unfoldable pub unlessFlagged : BpEncoder → List ℕ → Edges → Written (Said Counted) (List ℕ) → Written BpDrawn (List ℕ)
+unlessFlagged given out e w = cond (areFlags given) (told (flatDrawn given e) w) (kept (flagged given State) out)
 
 abbrev pub addedFrom : BpEncoder → ℤ → ℤ → List ℕ → Written BpDrawn (List ℕ)
-addedFrom given x y out = unlessFlagged given out (added (stateOf given) (pointAt x y) out)
+addedFrom given x y out = unlessFlagged given out (edges (stateOf given) (pointAt x y)) (added (stateOf given) (pointAt x y) out)
 
+-- completing ends no segment
 abbrev pub completedFrom : BpEncoder → List ℕ → Written BpDrawn (List ℕ)
-completedFrom given out = unlessFlagged given out (completed (stateOf given) out)
+completedFrom given out = unlessFlagged given out none (completed (stateOf given) out)

@@ -1,7 +1,7 @@
 // The encoder call by call, from C: the state goes in and comes back by value.
 ghost use mathlib.Core.Path.{_≡_};
 ghost use Rattle.promise.specs.Answers.{Gives};
-ghost use Rattle.encoder.specs.Answers.{saidStarted, started, saidDrawn};
+ghost use Rattle.encoder.specs.Answers.{saidStarted, started, saidDrawn, edgesOf};
 ghost use Rattle.clip.specs.Numbers.{boxAt};
 ghost use Rattle.brinepost.specs.Drawing.{flatStarted, flatDrawn, flagged, addedFrom, completedFrom};
 use crate::state::BpEncoder;
@@ -22,6 +22,8 @@ pub struct BpDrawn {
     pub refusal: u32,
     pub words: usize, // how many are used
     pub state: BpEncoder,
+    pub edge0: u32, // what became of each end of the segment that the point ends
+    pub edge1: u32,
 }
 
 fn begun(r: Started) -> BpStarted
@@ -39,16 +41,22 @@ fn begun(r: Started) -> BpStarted
     }
 }
 
-// A refused call has given its state back, and C has it as it was given, whatever lay behind a flag of 0.
+// A refused call has given its state back, and C has it as it was given, whatever lay behind a flag of 0; it names no edge.
 fn answered(given: BpEncoder, r: Drawn) -> BpDrawn
-    ensures { λ a. ⌜ a ≡ flatDrawn given (saidDrawn r) ⌝ }
+    ensures { λ a. ⌜ a ≡ flatDrawn given (edgesOf r) (saidDrawn r) ⌝ }
 {
     match r {
-        Drawn::Done(s) => BpDrawn {
-            refusal: 0,
-            words: s.used,
-            state: crate::state::state_to(s),
-        },
+        Drawn::Done(s, edges) => {
+            let first = edges.first;
+            let second = edges.second;
+            BpDrawn {
+                refusal: 0,
+                words: s.used,
+                state: crate::state::state_to(s),
+                edge0: first.number(),
+                edge1: second.number(),
+            }
+        }
         Drawn::Refused(k, _) => refused(given, k),
     }
 }
@@ -60,6 +68,8 @@ fn refused(given: BpEncoder, k: Refusal) -> BpDrawn
         refusal: refusal::number(k),
         words: 0,
         state: given,
+        edge0: 0,
+        edge1: 0,
     }
 }
 

@@ -1,4 +1,4 @@
-// A segment cut at a box, from C: eight numbers go in, the refusal and four numbers come back.
+// A segment cut at a box, from C: eight numbers go in, the refusal, four numbers and what became of each end come back.
 ghost use mathlib.Core.Path.{_≡_};
 ghost use mathlib.Core.List.{[], _∷_};
 ghost use Rattle.refusal.specs.Refusals.{numberOf};
@@ -7,6 +7,7 @@ ghost use Rattle.clip.specs.Numbers.{segAt, boxAt};
 ghost use Rattle.brinepost.specs.Segments.{ends, flatClip};
 use clip::BBox;
 use clip::Clipped;
+use clip::Edge;
 use clip::Pt;
 use clip::Seg;
 use refusal::Refusal;
@@ -18,11 +19,13 @@ pub struct BpClipped {
     pub y0: i32,
     pub x1: i32,
     pub y1: i32,
+    pub edge0: u32, // what became of each end, by its number
+    pub edge1: u32,
 }
 
 // The answer of a segment that is accepted, and that of a refused call.
-fn accepted(x0: i32, y0: i32, x1: i32, y1: i32) -> BpClipped
-    ensures { λ r. ⌜ r ≡ ends 0 (record { seg = segAt x0 y0 x1 y1 } ∷ []) ⌝ }
+fn accepted(x0: i32, y0: i32, x1: i32, y1: i32, first: Edge, second: Edge) -> BpClipped
+    ensures { λ r. ⌜ r ≡ ends 0 (record { seg = segAt x0 y0 x1 y1; first = first; second = second } ∷ []) ⌝ }
 {
     BpClipped {
         refusal: 0,
@@ -30,6 +33,8 @@ fn accepted(x0: i32, y0: i32, x1: i32, y1: i32) -> BpClipped
         y0: y0,
         x1: x1,
         y1: y1,
+        edge0: first.number(),
+        edge1: second.number(),
     }
 }
 
@@ -42,6 +47,8 @@ fn refused(k: Refusal) -> BpClipped
         y0: 0,
         x1: 0,
         y1: 0,
+        edge0: 0,
+        edge1: 0,
     }
 }
 
@@ -90,14 +97,16 @@ pub extern "C" fn bp_clip(
     let p0 = seg.p0;
     let p1 = seg.p1;
     if BBox::is_inside(bbox, p0) & BBox::is_inside(bbox, p1) {
-        return accepted(x0, y0, x1, y1);
+        return accepted(x0, y0, x1, y1, Edge::Stayed, Edge::Stayed);
     }
     match clip::clip(seg, bbox) {
         Clipped::Done(c) => {
             let cut = c.seg;
             let end0 = cut.p0;
             let end1 = cut.p1;
-            return accepted(end0.x, end0.y, end1.x, end1.y);
+            let first = c.first;
+            let second = c.second;
+            return accepted(end0.x, end0.y, end1.x, end1.y, first, second);
         }
         Clipped::Refused(k) => {
             return refused(k);

@@ -1,10 +1,10 @@
 -- The named edges: (d) of demand 3, and the laws of the names.
 --     told0 told1       an end after the four cuts: as given and none named, or in the box, on the named edge, which the end as given has strictly passed
 --     unnamed           an end that is as given has none named
---     once              an end that has a name is moved by no further cut
+--     first-once second-once    an end that has a name is moved by no further cut
 -- An end moves at most once, since a moved end lies in the box and so has passed no edge.
 use Prim.Native.Nat.{ℕ}
-use mathlib.Core.Path.{_≡_, refl, sym, ap, subst}
+use mathlib.Core.Path.{_≡_, refl, sym, _∙_, ap, subst}
 use mathlib.Core.Bool.{Bool, true, false}
 use native.Mathlib.Omega.{arith}
 use lib.IntN.{ℤ}
@@ -20,6 +20,7 @@ use Rattle.clip.specs.declared.Edge.{Edge}
 use Rattle.clip.specs.declared.Edge.the-variants.{Stayed, XMin, XMax, YMin, YMax}
 use Rattle.clip.specs.Cutting.{Crossing, Missing, At, crossAtX, swap, swapped, given, replace, cutXMin, cutXMax, cutYMin, cutYMax, cuts}
 use Rattle.clip.specs.Demand3.{Inside, Passed, Holds}
+use Rattle.clip.specs.Numbers.{isMoved}
 use Rattle.clip.proofs.Ends.{Proper}
 use Rattle.clip.proofs.Verdicts.{Verdict, level, left, right, under, over, lower, upper, good, verdict}
 
@@ -164,7 +165,7 @@ as-it-was as-given f = refl
 as-it-was {b} {g} (told e r o i k) f = absurd (subst (λ (n : Edge). Passed n b g) f o)
 
 -- an end that has a name is moved by no further cut
-pub once : {b : BBox} {g p q : Pt} {e n m : Edge} → Told b g n p → Step b e p n q m → (n ≡ Stayed → ⊥) → (q ≡ p) × (m ≡ n)
+once : {b : BBox} {g p q : Pt} {e n m : Edge} → Told b g n p → Step b e p n q m → (n ≡ Stayed → ⊥) → (q ≡ p) × (m ≡ n)
 once t stays f = (refl, refl)
 once as-given (moves r o i k) f = absurd (f refl)
 once {b} {g} {p} {q} {e} (told n r o i k) (moves u v j l) f = absurd (not-passed e v i)
@@ -179,3 +180,73 @@ still-given b h s e =
   where
     whole : (c : ClippedSeg) → c .seg ≡ s → c .first ≡ Stayed → c .second ≡ Stayed → c ≡ given s
     whole c u v w = let k : record { seg = c .seg; first = c .first; second = c .second } ≡ given s = rw (u, v, w) refl in k
+
+-- ---- an end moves at most once: whatever cut named an edge for it, the later ones leave it
+-- the segment after the cuts up to that edge
+abbrev pub upTo : Edge → BBox → Seg → ClippedSeg
+upTo Stayed b s = given s
+upTo XMin b s = cutXMin b (given s)
+upTo XMax b s = cutXMax b (cutXMin b (given s))
+upTo YMin b s = cutYMin b (cutXMax b (cutXMin b (given s)))
+upTo YMax b s = cutYMax b (cutYMin b (cutXMax b (cutXMin b (given s))))
+
+-- an end, by its point and its name, that is still the one it was
+pub record Still (p q : Pt) (n m : Edge) : Type 0 where
+  pub point : q ≡ p
+  pub name : m ≡ n
+
+still-then : {p q r : Pt} {n m o : Edge} → Still p q n m → Still q r m o → Still p r n o
+still-then k j = record { point = j .point ∙ k .point; name = j .name ∙ k .name }
+
+-- through one more cut, and then through those that go on from there
+through : {b : BBox} {g p q r : Pt} {e n m o : Edge} → Told b g n p → Step b e p n q m → isMoved n ≡ true → (isMoved m ≡ true → Still q r m o) → Still p r n o
+through {b} {g} {p} {q} {r} {e} {n} t k h j =
+    let w = once t k (λ f. let z : _≡_ {A = ℕ} 0 1 = cc in omega arith) in
+    still-then (record { point = w .0; name = w .1 }) (j (ap isMoved (w .1) ∙ h))
+
+module _ (b : BBox) (h : Proper b) (s : Seg) where
+  abbrev c1 : ClippedSeg
+  c1 = upTo XMin b s
+
+  abbrev c2 : ClippedSeg
+  c2 = upTo XMax b s
+
+  abbrev c3 : ClippedSeg
+  c3 = upTo YMin b s
+
+  told-x-min : Ends b s c1
+  told-x-min = onward (at-start b h s) (step-x-min b h (given s))
+
+  told-x-max : Ends b s c2
+  told-x-max = onward told-x-min (step-x-max b h c1)
+
+  told-y-min : Ends b s c3
+  told-y-min = onward told-x-max (step-y-min b h c2)
+
+  first-y-min : isMoved (c3 .first) ≡ true → Still (c3 .seg .p0) (upTo YMax b s .seg .p0) (c3 .first) (upTo YMax b s .first)
+  first-y-min m = through (told-y-min .told0) (step-y-max b h c3 .end0) m (λ z. record { point = refl; name = refl })
+
+  first-x-max : isMoved (c2 .first) ≡ true → Still (c2 .seg .p0) (upTo YMax b s .seg .p0) (c2 .first) (upTo YMax b s .first)
+  first-x-max m = through (told-x-max .told0) (step-y-min b h c2 .end0) m first-y-min
+
+  pub first-once : (e : Edge) → isMoved (upTo e b s .first) ≡ true → Still (upTo e b s .seg .p0) (cuts b s .seg .p0) (upTo e b s .first) (cuts b s .first)
+  unfolding cuts
+  first-once Stayed m = absurd (let z : _≡_ {A = ℕ} 0 1 = cc in omega arith)
+  first-once XMin m = through (told-x-min .told0) (step-x-max b h c1 .end0) m first-x-max
+  first-once XMax m = first-x-max m
+  first-once YMin m = first-y-min m
+  first-once YMax m = record { point = refl; name = refl }
+
+  second-y-min : isMoved (c3 .second) ≡ true → Still (c3 .seg .p1) (upTo YMax b s .seg .p1) (c3 .second) (upTo YMax b s .second)
+  second-y-min m = through (told-y-min .told1) (step-y-max b h c3 .end1) m (λ z. record { point = refl; name = refl })
+
+  second-x-max : isMoved (c2 .second) ≡ true → Still (c2 .seg .p1) (upTo YMax b s .seg .p1) (c2 .second) (upTo YMax b s .second)
+  second-x-max m = through (told-x-max .told1) (step-y-min b h c2 .end1) m second-y-min
+
+  pub second-once : (e : Edge) → isMoved (upTo e b s .second) ≡ true → Still (upTo e b s .seg .p1) (cuts b s .seg .p1) (upTo e b s .second) (cuts b s .second)
+  unfolding cuts
+  second-once Stayed m = absurd (let z : _≡_ {A = ℕ} 0 1 = cc in omega arith)
+  second-once XMin m = through (told-x-min .told1) (step-x-max b h c1 .end1) m second-x-max
+  second-once XMax m = second-x-max m
+  second-once YMin m = second-y-min m
+  second-once YMax m = record { point = refl; name = refl }

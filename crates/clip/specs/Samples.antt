@@ -7,9 +7,9 @@ use Rattle.refusal.specs.Said.{Said, accepted}
 use Rattle.clip.specs.declared.Seg.{Seg}
 use Rattle.clip.specs.declared.BBox.{BBox}
 use Rattle.clip.specs.declared.ClippedSeg.{ClippedSeg}
-use Rattle.clip.specs.declared.Edge.the-variants.{Stayed, XMax}
+use Rattle.clip.specs.declared.Edge.the-variants.{XMax}
 use Rattle.clip.specs.Domain.{isCoord, isGood}
-use Rattle.clip.specs.Cutting.{crossAtX, given, cuts, overlap, clip}
+use Rattle.clip.specs.Cutting.{crossAtX, given, secondTo, cuts, overlap, clip}
 use Rattle.clip.specs.Answer.{clipped}
 
 abbrev pub from : ℤ → ℤ → ℤ → ℤ → Seg
@@ -28,6 +28,9 @@ done s = accepted (given s ∷ [])
 abbrev pub inTen : Seg
 inTen = from (pos 1) (pos 1) (pos 2) (pos 2)
 
+abbrev pub farTen : Seg
+farTen = from (pos 1) (pos 1) (pos 1073741823) (pos 1)
+
 pub edge-at-limit : clipped inTen (box (negsuc 1073741822) (pos 1073741823)) ≡ done inTen
 unfolding clipped isGood isCoord clip overlap cuts crossAtX
 edge-at-limit = refl
@@ -36,7 +39,7 @@ pub edge-beyond : clipped inTen (box (pos 0) (pos 1073741824)) .number ≡ 3
 unfolding clipped isGood
 edge-beyond = refl
 
-pub coord-at-limit : clipped (from (pos 1) (pos 1) (pos 1073741823) (pos 1)) ten ≡ accepted (record { seg = from (pos 1) (pos 1) (pos 10) (pos 1); first = Stayed; second = XMax } ∷ [])
+pub coord-at-limit : clipped farTen ten ≡ accepted (secondTo XMax (record { x = pos 10; y = pos 1 }) (given farTen) ∷ [])
 unfolding clipped isGood isCoord clip overlap cuts crossAtX
 coord-at-limit = refl
 

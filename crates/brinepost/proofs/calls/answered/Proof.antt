@@ -10,6 +10,12 @@ enum-known-r c = search needs
 state-to-requires : tie.Need-state-to-requires
 state-to-requires c κs = search needs
 
+number-requires : tie.Need-number-requires
+number-requires c κs = search needs
+
+number-requires-2 : tie.Need-number-requires-2
+number-requires-2 c κs = search needs
+
 enum-known-r-2 : tie.Need-enum-known-r-2
 enum-known-r-2 c = search needs
 
@@ -25,4 +31,12 @@ returns-2 c = search (needs, drawn-not)
 pub answered-spec : {M : Type 1} → statement M
 answered-spec =
     tie.close
-    (tie.spec enum-known-r state-to-requires enum-known-r-2 refused-requires returns returns-2)
+    (tie.spec
+    enum-known-r
+    state-to-requires
+    number-requires
+    number-requires-2
+    enum-known-r-2
+    refused-requires
+    returns
+    returns-2)

@@ -32,7 +32,9 @@ returns-2 c =
     let t = p .before .before in
     let i = t .before in
     let s = i .before .before .before in
-    add-told _ _ _ (i .before .are-flags .ensures) (i .if1 .left) _ (t .state-of .ensures) (p .add-point .result) _ _ (c .answered .ensures) _ _ (rw (toZ-ofZ (s .fits .x), toZ-ofZ (s .fits .y)) at (p .add-point .ensures))
+    add-told _ _ _ (i .before .are-flags .ensures) (i .if1 .left) _ (t .state-of .ensures) (p .add-point .result) _ _ (c .answered .ensures) _ _
+    (rw (toZ-ofZ (s .fits .x), toZ-ofZ (s .fits .y)) at (p .add-point .ensures .0))
+    (rw (toZ-ofZ (s .fits .x), toZ-ofZ (s .fits .y)) at (p .add-point .ensures .1))
 
 pub bp-encoder-add-point-spec : {M : Type 1} → statement M
 bp-encoder-add-point-spec =

@@ -106,7 +106,7 @@ returns-3 c =
     let k : tie.After-known-told = apart c .before .before .before in
     let a = k .before .before .before in
     let m = made (good (a .before)) in
-    of-numbers m _ (clip-done _ (seg m) (box m) (a .clip .ensures .0) _ (cut k) (k .before .c .given .1) (ends-read (x0 k) (y0 k) (x1 k) (y1 k) _ (c .accepted2 .ensures)))
+    of-numbers m _ (clip-done _ (seg m) (box m) (a .clip .ensures .0) _ (cut k) (k .before .c .given .1) (ends-read (x0 k) (y0 k) (x1 k) (y1 k) (cut k .first) (cut k .second) _ (c .accepted2 .ensures)))
 
 enum-known-k : tie.Need-enum-known-k
 enum-known-k c = search needs
