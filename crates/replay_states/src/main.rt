@@ -94,7 +94,7 @@ fn started(case: &[u32]) -> GeomEncoder {
 // The state that a call leaves.
 fn drawn(d: Drawn) -> GeomEncoder {
     match d {
-        Drawn::Done(q) => q,
+        Drawn::Done(q, _) => q,
         Drawn::Refused(r, q) => {
             replay::print_refused(r, 0);
             q

@@ -3,7 +3,7 @@
 use Prim.Native.Nat.{ℕ, zero, suc, _/_, _%_}
 use mathlib.Core.Path.{_≡_, refl, ap}
 use mathlib.Core.Bool.{false, cond, not}
-use mathlib.Core.List.{List, [], _∷_}
+use mathlib.Core.List.{List, [], _∷_, map}
 use lib.Dec.{leb, ltb, eqb}
 use lib.IntN.{ℤ, pos, negsuc, negℤ}
 use lib.ListN.{length, take, drop, replicate}
@@ -18,9 +18,11 @@ use Rattle.words.specs.Params.{param, unparam}
 use Rattle.clip.specs.declared.Pt.{Pt}
 use Rattle.clip.specs.declared.Seg.{Seg}
 use Rattle.clip.specs.declared.BBox.{BBox}
+use Rattle.clip.specs.declared.ClippedSeg.{ClippedSeg}
+use Rattle.clip.specs.declared.Edge.the-variants.{XMin, XMax, YMin, YMax}
 use Rattle.clip.specs.Domain.{isCoord, isGood}
 use Rattle.clip.specs.Rounding.{round}
-use Rattle.clip.specs.Cutting.{crossAtX, crossAtY, replace, cuts, overlap, clip}
+use Rattle.clip.specs.Cutting.{crossAtX, crossAtY, given, replace, cuts, overlap, clip}
 use Rattle.clip.specs.Answer.{clipped}
 use Rattle.clip.specs.Numbers.{segAt}
 use Rattle.encoder.specs.declared.GeomEncoder.{GeomEncoder}
@@ -57,11 +59,11 @@ pub nine-nought-nought : ((kind : ℕ) (b : BBox) (ps : List ℤ) (ends out : Li
 unfolding encodedJob isJob isGood valid isCoord boundary emission param finished added completed
 nine-nought-nought h = let e : _≡_ {A = ℕ} 10 0 = ap (item 1) (h 1 hundred (pos 5 ∷ pos 7 ∷ []) (1 ∷ []) (replicate 8 0) refl) in omega arith
 
--- ---- "a clip that returns its segment untouched": where it is accepted
-pub untouched : ((s : Seg) (b : BBox) → clipped s b .number ≡ 0 → clipped s b .values ≡ record { seg = s } ∷ []) → ⊥
+-- ---- "a clip that returns its segment untouched": where it is accepted, whatever edges it names
+pub untouched : ((s : Seg) (b : BBox) → clipped s b .number ≡ 0 → map (λ (c : ClippedSeg). c .seg) (clipped s b .values) ≡ s ∷ []) → ⊥
 unfolding clipped isGood isCoord clip overlap cuts crossAtX
 untouched h =
-    let e : _≡_ {A = ℕ} 10 990 = ap (λ l. item 2 (firstCorners l)) (h (segAt (negsuc 9) (pos 0) (pos 990) (pos 51)) ten refl) in omega arith
+    let e : _≡_ {A = ℕ} 10 990 = ap (λ l. item 2 (firstCorners (map given l))) (h (segAt (negsuc 9) (pos 0) (pos 990) (pos 51)) ten refl) in omega arith
 
 -- ---- "a call that writes no words": the list after the call is the list before
 pub writes-no-words : ((s : GeomEncoder) (p : Pt) (out : List ℕ) → added s p out .memory ≡ out) → ⊥
@@ -115,21 +117,29 @@ pub halves-away : ((n d : ℤ) → round n d ≡ cond (ltZ n (pos 0)) (negℤ (r
 halves-away h = let e : _≡_ {A = ℕ} 0 1 = ap size (h (negsuc 0) (pos 2)) in omega arith
 
 -- ---- "Cutting the original segment four times: (10,1) instead of (10,2)": each edge's crossing is that of the segment as given
-abbrev onceXMin : BBox → Seg → Seg → Seg
-onceXMin b s c = replace (ltZ (c .p0 .x) (b .«x_min»)) (ltZ (c .p1 .x) (b .«x_min»)) c (crossAtX (s .p0) (s .p1) (b .«x_min») (b .«y_min») (b .«y_max»))
+abbrev onceXMin : BBox → Seg → ClippedSeg → ClippedSeg
+onceXMin b s c =
+    replace XMin (ltZ (c .seg .p0 .x) (b .«x_min»)) (ltZ (c .seg .p1 .x) (b .«x_min»)) c
+    (crossAtX (s .p0) (s .p1) (b .«x_min») (b .«y_min») (b .«y_max»))
 
-abbrev onceXMax : BBox → Seg → Seg → Seg
-onceXMax b s c = replace (ltZ (b .«x_max») (c .p0 .x)) (ltZ (b .«x_max») (c .p1 .x)) c (crossAtX (s .p0) (s .p1) (b .«x_max») (b .«y_min») (b .«y_max»))
+abbrev onceXMax : BBox → Seg → ClippedSeg → ClippedSeg
+onceXMax b s c =
+    replace XMax (ltZ (b .«x_max») (c .seg .p0 .x)) (ltZ (b .«x_max») (c .seg .p1 .x)) c
+    (crossAtX (s .p0) (s .p1) (b .«x_max») (b .«y_min») (b .«y_max»))
 
-abbrev onceYMin : BBox → Seg → Seg → Seg
-onceYMin b s c = replace (ltZ (c .p0 .y) (b .«y_min»)) (ltZ (c .p1 .y) (b .«y_min»)) c (crossAtY (s .p0) (s .p1) (b .«y_min») (b .«x_min») (b .«x_max»))
+abbrev onceYMin : BBox → Seg → ClippedSeg → ClippedSeg
+onceYMin b s c =
+    replace YMin (ltZ (c .seg .p0 .y) (b .«y_min»)) (ltZ (c .seg .p1 .y) (b .«y_min»)) c
+    (crossAtY (s .p0) (s .p1) (b .«y_min») (b .«x_min») (b .«x_max»))
 
-abbrev onceYMax : BBox → Seg → Seg → Seg
-onceYMax b s c = replace (ltZ (b .«y_max») (c .p0 .y)) (ltZ (b .«y_max») (c .p1 .y)) c (crossAtY (s .p0) (s .p1) (b .«y_max») (b .«x_min») (b .«x_max»))
+abbrev onceYMax : BBox → Seg → ClippedSeg → ClippedSeg
+onceYMax b s c =
+    replace YMax (ltZ (b .«y_max») (c .seg .p0 .y)) (ltZ (b .«y_max») (c .seg .p1 .y)) c
+    (crossAtY (s .p0) (s .p1) (b .«y_max») (b .«x_min») (b .«x_max»))
 
 -- the four cuts so, in their order
 pub original-cut-four-times : ((b : BBox) (s : Seg)
-    → clip b s .seg ≡ cond (overlap b s) (onceYMax b s (onceYMin b s (onceXMax b s (onceXMin b s s)))) s) → ⊥
+    → clip b s .seg ≡ cond (overlap b s) (onceYMax b s (onceYMin b s (onceXMax b s (onceXMin b s (given s)))) .seg) s) → ⊥
 unfolding clip overlap cuts crossAtX
 original-cut-four-times h =
     let e : _≡_ {A = ℕ} 2 1 = ap (λ l. item 3 (cornersOf l)) (h ten (segAt (negsuc 9) (pos 0) (pos 990) (pos 51))) in omega arith

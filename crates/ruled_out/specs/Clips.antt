@@ -1,7 +1,7 @@
--- Crate `clip`: wrong limits, wrong tests of points and boxes, wrong roundings and wrong cuts.
+-- Crate `clip`: wrong limits, wrong tests of points and boxes, wrong roundings, wrong cuts and wrong names of edges.
 use Prim.Native.Nat.{ℕ}
 use mathlib.Core.Path.{_≡_, refl, ap}
-use mathlib.Core.Bool.{true, cond, _&&_}
+use mathlib.Core.Bool.{true, false, cond, _&&_}
 use mathlib.Core.List.{List, [], _∷_}
 use lib.IntN.{ℤ, pos, negsuc, negℤ, _+ℤ_, _-ℤ_, _*ℤ_}
 use lib.Signed.{_≤ℤ_, _<ℤ_, ltZ, leZ, leZ-yes, ltZ-yes, quotZ}
@@ -13,12 +13,14 @@ use Rattle.clip.specs.declared.Pt.{Pt}
 use Rattle.clip.specs.declared.Seg.{Seg}
 use Rattle.clip.specs.declared.BBox.{BBox}
 use Rattle.clip.specs.declared.ClippedSeg.{ClippedSeg}
+use Rattle.clip.specs.declared.Edge.{Edge}
+use Rattle.clip.specs.declared.Edge.the-variants.{Stayed, XMin, XMax, YMin, YMax}
 use Rattle.clip.specs.Domain.{limit, within, isCoord, isInside, isGood}
 use Rattle.clip.specs.Rounding.{round}
-use Rattle.clip.specs.Cutting.{crossAtX, replace, cutXMin, cutXMax, cutYMin, cutYMax, cuts, overlap, clip}
+use Rattle.clip.specs.Cutting.{crossAtX, given, replace, cutXMin, cutXMax, cutYMin, cutYMax, cuts, overlap, clip}
 use Rattle.clip.specs.Answer.{areCoords, clipped}
-use Rattle.clip.specs.Numbers.{segAt, boxAt}
-use Rattle.clip.specs.Demand3.{Share, along}
+use Rattle.clip.specs.Numbers.{segAt, boxAt, edgeNumber, isMoved}
+use Rattle.clip.specs.Demand3.{Share, along, Passed, Holds}
 use Rattle.clip.proofs.Tight.{not-half}
 use Rattle.ruled_out.specs.Inputs.{bit, size, item, firstCorners, ten, flat}
 
@@ -82,20 +84,21 @@ not-rounded h = let e : _≡_ {A = ℕ} 1 0 = ap size (h (pos 1) (pos 2)) in ome
 
 -- ---- the cuts
 -- an end on the edge is taken for one outside it, so that the other end stays outside
-pub edge-not-strict : ((b : BBox) (s : Seg) → cutXMin b s ≡ replace (leZ (s .p0 .x) (b .«x_min»)) (leZ (s .p1 .x) (b .«x_min»)) s
-    (crossAtX (s .p0) (s .p1) (b .«x_min») (b .«y_min») (b .«y_max»))) → ⊥
+pub edge-not-strict : ((b : BBox) (c : ClippedSeg) → cutXMin b c ≡ replace XMin (leZ (c .seg .p0 .x) (b .«x_min»)) (leZ (c .seg .p1 .x) (b .«x_min»)) c
+    (crossAtX (c .seg .p0) (c .seg .p1) (b .«x_min») (b .«y_min») (b .«y_max»))) → ⊥
 unfolding crossAtX
-edge-not-strict h = let e : _≡_ {A = ℕ} 0 5 = ap (λ (s : Seg). size (s .p1 .x)) (h ten (segAt (pos 0) (pos 5) (negsuc 4) (pos 5))) in omega arith
+edge-not-strict h =
+    let e : _≡_ {A = ℕ} 0 5 = ap (λ (c : ClippedSeg). size (c .seg .p1 .x)) (h ten (given (segAt (pos 0) (pos 5) (negsuc 4) (pos 5)))) in omega arith
 
 -- the y cuts before the x cuts
-pub y-before-x : ((b : BBox) (s : Seg) → cuts b s ≡ cutXMax b (cutXMin b (cutYMax b (cutYMin b s)))) → ⊥
+pub y-before-x : ((b : BBox) (s : Seg) → cuts b s ≡ cutXMax b (cutXMin b (cutYMax b (cutYMin b (given s))))) → ⊥
 unfolding cuts crossAtX
-y-before-x h = let e : _≡_ {A = ℕ} 1 0 = ap (λ (s : Seg). size (s .p0 .y)) (h ten (segAt (negsuc 0) (negsuc 0) (pos 0) (pos 1))) in omega arith
+y-before-x h = let e : _≡_ {A = ℕ} 1 0 = ap (λ (c : ClippedSeg). size (c .seg .p0 .y)) (h ten (segAt (negsuc 0) (negsuc 0) (pos 0) (pos 1))) in omega arith
 
 -- the cut at y_max left out
-pub top-not-cut : ((b : BBox) (s : Seg) → cuts b s ≡ cutYMin b (cutXMax b (cutXMin b s))) → ⊥
+pub top-not-cut : ((b : BBox) (s : Seg) → cuts b s ≡ cutYMin b (cutXMax b (cutXMin b (given s)))) → ⊥
 unfolding cuts crossAtX
-top-not-cut h = let e : _≡_ {A = ℕ} 10 12 = ap (λ (s : Seg). size (s .p1 .y)) (h ten (segAt (pos 5) (pos 5) (pos 5) (pos 12))) in omega arith
+top-not-cut h = let e : _≡_ {A = ℕ} 10 12 = ap (λ (c : ClippedSeg). size (c .seg .p1 .y)) (h ten (segAt (pos 5) (pos 5) (pos 5) (pos 12))) in omega arith
 
 -- ---- Demand 3
 -- some point of the exact segment s lies less than one half to the right of p, and p less than one half above it
@@ -111,6 +114,58 @@ pub less-than-half : ((b : BBox) (s : Seg) → isGood b ≡ true → Half s (cli
 unfolding clip isGood overlap cuts crossAtX
 less-than-half h =
     let n = h ten (segAt (negsuc 9) (pos 0) (pos 990) (pos 51)) refl in not-half (n .k) (n .d) (n .share) (n .right) (n .below)
+
+-- ---- the edge that is named for an end (document 02, request (v))
+-- an end that x_min is named for lies on x_max
+pub held-by-x-max : ((b : BBox) (s : Seg) → isGood b ≡ true → clip b s .first ≡ XMin → clip b s .seg .p0 .x ≡ b .«x_max») → ⊥
+unfolding clip isGood overlap cuts crossAtX
+held-by-x-max h = let e : _≡_ {A = ℕ} 0 10 = ap size (h ten (segAt (negsuc 9) (pos 0) (pos 990) (pos 51)) refl refl) in omega arith
+
+-- the names of the two ends exchanged
+pub names-exchanged : ((b : BBox) (s : Seg) → clip b s ≡ record { seg = clip b s .seg; first = clip b s .second; second = clip b s .first }) → ⊥
+unfolding clip overlap cuts crossAtX
+names-exchanged h =
+    let e : _≡_ {A = ℕ} 1 2 = ap (λ (c : ClippedSeg). edgeNumber (c .first)) (h ten (segAt (negsuc 9) (pos 0) (pos 990) (pos 51))) in omega arith
+
+-- the cut at x_min named as its neighbour y_min
+pub named-as-neighbour : ((b : BBox) (c : ClippedSeg) → cutXMin b c ≡ replace YMin (ltZ (c .seg .p0 .x) (b .«x_min»)) (ltZ (c .seg .p1 .x) (b .«x_min»)) c
+    (crossAtX (c .seg .p0) (c .seg .p1) (b .«x_min») (b .«y_min») (b .«y_max»))) → ⊥
+unfolding crossAtX
+named-as-neighbour h =
+    let e : _≡_ {A = ℕ} 1 3 = ap (λ (c : ClippedSeg). edgeNumber (c .first)) (h ten (given (segAt (negsuc 4) (pos 5) (pos 5) (pos 5)))) in omega arith
+
+-- no end is named
+pub moved-unnamed : ((b : BBox) (s : Seg) → clip b s ≡ given (clip b s .seg)) → ⊥
+unfolding clip overlap cuts crossAtX
+moved-unnamed h =
+    let e : _≡_ {A = ℕ} 1 0 = ap (λ (c : ClippedSeg). edgeNumber (c .first)) (h ten (segAt (negsuc 9) (pos 0) (pos 990) (pos 51))) in omega arith
+
+-- an edge is named because its line holds the end: both edges of a corner hold this one, and y_min made the move
+pub named-for-holding : ((b : BBox) (s : Seg) → Holds XMin b (clip b s .seg .p0) → clip b s .first ≡ XMin) → ⊥
+unfolding clip overlap cuts crossAtX
+named-for-holding h = let e : _≡_ {A = ℕ} 3 1 = ap edgeNumber (h ten (segAt (pos 0) (negsuc 0) (negsuc 0) (pos 1)) refl) in omega arith
+
+-- an edge is named because the end as given lay outside it: both of these ends lie left of the box and above it, and stay
+pub named-for-passing : ((b : BBox) (s : Seg) → Passed XMin b (s .p0) → clip b s .first ≡ XMin) → ⊥
+unfolding clip overlap cuts crossAtX
+named-for-passing h = let e : _≡_ {A = ℕ} 0 1 = ap edgeNumber (h ten (segAt (negsuc 4) (pos 20) (negsuc 3) (pos 21)) (ltZ-yes tt)) in omega arith
+
+-- ---- Edge::number, is_moved
+-- the y edges before the x edges
+pub y-numbered-first : edgeNumber YMin ≡ 1 → ⊥
+y-numbered-first h = let e : _≡_ {A = ℕ} 3 1 = h in omega arith
+
+-- the upper edges have the lower ones' numbers
+pub sides-not-told-apart : edgeNumber XMax ≡ edgeNumber XMin → ⊥
+sides-not-told-apart h = let e : _≡_ {A = ℕ} 2 1 = h in omega arith
+
+-- only the x edges move an end
+pub moved-at-x-only : isMoved YMax ≡ false → ⊥
+moved-at-x-only h = let e : _≡_ {A = ℕ} 1 0 = ap bit h in omega arith
+
+-- an end that stayed is one that moved
+pub stayed-is-moved : ((e : Edge) → isMoved e ≡ true) → ⊥
+stayed-is-moved h = let e : _≡_ {A = ℕ} 0 1 = ap bit (h Stayed) in omega arith
 
 -- ---- clip
 -- COORD is asked before BOX
@@ -129,7 +184,7 @@ second-end-unasked h =
 
 -- a refused clip gives the segment back
 pub refused-gives-segment : ((s : Seg) (b : BBox)
-    → clipped s b ≡ cond (isGood b) (cond (areCoords s) (accepted (clip b s ∷ [])) (refused Coord (record { seg = s } ∷ []))) (refused Box [])) → ⊥
+    → clipped s b ≡ cond (isGood b) (cond (areCoords s) (accepted (clip b s ∷ [])) (refused Coord (given s ∷ []))) (refused Box [])) → ⊥
 unfolding clipped isGood isCoord
 refused-gives-segment h =
     let e : _≡_ {A = ℕ} 0 1073741824 = ap (λ (a : Said (List ClippedSeg)). item 2 (firstCorners (a .values)))

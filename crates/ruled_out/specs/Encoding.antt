@@ -17,16 +17,18 @@ use Rattle.clip.specs.declared.Pt.{Pt}
 use Rattle.clip.specs.declared.BBox.{BBox}
 use Rattle.clip.specs.Domain.{isCoord, isGood}
 use Rattle.clip.specs.Cutting.{crossAtX, cuts, overlap, clip}
+use Rattle.clip.specs.Numbers.{edgeNumber}
 use Rattle.encoder.specs.declared.points.MaybePt.{MaybePt}
 use Rattle.encoder.specs.declared.points.MaybePt.the-variants.{Nowhere}
 use Rattle.encoder.specs.Points.{inLimit, inLimits}
 use Rattle.encoder.specs.Pushed.{moveTo, lineTo, closePath, command}
 use Rattle.encoder.specs.Figures.{figuresFit}
 use Rattle.encoder.specs.declared.GeomEncoder.{GeomEncoder}
+use Rattle.encoder.specs.declared.Edges.{Edges}
 use Rattle.encoder.specs.States.{fresh, valid}
-use Rattle.encoder.specs.Answers.{done, turned, fitting, started}
+use Rattle.encoder.specs.Answers.{Counted, done, turned, none, passed, fitting, started}
 use Rattle.encoder.specs.Emitting.{Emission, takenOut, popped, steps, placeOf, pushed, emittedAt, emission}
-use Rattle.encoder.specs.Adding.{boundary, drawn, pointAt, added}
+use Rattle.encoder.specs.Adding.{boundary, edgesFrom, edges, drawn, pointAt, added}
 use Rattle.encoder.specs.Completing.{counting, closing, cleared, finished, closed, completed}
 use Rattle.ruled_out.specs.Inputs.{bit, item, firstUsed, isThere, ten, hundred, flat, state, point, afterOne, afterTwo}
 
@@ -95,6 +97,31 @@ pub boundary-left-out : ((s : GeomEncoder) (p : Pt) → boundary s p ≡ []) →
 unfolding boundary clip overlap cuts crossAtX
 boundary-left-out h =
     let e : _≡_ {A = ℕ} 1 0 = ap length (h (state 2 (point (negsuc 4) (pos 3)) Nowhere (point (pos 0) (pos 3)) 0 1 3) (pointAt (pos 15) (pos 8))) in omega arith
+
+-- ---- GeomEncoder::add_point: the edges (document 02, request (v)), of the segment from (-5,3) to (5,8), whose first end is cut
+abbrev leftOf : ℕ → GeomEncoder
+leftOf kind = state kind (point (negsuc 4) (pos 3)) Nowhere (point (pos 0) (pos 3)) 0 1 3
+
+-- no edges
+pub edges-left-out : ((s : GeomEncoder) (p : Pt) → edges s p ≡ none) → ⊥
+unfolding edges clip overlap cuts crossAtX
+edges-left-out h = let e : _≡_ {A = ℕ} 1 0 = ap (λ (n : Edges). edgeNumber (n .first)) (h (leftOf 2) (pointAt (pos 5) (pos 8))) in omega arith
+
+-- the edges of the two ends exchanged
+pub edges-exchanged : ((s : GeomEncoder) (p : Pt) → edges s p ≡ record { first = edges s p .second; second = edges s p .first }) → ⊥
+unfolding edges clip overlap cuts crossAtX
+edges-exchanged h = let e : _≡_ {A = ℕ} 1 0 = ap (λ (n : Edges). edgeNumber (n .first)) (h (leftOf 2) (pointAt (pos 5) (pos 8))) in omega arith
+
+-- a geometry of points names edges too
+pub edges-of-points : ((s : GeomEncoder) (p : Pt) → edges s p ≡ edgesFrom (s .bbox) (s .«xy_end») p) → ⊥
+unfolding edges clip overlap cuts crossAtX
+edges-of-points h = let e : _≡_ {A = ℕ} 0 1 = ap (λ (n : Edges). edgeNumber (n .first)) (h (leftOf 1) (pointAt (pos 5) (pos 8))) in omega arith
+
+-- a refused call names edges
+pub refused-names-edges : ((a : Said Counted) (n : Edges) → passed a n ≡ n) → ⊥
+unfolding edges clip overlap cuts crossAtX
+refused-names-edges h =
+    let e : _≡_ {A = ℕ} 0 1 = ap (λ (n : Edges). edgeNumber (n .first)) (h (turned Room (leftOf 2)) (edges (leftOf 2) (pointAt (pos 5) (pos 8)))) in omega arith
 
 -- ---- GeomEncoder::add_point: the call
 -- the state without its last point

@@ -10,6 +10,8 @@ use Rattle.refusal.specs.Said.{Said}
 use Rattle.clip.specs.declared.Seg.{Seg}
 use Rattle.clip.specs.declared.BBox.{BBox}
 use Rattle.clip.specs.declared.ClippedSeg.{ClippedSeg}
+use Rattle.clip.specs.declared.Edge.{Edge}
+use Rattle.clip.specs.declared.Edge.the-variants.{Stayed, XMin, XMax, YMin}
 use Rattle.clip.specs.Domain.{isCoord, isGood}
 use Rattle.clip.specs.Cutting.{clip, overlap, cuts, crossAtX}
 use Rattle.clip.specs.Answer.{clipped}
@@ -42,7 +44,7 @@ pub data Asked : Type 0 where
 -- ---- what is given: the refusal's number, or zero; a job's words, and three numbers a vertex of their reading; a clip's segment; a tile's bytes
 pub data Given : Type 0 where
   words : ℕ → List ℕ → List ℤ → Given
-  segment : ℕ → List ClippedSeg → Given
+  segment : ℕ → List Seg → Given
   bytes : ℕ → List ℕ → Given
 
 -- the vertices that words read to
@@ -54,7 +56,7 @@ abbrev pub jobGives : Written (Said ℕ) (List ℕ) → Given
 jobGives w = words (w .answer .number) (take (w .answer .values) (w .memory)) (readBack (trace (take (w .answer .values) (w .memory))))
 
 abbrev pub cutGives : Said (List ClippedSeg) → Given
-cutGives a = segment (a .number) (a .values)
+cutGives a = segment (a .number) (map (λ (c : ClippedSeg). c .seg) (a .values))
 
 abbrev pub tileGives : Written (Said Tile) TileMemory → Given
 tileGives w = bytes (w .answer .number) (take (w .answer .values .used) (w .memory .bytes))
@@ -127,17 +129,17 @@ samples =
     -- a clip: cut at both sides
     record {
       asked = cut (box 10) (from (negsuc 9) (pos 0) (pos 990) (pos 51));
-      expected = segment 0 (record { seg = from (pos 0) (pos 1) (pos 10) (pos 2) } ∷ []);
+      expected = segment 0 (from (pos 0) (pos 1) (pos 10) (pos 2) ∷ []);
     } ∷
     -- a clip: misses the box
     record {
       asked = cut (box 10) (from (negsuc 0) (pos 0) (pos 1) (negsuc 0));
-      expected = segment 0 (record { seg = from (pos 0) (pos 0) (pos 0) (pos 0) } ∷ []);
+      expected = segment 0 (from (pos 0) (pos 0) (pos 0) (pos 0) ∷ []);
     } ∷
     -- a clip: a miss
     record {
       asked = cut (box 10) (from (pos 0) (negsuc 0) (negsuc 0) (pos 1));
-      expected = segment 0 (record { seg = from (pos 0) (pos 0) (negsuc 0) (pos 1) } ∷ []);
+      expected = segment 0 (from (pos 0) (pos 0) (negsuc 0) (pos 1) ∷ []);
     } ∷
     -- a tile of extent 4096 with layer "a", which has no features: 1A 08 0A 01 61 28 80 20 78 02
     record {
@@ -151,3 +153,23 @@ pub samples-hold : map (λ (s : Sample). gives (s .asked)) samples ≡ map (λ (
 unfolding encodedJob isJob valid isCoord isGood emission boundary added finished completed clip overlap cuts crossAtX clipped
     param unparam drawn commands traceFrom addLayer validTile validLayer layerField layerBytes nameAt textField delimited varintField head varint
 samples-hold = refl
+
+-- ---- the edges that the three P clips name, of the first end and of the second (document 02, request (v))
+abbrev pub edgesOf : List ClippedSeg → List Edge
+edgesOf [] = []
+edgesOf (c ∷ cs) = c .first ∷ c .second ∷ edgesOf cs
+
+-- cut at both sides
+pub both-sides : edgesOf (clipped (from (negsuc 9) (pos 0) (pos 990) (pos 51)) (box 10) .values) ≡ XMin ∷ XMax ∷ []
+unfolding clipped isGood isCoord clip overlap cuts crossAtX
+both-sides = refl
+
+-- misses the box: both ends come to the corner, each by another edge
+pub to-the-corner : edgesOf (clipped (from (negsuc 0) (pos 0) (pos 1) (negsuc 0)) (box 10) .values) ≡ XMin ∷ YMin ∷ []
+unfolding clipped isGood isCoord clip overlap cuts crossAtX
+to-the-corner = refl
+
+-- a miss: x_min holds the moved end too, and is not named
+pub one-of-two-edges : edgesOf (clipped (from (pos 0) (negsuc 0) (negsuc 0) (pos 1)) (box 10) .values) ≡ YMin ∷ Stayed ∷ []
+unfolding clipped isGood isCoord clip overlap cuts crossAtX
+one-of-two-edges = refl
