@@ -11,8 +11,8 @@
  *   fields (padding) no promise speaks of. None has to be cleared before a call: what a function answers has every field.
  * Refusals. `refusal` is 0 where a call is accepted, else a number of bp_refusal, and the first check that fails tells it: each function names its checks
  *   in their order. A refused call writes nowhere, says 0 for its counts and edges and gives the state back as it was given. Two differ. A whole job leaves
- *   at its first refused call the words as the accepted calls left them, and says how many points were accepted. Many features in one call keep up to the
- *   first refused feature what the accepted ones made, say how many these are and give back the layer with them.
+ *   at its first refused call the words, and the list of edges where it has one, as the accepted calls left them, and says how many points were accepted.
+ *   Many features in one call keep up to the first refused feature what the accepted ones made, say how many these are and give back the layer with them.
  * Threads. No function reads or writes anything but what it is given, so any may be called from any number of threads at once, as long as no list that one
  *   call writes is lent to another call at the same time.
  * What the libraries need. libbrinepost_tiles.a calls memset of the program's C library; nothing else is called, and no memory is allocated. */
@@ -91,6 +91,9 @@ enum bp_kind { BP_POINT = 1, BP_LINE = 2, BP_POLYGON = 3 };
 #define BP_LINE_WORDS(n) (6 * (size_t)(n) - 2)
 #define BP_POLYGON_WORDS(n) (6 * (size_t)(n) - 1)
 
+/* The numbers that the edges of n points take: two a point. */
+#define BP_EDGE_NUMBERS(n) (2 * (size_t)(n))
+
 /* The most numbers that the vertices of so many words take: a vertex a word, three numbers a vertex. */
 #define BP_READ_NUMBERS(words) (3 * (size_t)(words))
 
@@ -133,6 +136,13 @@ typedef struct bp_job {
 bp_job bp_encode_job(uint32_t kind, int32_t x_min, int32_t x_max, int32_t y_min, int32_t y_max,
                      const int32_t *points, size_t points_len, const uint32_t *ends, size_t ends_len,
                      uint32_t *words, size_t words_len);
+
+/* The same with its edges: in `edges` two numbers of bp_edge for each raw point, in order, what became of the first and of the second end of the segment that
+ * ends in it, as bp_encoder_add_point tells them. A point whose two entries the list lacks is ROOM, its last check; the entries of points that are not accepted
+ * stay as they were. Where the list has all of them (BP_EDGE_NUMBERS), answer and words are those of bp_encode_job. */
+bp_job bp_encode_job_edges(uint32_t kind, int32_t x_min, int32_t x_max, int32_t y_min, int32_t y_max,
+                           const int32_t *points, size_t points_len, const uint32_t *ends, size_t ends_len,
+                           uint32_t *words, size_t words_len, uint32_t *edges, size_t edges_len);
 
 /* ---- words to vertices */
 
@@ -374,7 +384,7 @@ typedef struct bp_tile_lists {
     size_t bytes_len;
 } bp_tile_lists;
 
-/* A geometry to be encoded, as bp_encode_job takes it. */
+/* A geometry to be encoded, as bp_encode_job and bp_encode_job_edges take it. */
 typedef struct bp_geometry {
     uint32_t kind;
     bp_box box;
@@ -440,6 +450,12 @@ static inline bp_job bp_encode_in(const bp_geometry *g, uint32_t *words, size_t 
 {
     return bp_encode_job(g->kind, g->box.x_min, g->box.x_max, g->box.y_min, g->box.y_max, BP_LENT(const int32_t, g->points, g->points_len),
                          BP_WORDS_OF(g->ends, g->ends_len), BP_LENT(uint32_t, words, words_len));
+}
+
+static inline bp_job bp_encode_edges_in(const bp_geometry *g, uint32_t *words, size_t words_len, uint32_t *edges, size_t edges_len)
+{
+    return bp_encode_job_edges(g->kind, g->box.x_min, g->box.x_max, g->box.y_min, g->box.y_max, BP_LENT(const int32_t, g->points, g->points_len),
+                               BP_WORDS_OF(g->ends, g->ends_len), BP_LENT(uint32_t, words, words_len), BP_LENT(uint32_t, edges, edges_len));
 }
 
 static inline bp_reading bp_decode_in(const uint32_t *words, size_t words_len, int32_t *out, size_t out_len)

@@ -42,25 +42,27 @@ AT(bp_drawn, edge1, 100);
 enum { GUARD = 8, ROOM = 64 };
 #define PATTERN 0xA5C3F00Du
 
-static uint32_t memory[GUARD + ROOM + GUARD];
-static uint32_t *const words = memory + GUARD;
+static uint32_t memory[GUARD + ROOM + GUARD], edge_memory[GUARD + ROOM + GUARD];
+static uint32_t *const words = memory + GUARD, *const named = edge_memory + GUARD;
 
 static void fill(void)
 {
     for (size_t i = 0; i < COUNT(memory); i++)
-        memory[i] = PATTERN + (uint32_t)i;
+        memory[i] = edge_memory[i] = PATTERN + (uint32_t)i;
 }
 
-/* So many words were written, and these; everything else is as it was. */
-static void written(int line, const uint32_t *expected, size_t count)
+/* So many elements of a list were written, and these; everything else is as it was. */
+static void written(int line, const char *what, const uint32_t *given, const uint32_t *expected, size_t count)
 {
     for (size_t i = 0; i < COUNT(memory); i++) {
         size_t at = i - GUARD;
-        same("a word", line, i >= GUARD && at < count ? expected[at] : PATTERN + (uint32_t)i, memory[i]);
+        same(what, line, i >= GUARD && at < count ? expected[at] : PATTERN + (uint32_t)i, given[i]);
     }
 }
-#define WRITTEN(list) written(__LINE__, list, COUNT(list))
-#define UNTOUCHED() written(__LINE__, NULL, 0)
+#define WRITTEN(list) written(__LINE__, "a word", memory, list, COUNT(list))
+#define UNTOUCHED() written(__LINE__, "a word", memory, NULL, 0)
+#define NAMED(list) written(__LINE__, "an edge", edge_memory, list, COUNT(list))
+#define UNNAMED() written(__LINE__, "an edge", edge_memory, NULL, 0)
 
 static void clips(void)
 {
@@ -190,6 +192,83 @@ static void jobs(void)
     const uint32_t none[] = {0};
     j = bp_encode_job(1, 0, 10, 0, 10, points, 0, none, 1, words, ROOM);
     SAME(BP_EMPTY, j.refusal), SAME(0, j.points), SAME(0, j.words);
+}
+
+static bp_job edge_job(uint32_t kind, size_t room, size_t edge_room)
+{
+    fill();
+    return bp_encode_job_edges(kind, -3, 40, 5, 17, points, COUNT(points), ends, COUNT(ends), words, room, named, edge_room);
+}
+
+static bp_job ring_job(const int32_t *ring, size_t edge_room)
+{
+    static const uint32_t three[] = {3};
+    fill();
+    return bp_encode_job_edges(BP_POLYGON, 0, 10, 0, 10, ring, 6, three, 1, words, ROOM, named, edge_room);
+}
+
+/* A job with its edges: the words of a job, and two numbers for each raw point. */
+static void edge_jobs(void)
+{
+    static const uint32_t line_edges[] = {0, 0, 1, 4, 4, 0, 0, 0, 0, 0}, no_edges[10];
+    bp_job j = edge_job(BP_LINE, ROOM, ROOM);
+    SAME(0, j.refusal), SAME(5, j.points), SAME(20, j.words), WRITTEN(line), NAMED(line_edges);
+    j = edge_job(BP_LINE, ROOM, BP_EDGE_NUMBERS(5));
+    SAME(0, j.refusal), SAME(5, j.points), SAME(20, j.words), WRITTEN(line), NAMED(line_edges);
+    j = edge_job(BP_POINT, ROOM, ROOM);
+    SAME(0, j.refusal), SAME(5, j.points), NAMED(no_edges);
+    /* no room for the words of the third point */
+    const uint32_t two[] = {9, 5, 10, 10, 0, 4, 54, 20, 32, 0}, two_edges[] = {0, 0, 1, 4};
+    j = edge_job(BP_LINE, 11, ROOM);
+    SAME(BP_ROOM, j.refusal), SAME(2, j.points), SAME(0, j.words), WRITTEN(two), NAMED(two_edges);
+
+    /* a ring that leaves the box and comes back, its words as bp_encode_job has them */
+    static const int32_t ring[] = {5, 5, 15, 5, 5, 15}, beyond[] = {5, 5, 15, 5, 5, BP_LIMIT + 1}, far[] = {-BP_LIMIT - 1, 5};
+    static const uint32_t one[] = {1}, three[] = {3}, ring_edges[] = {0, 0, 0, 2, 2, 4}, before[] = {0, 0, 0, 2};
+    uint32_t expected[COUNT(memory)];
+    fill();
+    bp_job plain = bp_encode_job(BP_POLYGON, 0, 10, 0, 10, ring, 6, three, 1, words, ROOM);
+    SAME(0, plain.refusal), SAME(3, plain.points);
+    memcpy(expected, memory, sizeof memory);
+    const size_t enough[] = {6, 7, ROOM};
+    for (size_t i = 0; i < COUNT(enough); i++) {
+        j = ring_job(ring, enough[i]);
+        SAME(0, j.refusal), SAME(3, j.points), SAME(plain.words, j.words), NAMED(ring_edges);
+        SAME(0, memcmp(expected, memory, sizeof memory));
+    }
+
+    /* a list that is a pair or an entry short: both lists as the calls for two points left them; COORD behind its end comes first */
+    fill();
+    bp_drawn d = bp_encoder_add_point(bp_encoder_new(BP_POLYGON, 0, 10, 0, 10).state, 5, 5, words, ROOM);
+    d = bp_encoder_add_point(d.state, 15, 5, words, ROOM);
+    SAME(0, d.refusal);
+    memcpy(expected, memory, sizeof memory);
+    for (size_t edge_room = 4; edge_room < 6; edge_room++) {
+        j = ring_job(ring, edge_room);
+        SAME(BP_ROOM, j.refusal), SAME(2, j.points), SAME(0, j.words), NAMED(before);
+        SAME(0, memcmp(expected, memory, sizeof memory));
+        j = ring_job(beyond, edge_room);
+        SAME(BP_COORD, j.refusal), SAME(2, j.points), SAME(0, j.words), NAMED(before);
+        SAME(0, memcmp(expected, memory, sizeof memory));
+    }
+    for (size_t edge_room = 0; edge_room < 2; edge_room++) {
+        fill();
+        j = bp_encode_job_edges(BP_LINE, 0, 10, 0, 10, ring, 2, one, 1, words, ROOM, named, edge_room);
+        SAME(BP_ROOM, j.refusal), SAME(0, j.points), SAME(0, j.words), UNTOUCHED(), UNNAMED();
+        j = bp_encode_job_edges(BP_LINE, 0, 10, 0, 10, far, 2, one, 1, words, ROOM, named, edge_room);
+        SAME(BP_COORD, j.refusal), SAME(0, j.points), SAME(0, j.words), UNTOUCHED(), UNNAMED();
+    }
+
+    /* JOB, KIND and BOX, in this order, leave both lists */
+    j = edge_job(4, ROOM, ROOM);
+    SAME(BP_KIND, j.refusal), SAME(0, j.points), SAME(0, j.words), UNTOUCHED(), UNNAMED();
+    SAME(BP_KIND, bp_encode_job_edges(0, 5, 5, 0, 1, ring, 6, three, 1, words, ROOM, named, ROOM).refusal);
+    SAME(BP_JOB, bp_encode_job_edges(0, 5, 5, 0, 1, ring, 5, three, 1, words, ROOM, named, ROOM).refusal);
+    SAME(BP_JOB, bp_encode_job_edges(2, 0, 1, 0, 1, ring, 6, three, 0, words, ROOM, named, ROOM).refusal);
+    SAME(BP_JOB, bp_encode_job_edges(2, 0, 1, 0, 1, ring, 6, one, 1, words, ROOM, named, ROOM).refusal);
+    SAME(BP_BOX, bp_encode_job_edges(2, 5, 5, 0, 1, ring, 6, three, 1, words, ROOM, named, ROOM).refusal);
+    SAME(BP_BOX, bp_encode_job_edges(2, 0, 1, 0, BP_LIMIT + 1, ring, 6, three, 1, words, ROOM, named, 0).refusal);
+    UNTOUCHED(), UNNAMED();
 }
 
 static void readings(void)
@@ -329,12 +408,21 @@ static void inlines(void)
     fill();
     bp_job j = bp_encode_in(&g, words, ROOM);
     SAME(0, j.refusal), SAME(5, j.points), SAME(20, j.words), WRITTEN(line);
+    const uint32_t line_edges[] = {0, 0, 1, 4, 4, 0, 0, 0, 0, 0};
+    fill();
+    j = bp_encode_edges_in(&g, words, ROOM, named, COUNT(line_edges));
+    SAME(0, j.refusal), SAME(5, j.points), SAME(20, j.words), WRITTEN(line), NAMED(line_edges);
+    j = bp_encode_edges_in(&g, words, ROOM, NULL, 0);
+    SAME(BP_ROOM, j.refusal), SAME(0, j.points);
     const uint32_t none[] = {0};
     g = (bp_geometry){BP_LINE, box, NULL, 0, none, 1};
     j = bp_encode_in(&g, NULL, 0);
     SAME(0, j.refusal), SAME(0, j.words);
+    j = bp_encode_edges_in(&g, NULL, 0, NULL, 0);
+    SAME(0, j.refusal), SAME(0, j.words);
     g.ends = NULL, g.ends_len = 0;
     SAME(BP_JOB, bp_encode_in(&g, NULL, 0).refusal);
+    SAME(BP_JOB, bp_encode_edges_in(&g, NULL, 0, NULL, 0).refusal);
     SAME(0, bp_decode_in(NULL, 0, NULL, 0).refusal);
     SAME(BP_ROOM, bp_decode_in(line, COUNT(line), NULL, 0).refusal);
 }
@@ -359,6 +447,7 @@ int main(void)
     clips();
     edges();
     jobs();
+    edge_jobs();
     readings();
     calls();
     return ended("clips, jobs, vertices and the encoder");

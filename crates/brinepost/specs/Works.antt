@@ -10,6 +10,7 @@ use Rattle.promise.specs.Answers.{Written}
 use Rattle.refusal.specs.Said.{Said}
 use Rattle.clip.specs.Numbers.{boxAt}
 use Rattle.encoder.specs.Jobs.{encodedJob}
+use Rattle.edge_job.specs.EdgeJobs.{Lists, edgeJob}
 use Rattle.telling.specs.Telling.{told}
 use Rattle.brinepost.specs.declared.work.BpJob.{BpJob}
 
@@ -23,3 +24,8 @@ flatJob n a =
 abbrev pub jobFrom : ℕ → ℤ → ℤ → ℤ → ℤ → List ℤ → List ℕ → List ℕ → Written BpJob (List ℕ)
 jobFrom kind left right bottom top points ends out =
     told (flatJob (length points / 2)) (encodedJob kind (boxAt left right bottom top) points ends out)
+
+-- the same with its edges, of the two lists that it writes
+abbrev pub edgeJobFrom : ℕ → ℤ → ℤ → ℤ → ℤ → List ℤ → List ℕ → Lists → Written BpJob Lists
+edgeJobFrom kind left right bottom top points ends m =
+    told (flatJob (length points / 2)) (edgeJob kind (boxAt left right bottom top) points ends m)

@@ -3,6 +3,7 @@
 // and tiles are crate `brinepost_tiles`, an archive of its own.
 pub mod segment; // one segment cut at a box
 pub mod work; // a whole job
+pub mod edged; // a whole job with its edges
 pub mod vertices; // words to vertices
 pub mod state; // an encoder's state as C carries it
 pub mod calls; // the encoder call by call

@@ -14,7 +14,7 @@ pub struct BpJob {
 }
 
 // Of a job with so many points.
-fn answered(r: Encoded, points: usize) -> BpJob
+pub(crate) fn answered(r: Encoded, points: usize) -> BpJob
     ensures { λ a. ⌜ a ≡ flatJob points (saidEncoded r) ⌝ }
 {
     match r {

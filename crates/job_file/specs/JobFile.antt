@@ -13,6 +13,9 @@ use Rattle.clip.specs.declared.BBox.{BBox}
 use Rattle.number_file.specs.Numbers.{maxBytes}
 use Rattle.whole.specs.Twos.{signed32}
 use Rattle.encoder.specs.Jobs.{encodedJob}
+use Rattle.edge_job.specs.EdgeJobs.{Lists, edgeJob}
+use Rattle.job_file.specs.declared.Body.{Body}
+use Rattle.job_file.specs.declared.Body.the-variants.{At, Cut}
 
 -- ---- the contents table
 abbrev pub kindOf : List ℕ → ℕ
@@ -49,3 +52,33 @@ jobFile file words =
 -- ---- what the private step `encode_body` promises: the job whose ends stand from 6 up to `body`, and whose points from there on
 abbrev pub bodyEncoded : List ℕ → ℕ → List ℕ → Written (Said ℕ) (List ℕ)
 bodyEncoded file body words = encodedJob (kindOf file) (boxOf file) (map signed32 (drop body file)) (take (body - 6) (drop 6 file)) words
+
+-- ---- the same file, with the edges of each raw point
+unfoldable pub jobFileEdges : List ℕ → Lists → Written (Said ℕ) Lists
+jobFileEdges file m =
+    cond (leb (length file) (maxBytes / 4))
+    (cond (leb 6 (length file))
+    (cond (leb (partsOf file) (length file - 6))
+    (edgeJob (kindOf file) (boxOf file) (pointsIn file) (endsOf file) m)
+    (kept (refused Job 0) m))
+    (kept (refused Job 0) m))
+    (kept (refused Job 0) m)
+
+abbrev pub bodyEdges : List ℕ → ℕ → Lists → Written (Said ℕ) Lists
+bodyEdges file body m = edgeJob (kindOf file) (boxOf file) (map signed32 (drop body file)) (take (body - 6) (drop 6 file)) m
+
+-- ---- where the points begin, by the same tests, and how many there are; a file that is refused for its table has none
+unfoldable pub bodyOf : List ℕ → Body
+bodyOf file =
+    cond (leb (length file) (maxBytes / 4))
+    (cond (leb 6 (length file))
+    (cond (leb (partsOf file) (length file - 6)) (At (6 + partsOf file)) Cut)
+    Cut)
+    Cut
+
+abbrev pub countIn : List ℕ → Body → ℕ
+countIn file (At body) = length (pointsIn file) / 2
+countIn file Cut = 0
+
+abbrev pub pointCount : List ℕ → ℕ
+pointCount file = countIn file (bodyOf file)

@@ -1,4 +1,4 @@
-// A job file's numbers to words (RULES 11): the contents table is taken apart, and the job encoded.
+// A job file's numbers to words (RULES 11), or to words and edges: the contents table is taken apart, and the job encoded.
 ghost use mathlib.Core.Path.{_≡_};
 ghost use mathlib.Core.List.{map};
 ghost use Prim.Native.Nat.{_≤_};
@@ -7,7 +7,8 @@ ghost use Rattle.promise.specs.Answers.{Gives};
 ghost use Rattle.promise.specs.Laid.{lay};
 ghost use Rattle.whole.specs.Twos.{signed32};
 ghost use Rattle.encoder.specs.Jobs.{saidEncoded};
-ghost use Rattle.job_file.specs.JobFile.{box, bodyEncoded, jobFile};
+ghost use Rattle.edge_job.specs.EdgeJobs.{lists};
+ghost use Rattle.job_file.specs.JobFile.{boxOf, bodyEncoded, jobFile, bodyOf, pointCount, bodyEdges, jobFileEdges};
 use clip::BBox;
 use encoder::whole_job::Encoded;
 use number::signed32;
@@ -27,15 +28,51 @@ fn lay_signed(numbers: &[u32], out: &mut [i32])
     }
 }
 
-// Four numbers as a box.
-fn box_of(left: u32, right: u32, bottom: u32, top: u32) -> BBox
-    ensures { λ r. ⌜ r ≡ box left right bottom top ⌝ }
+// The box of a file's contents table.
+fn box_of(file: &[u32]) -> BBox
+    requires { ⌜ 6 ≤ length (now file) ⌝ }
+    ensures { λ r. ⌜ r ≡ boxOf (now (file .entry)) ⌝ }
 {
     BBox {
-        x_min: signed32(left),
-        x_max: signed32(right),
-        y_min: signed32(bottom),
-        y_max: signed32(top),
+        x_min: signed32(file[1]),
+        x_max: signed32(file[2]),
+        y_min: signed32(file[3]),
+        y_max: signed32(file[4]),
+    }
+}
+
+// Where a file's points begin.
+enum Body {
+    At(usize),
+    Cut,
+}
+
+// The contents table is kind, box, part count, each part's end; a file that is longer than may be, or too short for its table, has no body.
+fn body_of(file: &[u32]) -> Body
+    ensures { λ r. ⌜ r ≡ bodyOf (now (file .entry)) ⌝ }
+{
+    let end = file.len();
+    if File::MAX_BYTES / 4 < end {
+        return Body::Cut;
+    }
+    if end < 6 {
+        return Body::Cut;
+    }
+    let parts = wide(file[5]);
+    if end - 6 < parts {
+        return Body::Cut;
+    }
+    let body = 6 + parts;
+    Body::At(body)
+}
+
+// How many raw points a file has.
+pub fn point_count(file: &[u32]) -> usize
+    ensures { λ r. ⌜ r ≡ pointCount (now (file .entry)) ⌝ }
+{
+    match body_of(file) {
+        Body::Cut => 0,
+        Body::At(body) => (file.len() - body) / 2,
     }
 }
 
@@ -48,30 +85,62 @@ fn encode_body(file: &[u32], body: usize, points: &mut [i32], words: &mut [u32])
 {
     let n = file.len() - body;
     lay_signed(&file[body..], points);
-    encoder::whole_job::encode(
-        file[0],
-        box_of(file[1], file[2], file[3], file[4]),
-        &points[..n],
-        &file[6..body],
-        words,
-    )
+    encoder::whole_job::encode(file[0], box_of(file), &points[..n], &file[6..body], words)
 }
 
-// The job that a file's numbers are: kind, box, part count, each part's end; then the points. A file has fewer of them than the own list holds.
+// The job that a file's numbers are. A file has fewer points than the own list holds.
 pub fn encode_file(file: &[u32], words: &mut [u32]) -> Encoded
     ensures { λ r. ⌜ Gives (jobFile (now (file .entry)) (now (words .entry))) (saidEncoded r) (now (words .exit)) ⌝ }
 {
-    let end = file.len();
-    if File::MAX_BYTES / 4 < end {
-        return Encoded::Refused(Refusal::Job, 0);
+    match body_of(file) {
+        Body::Cut => Encoded::Refused(Refusal::Job, 0),
+        Body::At(body) => {
+            let mut points = [0i32; 16384];
+            encode_body(file, body, &mut points, words)
+        }
     }
-    if end < 6 {
-        return Encoded::Refused(Refusal::Job, 0);
+}
+
+// As `encode_body`, with the edges of each raw point.
+fn encode_body_edges(
+    file: &[u32],
+    body: usize,
+    points: &mut [i32],
+    words: &mut [u32],
+    edges: &mut [u32],
+) -> Encoded
+    requires { ⌜ 6 ≤ body ⌝ }
+    requires { ⌜ body ≤ length (now file) ⌝ }
+    requires { ⌜ length (now file) ≤ length (now points) ⌝ }
+    ensures { λ r. ⌜
+        Gives (bodyEdges (now (file .entry)) body (lists (now (words .entry)) (now (edges .entry)))) (saidEncoded r)
+        (lists (now (words .exit)) (now (edges .exit)))
+        ⌝ }
+{
+    let n = file.len() - body;
+    lay_signed(&file[body..], points);
+    edge_job::encode(
+        file[0],
+        box_of(file),
+        &points[..n],
+        &file[6..body],
+        words,
+        edges,
+    )
+}
+
+// As `encode_file`, with the edges of each raw point.
+pub fn encode_file_edges(file: &[u32], words: &mut [u32], edges: &mut [u32]) -> Encoded
+    ensures { λ r. ⌜
+        Gives (jobFileEdges (now (file .entry)) (lists (now (words .entry)) (now (edges .entry)))) (saidEncoded r)
+        (lists (now (words .exit)) (now (edges .exit)))
+        ⌝ }
+{
+    match body_of(file) {
+        Body::Cut => Encoded::Refused(Refusal::Job, 0),
+        Body::At(body) => {
+            let mut points = [0i32; 16384];
+            encode_body_edges(file, body, &mut points, words, edges)
+        }
     }
-    let parts = wide(file[5]);
-    if end - 6 < parts {
-        return Encoded::Refused(Refusal::Job, 0);
-    }
-    let mut points = [0i32; 16384];
-    encode_body(file, 6 + parts, &mut points, words)
 }

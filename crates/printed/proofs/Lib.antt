@@ -1,5 +1,6 @@
 pub mod Decimals
 pub mod Pieces
 pub mod Columns
+pub mod Pairs
 pub mod Rows
 pub mod Signs

@@ -1,5 +1,6 @@
 pub mod Decimal
 pub mod Printed
+pub mod Pairs
 pub mod Row
 pub mod Tiles
 pub mod Lending

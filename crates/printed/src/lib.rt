@@ -1,5 +1,5 @@
-// What the programs print, laid out in lent bytes: lines of numbers in decimal, rows of them, lines of a tile's outcomes, and of bytes in
-// hexadecimal; and how much of a list, and of a text, is printed.
+// What the programs print, laid out in lent bytes: lines of numbers in decimal, one or two to a line, rows of them, lines of a tile's outcomes,
+// and of bytes in hexadecimal; and how much of a list, and of a text, is printed.
 ghost use mathlib.Core.Path.{_≡_};
 ghost use Prim.Native.Nat.{_+_, _*_, _<_, _≤_};
 ghost use lib.ListN.{length, take};
@@ -7,6 +7,7 @@ ghost use Rattle.promise.specs.Laid.{lay};
 ghost use Rattle.printed.specs.Decimal.{ended};
 ghost use Rattle.printed.specs.Lending.{Appends, Shows};
 ghost use Rattle.printed.specs.Printed.{column, wordsText, wordsRoom, refusedText, refusedRoom};
+ghost use Rattle.printed.specs.Pairs.{pairLine, pairLines, edgesText, edgesRoom};
 ghost use Rattle.printed.specs.Row.{signedEnded, behind, rowRoom, rowText};
 ghost use Rattle.printed.specs.Tiles.{outcomeLine, outcomeLines, hexDigit, hexByte, endsLine, hexLines, tileText, tileRoom};
 use number::long;
@@ -16,7 +17,7 @@ use number::magnitude;
 pub struct Text {}
 
 impl Text {
-    // For `words N` and the words of any job: 27 bytes, and 21 for each of 16,384 words.
+    // For `words N` and the words of any job, or `edges N` and its edges: 27 bytes, and 21 for each of 16,384 numbers.
     pub const WORDS: usize = 27 + 21 * 16_384;
 
     // For a tile's answer. The checker does not go through a larger list.
@@ -110,6 +111,49 @@ pub fn show_refused(number: u32, points: usize, text: &mut [u8]) -> usize
     let at = append_number(number as u64, b' ', 8, text);
     append(b"at ", at, text);
     append_number(points as u64, b'\n', at + 3, text)
+}
+
+// Lays two numbers on one line, a blank between them, at a place of the text: the place after them.
+fn append_pair(first: u32, second: u32, at: usize, text: &mut [u8]) -> usize
+    requires { ⌜ at + 42 ≤ length (now text) ⌝ }
+    ensures { λ r. ⌜ Appends (pairLine first second) at r text ⌝ }
+{
+    let next = append_number(long(first), b' ', at, text);
+    append_number(long(second), b'\n', next, text)
+}
+
+// Lays the numbers two to a line, from a place of the text on: the place after them.
+fn append_pairs(numbers: &[u32], at: usize, text: &mut [u8]) -> usize
+    requires { ⌜ at + 21 * length (now numbers) ≤ length (now text) ⌝ }
+    ensures { λ r. ⌜ Appends (pairLines (now (numbers .entry))) at r text ⌝ }
+{
+    let n = numbers.len() / 2;
+    let mut next = at;
+    let mut i = 0;
+    while i < n {
+        let first = numbers[2 * i];
+        let second = numbers[2 * i + 1];
+        next = append_pair(first, second, next, text);
+        i += 1;
+    }
+    next
+}
+
+// `edges N` and then the two edges of each of the N points on a line: how many bytes it is. A text of fewer than 27 bytes, and 21 for each edge,
+// stays as it is, and the answer is 0.
+pub fn show_edges(edges: &[u32], text: &mut [u8]) -> usize
+    ensures { λ r. ⌜ Shows (edgesRoom (now (edges .entry))) (edgesText (now (edges .entry))) r text ⌝ }
+{
+    let size = text.len();
+    if size < 27 {
+        return 0;
+    }
+    if (size - 27) / 21 < edges.len() {
+        return 0;
+    }
+    append(b"edges ", 0, text);
+    let at = append_number((edges.len() / 2) as u64, b'\n', 6, text);
+    append_pairs(edges, at, text)
 }
 
 // Lays a number in decimal, `-` before a negative one, and then `end` at a place of the text: the place after them.

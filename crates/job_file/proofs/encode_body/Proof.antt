@@ -7,19 +7,6 @@ use borrow.Author.Needs.{needs}
 use Rattle.job_file.proofs.encode_body.Statement.{statement}
 use Rattle.job_file.proofs.encode_body.Tie as tie
 
--- the places on the way
-abbrev start-before-points : tie.After-points → tie.Start
-start-before-points c = c .before .before .before .before .before .before
-
-abbrev start-before-box-of : tie.After-box-of → tie.Start
-start-before-box-of c = start-before-points (c .before .before .before .before .before .before)
-
-abbrev lay-signed-before-shared-slice-known6 : tie.After-shared-slice-known6 → tie.After-lay-signed
-lay-signed-before-shared-slice-known6 c = c .before .before .before .before .before .before
-
-abbrev lay-signed-before-words : tie.After-words → tie.After-lay-signed
-lay-signed-before-words c = lay-signed-before-shared-slice-known6 (c .before .before .before .before .before .before)
-
 sub-n : tie.Need-sub-n
 sub-n c = search needs
 
@@ -40,18 +27,6 @@ lay-signed-requires c κs = search needs
 
 shared-slice-read-encode : tie.Need-shared-slice-read-encode
 shared-slice-read-encode c = search needs
-
-shared-slice-read-box-of : tie.Need-shared-slice-read-box-of
-shared-slice-read-box-of c = search needs
-
-shared-slice-read-box-of-2 : tie.Need-shared-slice-read-box-of-2
-shared-slice-read-box-of-2 c = search needs
-
-shared-slice-read-box-of-3 : tie.Need-shared-slice-read-box-of-3
-shared-slice-read-box-of-3 c = search needs
-
-shared-slice-read-box-of-4 : tie.Need-shared-slice-read-box-of-4
-shared-slice-read-box-of-4 c = search needs
 
 box-of-requires : tie.Need-box-of-requires
 box-of-requires c κs = search needs
@@ -81,7 +56,12 @@ same-length-2 : tie.Need-same-length-2
 same-length-2 c = search needs
 
 returns : tie.Need-returns
-returns c = encoded-body (start-before-box-of (c .before .before .before .before .before .before) .args .file .now) (start-before-box-of (c .before .before .before .before .before .before) .args .points .now) (start-before-box-of (c .before .before .before .before .before .before) .args .body) (start-before-box-of (c .before .before .before .before .before .before) .pre .1 .0) (start-before-box-of (c .before .before .before .before .before .before) .pre .1 .1) (start-before-box-of (c .before .before .before .before .before .before) .args .words .now) _ (lay-signed-before-words (c .before) .lay-signed .ensures) _ (c .before .before .before .before .before .before .box-of .ensures) _ _ (c .before .before .encode .ensures)
+returns c =
+    let e = c .before .before in
+    let b = e .before .before .before .before in
+    let l = b .before .before .before in
+    let s = l .before .before .before .before .before in
+    encoded-body (s .args .file .now) (s .args .points .now) (s .args .body) (s .pre .1 .0) (s .pre .1 .1) (s .args .words .now) _ (l .lay-signed .ensures) _ (b .box-of .ensures) _ _ (e .encode .ensures)
 
 pub encode-body-spec : {M : Type 1} → statement M
 encode-body-spec =
@@ -94,10 +74,6 @@ encode-body-spec =
     part-lay-signed-end
     lay-signed-requires
     shared-slice-read-encode
-    shared-slice-read-box-of
-    shared-slice-read-box-of-2
-    shared-slice-read-box-of-3
-    shared-slice-read-box-of-4
     box-of-requires
     slice-reshare-prefix-encode
     slice-aggregate-encode
