@@ -17,18 +17,14 @@ use Rattle.clip.specs.declared.BBox.{BBox}
 use Rattle.clip.specs.declared.cutting.Meeting.{Meeting}
 use Rattle.clip.specs.declared.cutting.Meeting.the-variants.{Nowhere, At as AtY}
 use Rattle.clip.specs.Numbers.{boxAt}
-use Rattle.clip.specs.Facts.{Coord, Good, Asked}
-use Rattle.clip.specs.Cutting.{Crossing, Missing, At, height, inRange, reaches, crossInOrder, crossAtX, swap, swapped, swapSeg, swapCut, metAt, given, firstTo, secondTo, replace, cutXMin, cutXMax, cutYMin, cutYMax, cuts, clip}
-use Rattle.clip.specs.declared.ClippedSeg.{ClippedSeg}
-use Rattle.clip.specs.declared.Edge.{Edge}
-use Rattle.clip.specs.declared.Edge.the-variants.{YMin, YMax}
-use Rattle.clip.proofs.Segments.{seg-replace}
-use Rattle.clip.proofs.Ends.{Side, low, high, beyond, endsX, swapBox}
+use Rattle.clip.specs.Facts.{Coord, Good, Asked, replaceSeg}
+use Rattle.clip.specs.Cutting.{Crossing, Missing, At, height, inRange, reaches, crossInOrder, crossAtX, swap, swapSeg, metAt, cuts}
+use Rattle.clip.proofs.Segments.{segXMin, segXMax, segYMin, segYMax, segCuts, seg-cuts}
+use Rattle.clip.proofs.Ends.{Side, low, high, beyond, endsX, join, swapBox}
 use Rattle.clip.proofs.Heights.{above-least, below-most}
 use Rattle.clip.proofs.Verdicts.{verdict}
-use Rattle.clip.proofs.Readings.{crossing-sym, out, at-x-min, at-x-max}
+use Rattle.clip.proofs.Readings.{crossing-sym, out, swap-replace, at-x-min, at-x-max}
 use Rattle.clip.proofs.Fates.{Fate, clear, moved, stuck, fate, none-beyond}
-use Rattle.clip.proofs.Overlaps.{clip-cuts}
 use Rattle.clip.proofs.Callers.{good-proper, inside-coord}
 
 -- ---- the crossing, with p left of q and the line between them
@@ -102,35 +98,32 @@ pub record Reads (s : Seg) (c a b : ℤ) : Type 0 where
   pub from : Back w32 a
   pub to : Back w32 b
 
-module _ (n : Edge) (u v : Bool) (t : ClippedSeg) where
-  replaced-none : (w : Crossing) → u ≡ false → v ≡ false → t ≡ replace n u v t w
+module _ (u v : Bool) (s : Seg) where
+  replaced-none : (w : Crossing) → u ≡ false → v ≡ false → s ≡ replaceSeg u v s w
   replaced-none Missing e f = refl
   replaced-none (At p) e f = rw (e, f) refl
 
-module _ (d : Side) (t : ClippedSeg) (n : Edge) (c a b : ℤ) (k : Reads (t .seg) c a b) where
-  abbrev s : Seg
-  s = t .seg
-
-  abbrev Cut : ClippedSeg
-  Cut = replace n (beyond d c (s .p0 .x)) (beyond d c (s .p1 .x)) t (crossAtX (s .p0) (s .p1) c a b)
+module _ (d : Side) (s : Seg) (c a b : ℤ) (k : Reads s c a b) where
+  abbrev Cut : Seg
+  Cut = replaceSeg (beyond d c (s .p0 .x)) (beyond d c (s .p1 .x)) s (crossAtX (s .p0) (s .p1) c a b)
 
   abbrev Out0 : Bool → Type 0
-  Out0 v = beyond d (read c) (read (s .p0 .x)) ≡ v
+  Out0 t = beyond d (read c) (read (s .p0 .x)) ≡ t
 
   abbrev Out1 : Bool → Type 0
-  Out1 v = beyond d (read c) (read (s .p1 .x)) ≡ v
+  Out1 t = beyond d (read c) (read (s .p1 .x)) ≡ t
 
-  is0 : (v : Bool) → Out0 v → beyond d c (s .p0 .x) ≡ v
-  is0 v e = rw (k .at, k .x0) at e
+  is0 : (t : Bool) → Out0 t → beyond d c (s .p0 .x) ≡ t
+  is0 t e = rw (k .at, k .x0) at e
 
-  is1 : (v : Bool) → Out1 v → beyond d c (s .p1 .x) ≡ v
-  is1 v e = rw (k .at, k .x1) at e
+  is1 : (t : Bool) → Out1 t → beyond d c (s .p1 .x) ≡ t
+  is1 t e = rw (k .at, k .x1) at e
 
-  pub both-out : Out0 true → Out1 true → t ≡ Cut
-  both-out u v = sym (ap (replace n (beyond d c (s .p0 .x)) (beyond d c (s .p1 .x)) t) (none-on d (s .p0) (s .p1) c a b (is0 true u) (is1 true v)))
+  pub both-out : Out0 true → Out1 true → s ≡ Cut
+  both-out u v = sym (ap (replaceSeg (beyond d c (s .p0 .x)) (beyond d c (s .p1 .x)) s) (none-on d (s .p0) (s .p1) c a b (is0 true u) (is1 true v)))
 
-  pub none-out : Out0 false → Out1 false → t ≡ Cut
-  none-out u v = replaced-none n _ _ t (crossAtX (s .p0) (s .p1) c a b) (is0 false u) (is1 false v)
+  pub none-out : Out0 false → Out1 false → s ≡ Cut
+  none-out u v = replaced-none _ _ s (crossAtX (s .p0) (s .p1) c a b) (is0 false u) (is1 false v)
 
   pub asked-0 : Coord (s .p0) → Coord (s .p1) → Out0 true → Out1 false → AskedOn d (s .p0) (s .p1) (read c)
   asked-0 g h u v = rw (k .at) (asked-on d (s .p0) (s .p1) c g h (is0 true u) (is1 false v))
@@ -146,22 +139,22 @@ module _ (d : Side) (t : ClippedSeg) (n : Edge) (c a b : ℤ) (k : Reads (t .seg
     met-1 : metAt (read c) m ≡ crossOn d (s .p1) (s .p0) (read c) (read a) (read b) → metAt c m ≡ crossAtX (s .p0) (s .p1) c a b
     met-1 e = rw (k .at, k .from, k .to) at e ∙ cross-on d (s .p1) (s .p0) c a b ∙ crossing-sym (s .p1) (s .p0) c a b
 
-    missing : metAt c m ≡ crossAtX (s .p0) (s .p1) c a b → m ≡ Nowhere → t ≡ Cut
-    missing e f = sym (ap (replace n (beyond d c (s .p0 .x)) (beyond d c (s .p1 .x)) t) (sym e ∙ ap (metAt c) f))
+    missing : metAt c m ≡ crossAtX (s .p0) (s .p1) c a b → m ≡ Nowhere → s ≡ Cut
+    missing e f = sym (ap (replaceSeg (beyond d c (s .p0 .x)) (beyond d c (s .p1 .x)) s) (sym e ∙ ap (metAt c) f))
 
     module _ (e : metAt (read c) m ≡ crossOn d (s .p0) (s .p1) (read c) (read a) (read b)) where
-      pub stays-0 : m ≡ Nowhere → t ≡ Cut
+      pub stays-0 : m ≡ Nowhere → s ≡ Cut
       stays-0 f = missing (met-0 e) f
 
-      pub goes-0 : Out0 true → (y : ℤ) → Back w32 y → m ≡ AtY y → (r : ClippedSeg) → r ≡ firstTo n (record { x = read c; y = read y }) t → r ≡ Cut
-      goes-0 u y q f r g = let w : crossAtX (s .p0) (s .p1) c a b ≡ At (record { x = c; y = y }) = sym (met-0 e) ∙ ap (metAt c) f in g ∙ rw (k .at, q, w, is0 true u) refl
+      pub goes-0 : Out0 true → (y : ℤ) → Back w32 y → m ≡ AtY y → join (record { x = read c; y = read y }) (s .p1) ≡ Cut
+      goes-0 u y r f = let w : crossAtX (s .p0) (s .p1) c a b ≡ At (record { x = c; y = y }) = sym (met-0 e) ∙ ap (metAt c) f in rw (k .at, r, w, is0 true u) refl
 
     module _ (e : metAt (read c) m ≡ crossOn d (s .p1) (s .p0) (read c) (read a) (read b)) where
-      pub stays-1 : m ≡ Nowhere → t ≡ Cut
+      pub stays-1 : m ≡ Nowhere → s ≡ Cut
       stays-1 f = missing (met-1 e) f
 
-      pub goes-1 : Out0 false → Out1 true → (y : ℤ) → Back w32 y → m ≡ AtY y → (r : ClippedSeg) → r ≡ secondTo n (record { x = read c; y = read y }) t → r ≡ Cut
-      goes-1 u v y q f r g = let w : crossAtX (s .p0) (s .p1) c a b ≡ At (record { x = c; y = y }) = sym (met-1 e) ∙ ap (metAt c) f in g ∙ rw (k .at, q, w, is0 false u, is1 true v) refl
+      pub goes-1 : Out0 false → Out1 true → (y : ℤ) → Back w32 y → m ≡ AtY y → join (s .p0) (record { x = read c; y = read y }) ≡ Cut
+      goes-1 u v y r f = let w : crossAtX (s .p0) (s .p1) c a b ≡ At (record { x = c; y = y }) = sym (met-1 e) ∙ ap (metAt c) f in rw (k .at, r, w, is0 false u, is1 true v) refl
 
 -- ---- what is cut stays within the limit
 fate-coord : {s : Side} {b : BBox} {p q r : Pt} → Good b → Coord p → Fate s b p q r → Coord r
@@ -183,43 +176,30 @@ module _ {b : BBox} (g : Good b) (t : Seg) (h : Coords t) where
 pub swap-coords : {t : Seg} → Coords t → Coords (swapSeg t)
 swap-coords h = record { end0 = record { at-x = h .end0 .at-y; at-y = h .end0 .at-x }; end1 = record { at-x = h .end1 .at-y; at-y = h .end1 .at-x } }
 
--- ---- a cut at y is one at x, with x and y exchanged, under another name
-swap-cut : (n : Edge) (u v : Bool) (t : ClippedSeg) (w : Crossing) → replace n u v t (swapped w) ≡ swapCut (replace n u v (swapCut t) w)
-swap-cut n u v t Missing = refl
-swap-cut n true v t (At p) = refl
-swap-cut n false true t (At p) = refl
-swap-cut n false false t (At p) = refl
+-- ---- a cut at y is one at x, with x and y exchanged
+module _ (b : BBox) (t : Seg) where
+  swap-min : segYMin b t ≡ swapSeg (segXMin (swapBox b) (swapSeg t))
+  swap-min = swap-replace (ltZ (t .p0 .y) (b .«y_min»)) (ltZ (t .p1 .y) (b .«y_min»)) t (crossAtX (swap (t .p0)) (swap (t .p1)) (b .«y_min») (b .«x_min») (b .«x_max»))
 
--- the cut at an edge of x, named n
-abbrev pub lowAs : Edge → BBox → ClippedSeg → ClippedSeg
-lowAs n b t = replace n (ltZ (t .seg .p0 .x) (b .«x_min»)) (ltZ (t .seg .p1 .x) (b .«x_min»)) t (crossAtX (t .seg .p0) (t .seg .p1) (b .«x_min») (b .«y_min») (b .«y_max»))
+  swap-max : segYMax b t ≡ swapSeg (segXMax (swapBox b) (swapSeg t))
+  swap-max = swap-replace (ltZ (b .«y_max») (t .p0 .y)) (ltZ (b .«y_max») (t .p1 .y)) t (crossAtX (swap (t .p0)) (swap (t .p1)) (b .«y_max») (b .«x_min») (b .«x_max»))
 
-abbrev pub highAs : Edge → BBox → ClippedSeg → ClippedSeg
-highAs n b t = replace n (ltZ (b .«x_max») (t .seg .p0 .x)) (ltZ (b .«x_max») (t .seg .p1 .x)) t (crossAtX (t .seg .p0) (t .seg .p1) (b .«x_max») (b .«y_min») (b .«y_max»))
+pub swapped-coords : {s t : Seg} → t ≡ swapSeg s → Coords s → Coords t
+swapped-coords e h = subst Coords (sym e) (swap-coords h)
 
-module _ (b : BBox) (t : ClippedSeg) where
-  swap-min : cutYMin b t ≡ swapCut (lowAs YMin (swapBox b) (swapCut t))
-  swap-min = swap-cut YMin (ltZ (t .seg .p0 .y) (b .«y_min»)) (ltZ (t .seg .p1 .y) (b .«y_min»)) t (crossAtX (swap (t .seg .p0)) (swap (t .seg .p1)) (b .«y_min») (b .«x_min») (b .«x_max»))
+module _ {b : BBox} (g : Good b) {t : Seg} (h : Coords t) where
+  pub min-coords : (r : Seg) → r ≡ segXMin b t → Coords r
+  min-coords r e = subst Coords (sym (e ∙ at-x-min b t)) (of-x g t h low)
 
-  swap-max : cutYMax b t ≡ swapCut (highAs YMax (swapBox b) (swapCut t))
-  swap-max = swap-cut YMax (ltZ (b .«y_max») (t .seg .p0 .y)) (ltZ (b .«y_max») (t .seg .p1 .y)) t (crossAtX (swap (t .seg .p0)) (swap (t .seg .p1)) (b .«y_max») (b .«x_min») (b .«x_max»))
-
-pub swapped-coords : {s t : ClippedSeg} → t ≡ swapCut s → Coords (s .seg) → Coords (t .seg)
-swapped-coords e h = subst (λ (c : ClippedSeg). Coords (c .seg)) (sym e) (swap-coords h)
-
-module _ {b : BBox} (g : Good b) (n : Edge) (t : ClippedSeg) (h : Coords (t .seg)) where
-  pub min-coords : (r : ClippedSeg) → r ≡ lowAs n b t → Coords (r .seg)
-  min-coords r e = subst Coords (sym (ap (λ (c : ClippedSeg). c .seg) e ∙ seg-replace n (ltZ (t .seg .p0 .x) (b .«x_min»)) (ltZ (t .seg .p1 .x) (b .«x_min»)) t (crossAtX (t .seg .p0) (t .seg .p1) (b .«x_min») (b .«y_min») (b .«y_max»)) ∙ at-x-min b (t .seg))) (of-x g (t .seg) h low)
-
-  pub max-coords : (r : ClippedSeg) → r ≡ highAs n b t → Coords (r .seg)
-  max-coords r e = subst Coords (sym (ap (λ (c : ClippedSeg). c .seg) e ∙ seg-replace n (ltZ (b .«x_max») (t .seg .p0 .x)) (ltZ (b .«x_max») (t .seg .p1 .x)) t (crossAtX (t .seg .p0) (t .seg .p1) (b .«x_max») (b .«y_min») (b .«y_max»)) ∙ at-x-max b (t .seg))) (of-x g (t .seg) h high)
+  pub max-coords : (r : Seg) → r ≡ segXMax b t → Coords r
+  max-coords r e = subst Coords (sym (e ∙ at-x-max b t)) (of-x g t h high)
 
 -- ---- the four cuts, those at y with x and y exchanged
-module _ (b : BBox) (g : Good b) (s : Seg) (s0 s1 s2 t2 s3 s4 r : ClippedSeg) where
-  pub four-cuts : s0 ≡ given s → s1 ≡ cutXMin b s0 → s2 ≡ cutXMax b s1 → t2 ≡ swapCut s2 → s3 ≡ lowAs YMin (swapBox b) t2 → s4 ≡ highAs YMax (swapBox b) s3 → r ≡ swapCut s4 → r ≡ clip b s
-  unfolding cuts
-  four-cuts e0 e1 e2 f2 e3 e4 f4 =
-      let k3 : swapCut s3 ≡ cutYMin b s2 = ap swapCut (e3 ∙ ap (lowAs YMin (swapBox b)) f2) ∙ sym (swap-min b s2) in
-      let k4 : r ≡ cutYMax b (swapCut s3) = f4 ∙ ap swapCut e4 ∙ sym (swap-max b (swapCut s3)) in
-      let k : r ≡ cuts b s = k4 ∙ ap (cutYMax b) (k3 ∙ ap (cutYMin b) (e2 ∙ ap (cutXMax b) (e1 ∙ ap (cutXMin b) e0))) in
-      k ∙ sym (clip-cuts b (good-proper g) s)
+module _ (b : BBox) (s s1 s2 t2 s3 s4 r : Seg) where
+  pub four-cuts : s1 ≡ segXMin b s → s2 ≡ segXMax b s1 → t2 ≡ swapSeg s2 → s3 ≡ segXMin (swapBox b) t2 → s4 ≡ segXMax (swapBox b) s3 → r ≡ swapSeg s4 → r ≡ cuts b s .seg
+  unfolding segCuts
+  four-cuts e1 e2 f2 e3 e4 f4 =
+      let k3 : swapSeg s3 ≡ segYMin b s2 = ap swapSeg (e3 ∙ ap (segXMin (swapBox b)) f2) ∙ sym (swap-min b s2) in
+      let k4 : r ≡ segYMax b (swapSeg s3) = f4 ∙ ap swapSeg e4 ∙ sym (swap-max b (swapSeg s3)) in
+      let k : r ≡ segCuts b s = k4 ∙ ap (segYMax b) (k3 ∙ ap (segYMin b) (e2 ∙ ap (segXMax b) e1)) in
+      k ∙ sym (seg-cuts b s)

@@ -4,6 +4,7 @@ pub mod Overlaps
 pub mod Readings
 pub mod Segments
 pub mod Names
+pub mod Naming
 pub mod Roundings
 pub mod Tight
 pub mod Tests

@@ -114,7 +114,7 @@ pub data Told (b : BBox) (g : Pt) : Edge → Pt → Type 0 where
   told : (e : Edge) (r : Pt) → Passed e b g → Inside b r → Holds e b r → Told b g e r
 
 -- a point in the box has passed no edge
-not-passed : (e : Edge) {b : BBox} {p : Pt} → Passed e b p → Inside b p → ⊥
+pub not-passed : (e : Edge) {b : BBox} {p : Pt} → Passed e b p → Inside b p → ⊥
 not-passed Stayed o i = o
 not-passed XMin o i = omega (zarith, i .left)
 not-passed XMax o i = omega (zarith, i .right)

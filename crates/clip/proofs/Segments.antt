@@ -6,11 +6,8 @@ use Rattle.clip.specs.declared.Seg.{Seg}
 use Rattle.clip.specs.declared.BBox.{BBox}
 use Rattle.clip.specs.declared.Edge.{Edge}
 use Rattle.clip.specs.declared.ClippedSeg.{ClippedSeg}
+use Rattle.clip.specs.Facts.{replaceSeg}
 use Rattle.clip.specs.Cutting.{Crossing, Missing, At, crossAtX, crossAtY, given, replace, cutXMin, cutXMax, cutYMin, cutYMax, cuts}
-
-abbrev pub replaceSeg : Bool → Bool → Seg → Crossing → Seg
-replaceSeg out0 out1 s Missing = s
-replaceSeg out0 out1 s (At p) = cond out0 (record { p0 = p; p1 = s .p1 }) (cond out1 (record { p0 = s .p0; p1 = p }) s)
 
 abbrev pub segXMin : BBox → Seg → Seg
 segXMin b s = replaceSeg (ltZ (s .p0 .x) (b .«x_min»)) (ltZ (s .p1 .x) (b .«x_min»)) s (crossAtX (s .p0) (s .p1) (b .«x_min») (b .«y_min») (b .«y_max»))

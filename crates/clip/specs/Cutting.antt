@@ -58,9 +58,6 @@ swapped (At p) = At (swap p)
 abbrev pub swapSeg : Seg → Seg
 swapSeg s = record { p0 = swap (s .p0); p1 = swap (s .p1) }
 
-abbrev pub swapCut : ClippedSeg → ClippedSeg
-swapCut c = record { seg = swapSeg (c .seg); first = c .first; second = c .second }
-
 abbrev pub crossAtY : Pt → Pt → ℤ → ℤ → ℤ → Crossing
 crossAtY p q y a b = swapped (crossAtX (swap p) (swap q) y a b)
 

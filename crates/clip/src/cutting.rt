@@ -6,14 +6,13 @@ ghost use mathlib.Core.Path.{_≡_};
 ghost use lib.IntN.{pos};
 ghost use lib.Signed.{_<ℤ_, ltZ};
 ghost use Rattle.whole.specs.Floor.{floor};
-ghost use Rattle.clip.specs.Facts.{Coord, Good, Asked};
-ghost use Rattle.clip.specs.Cutting.{height, crossAtX, metAt, firstTo, secondTo, replace, swapCut, clip};
+ghost use Rattle.clip.specs.Facts.{Coord, Good, Asked, replaceSeg, edgeBy};
+ghost use Rattle.clip.specs.Cutting.{height, crossAtX, metAt, swapSeg, clip};
 ghost use Rattle.clip.specs.Numbers.{cornered};
 use crate::ClippedSeg;
 use crate::Edge;
 use crate::Pt;
 use crate::Seg;
-use crate::stay;
 
 // Whether a segment crosses an edge's line, and at which y.
 enum Meeting {
@@ -56,114 +55,114 @@ fn intersect_at_x(p: Pt, q: Pt, x: i32, a: i32, b: i32) -> Meeting
     Meeting::Nowhere
 }
 
-// The first end moved to (x, y) by the cut at an edge; the second end.
-fn first_to(c: ClippedSeg, edge: Edge, x: i32, y: i32) -> ClippedSeg
-    ensures { λ r. ⌜ r ≡ firstTo edge (record { x = x; y = y }) c ⌝ }
-{
-    let s = c.seg;
-    let p1 = s.p1;
-    let second = c.second;
-    ClippedSeg {
-        seg: Seg {
-            p0: Pt { x: x, y: y },
-            p1: p1,
-        },
-        first: edge,
-        second: second,
-    }
-}
-
-fn second_to(c: ClippedSeg, edge: Edge, x: i32, y: i32) -> ClippedSeg
-    ensures { λ r. ⌜ r ≡ secondTo edge (record { x = x; y = y }) c ⌝ }
-{
-    let s = c.seg;
-    let p0 = s.p0;
-    let first = c.first;
-    ClippedSeg {
-        seg: Seg {
-            p0: p0,
-            p1: Pt { x: x, y: y },
-        },
-        first: first,
-        second: edge,
-    }
-}
-
 // The cut at a lower edge: the end strictly below it goes to the crossing, if there is one.
-fn cut_low(c: ClippedSeg, edge: Edge, x: i32, a: i32, b: i32) -> ClippedSeg
-    requires { ⌜ Coord (c .seg .p0) ⌝ }
-    requires { ⌜ Coord (c .seg .p1) ⌝ }
-    ensures { λ r. ⌜ r ≡ replace edge (ltZ (c .seg .p0 .x) x) (ltZ (c .seg .p1 .x) x) c (crossAtX (c .seg .p0) (c .seg .p1) x a b) ⌝ }
+fn cut_low(s: Seg, x: i32, a: i32, b: i32) -> Seg
+    requires { ⌜ Coord (s .p0) ⌝ }
+    requires { ⌜ Coord (s .p1) ⌝ }
+    ensures { λ r. ⌜ r ≡ replaceSeg (ltZ (s .p0 .x) x) (ltZ (s .p1 .x) x) s (crossAtX (s .p0) (s .p1) x a b) ⌝ }
 {
-    let s = c.seg;
     let p0 = s.p0;
     let p1 = s.p1;
     let x0 = p0.x;
     let x1 = p1.x;
     if x0 < x {
         if x1 < x {
-            return c;
+            return s;
         }
         match intersect_at_x(p0, p1, x, a, b) {
-            Meeting::At(y) => return first_to(c, edge, x, y),
-            Meeting::Nowhere => return c,
+            Meeting::At(y) => {
+                return Seg {
+                    p0: Pt { x: x, y: y },
+                    p1: p1,
+                };
+            }
+            Meeting::Nowhere => return s,
         }
     }
     if x1 < x {
         match intersect_at_x(p1, p0, x, a, b) {
-            Meeting::At(y) => return second_to(c, edge, x, y),
-            Meeting::Nowhere => return c,
+            Meeting::At(y) => {
+                return Seg {
+                    p0: p0,
+                    p1: Pt { x: x, y: y },
+                };
+            }
+            Meeting::Nowhere => return s,
         }
     }
-    c
+    s
 }
 
 // The cut at an upper edge.
-fn cut_high(c: ClippedSeg, edge: Edge, x: i32, a: i32, b: i32) -> ClippedSeg
-    requires { ⌜ Coord (c .seg .p0) ⌝ }
-    requires { ⌜ Coord (c .seg .p1) ⌝ }
-    ensures { λ r. ⌜ r ≡ replace edge (ltZ x (c .seg .p0 .x)) (ltZ x (c .seg .p1 .x)) c (crossAtX (c .seg .p0) (c .seg .p1) x a b) ⌝ }
+fn cut_high(s: Seg, x: i32, a: i32, b: i32) -> Seg
+    requires { ⌜ Coord (s .p0) ⌝ }
+    requires { ⌜ Coord (s .p1) ⌝ }
+    ensures { λ r. ⌜ r ≡ replaceSeg (ltZ x (s .p0 .x)) (ltZ x (s .p1 .x)) s (crossAtX (s .p0) (s .p1) x a b) ⌝ }
 {
-    let s = c.seg;
     let p0 = s.p0;
     let p1 = s.p1;
     let x0 = p0.x;
     let x1 = p1.x;
     if x < x0 {
         if x < x1 {
-            return c;
+            return s;
         }
         match intersect_at_x(p1, p0, x, a, b) {
-            Meeting::At(y) => return first_to(c, edge, x, y),
-            Meeting::Nowhere => return c,
+            Meeting::At(y) => {
+                return Seg {
+                    p0: Pt { x: x, y: y },
+                    p1: p1,
+                };
+            }
+            Meeting::Nowhere => return s,
         }
     }
     if x < x1 {
         match intersect_at_x(p0, p1, x, a, b) {
-            Meeting::At(y) => return second_to(c, edge, x, y),
-            Meeting::Nowhere => return c,
+            Meeting::At(y) => {
+                return Seg {
+                    p0: p0,
+                    p1: Pt { x: x, y: y },
+                };
+            }
+            Meeting::Nowhere => return s,
         }
     }
-    c
+    s
 }
 
 // At y: x and y change roles.
-fn swap(c: ClippedSeg) -> ClippedSeg
-    ensures { λ r. ⌜ r ≡ swapCut c ⌝ }
+fn swap(s: Seg) -> Seg
+    ensures { λ r. ⌜ r ≡ swapSeg s ⌝ }
 {
-    let s = c.seg;
     let p0 = s.p0;
     let p1 = s.p1;
-    let first = c.first;
-    let second = c.second;
-    ClippedSeg {
-        seg: Seg {
-            p0: Pt { x: p0.y, y: p0.x },
-            p1: Pt { x: p1.y, y: p1.x },
-        },
-        first: first,
-        second: second,
+    Seg {
+        p0: Pt { x: p0.y, y: p0.x },
+        p1: Pt { x: p1.y, y: p1.x },
     }
+}
+
+// What became of an end, by where it stands as given, between the cuts at x and those at y, and after all: a cut moves an end off its coordinate, and no end
+// moves twice. The lower corner tells the lower edge from the upper one.
+fn edge_of(given: Pt, halfway: Pt, after: Pt, low: Pt) -> Edge
+    ensures { λ r. ⌜ r ≡ edgeBy given halfway after low ⌝ }
+{
+    let x = halfway.x;
+    let y = after.y;
+    if given.x == x {
+        if halfway.y == y {
+            return Edge::Stayed;
+        }
+        if y == low.y {
+            return Edge::YMin;
+        }
+        return Edge::YMax;
+    }
+    if x == low.x {
+        return Edge::XMin;
+    }
+    Edge::XMax
 }
 
 // The four cuts, each on the segment as it then is; the box by its lower and its upper corner.
@@ -177,13 +176,21 @@ pub(crate) fn cut_all(p0: Pt, p1: Pt, low: Pt, high: Pt) -> ClippedSeg
     let bottom = low.y;
     let right = high.x;
     let top = high.y;
-    let c = stay(Seg {
+    let s = Seg {
         p0: Pt { x: p0.x, y: p0.y },
         p1: Pt { x: p1.x, y: p1.y },
-    });
-    let c1 = cut_low(c, Edge::XMin, left, bottom, top);
-    let c2 = cut_high(c1, Edge::XMax, right, bottom, top);
-    let c3 = cut_low(swap(c2), Edge::YMin, bottom, left, right);
-    let c4 = cut_high(c3, Edge::YMax, top, left, right);
-    swap(c4)
+    };
+    let s1 = cut_low(s, left, bottom, top);
+    let s2 = cut_high(s1, right, bottom, top);
+    let s3 = cut_low(swap(s2), bottom, left, right);
+    let s4 = swap(cut_high(s3, top, left, right));
+    let h0 = s2.p0;
+    let h1 = s2.p1;
+    let e0 = s4.p0;
+    let e1 = s4.p1;
+    ClippedSeg {
+        seg: s4,
+        first: edge_of(p0, h0, e0, low),
+        second: edge_of(p1, h1, e1, low),
+    }
 }

@@ -1,16 +1,15 @@
 -- `clip::cutting::cut_all` meets its contract: the four cuts are the definition's, each cut leaves the ends within the limit for the next, and the overlap test of the definition changes no answer.
 use borrow.Author.Needs.{needs}
-use mathlib.Core.Path.{_≡_, sym, subst}
+use mathlib.Core.Path.{_≡_}
 use mir.Syntax.{w32}
 use Rattle.whole.proofs.Machine.{Back, back}
 use Rattle.clip.specs.declared.Seg.{Seg}
 use Rattle.clip.specs.declared.BBox.{BBox}
 use Rattle.clip.specs.Numbers.{cornered}
-use Rattle.clip.specs.Cutting.{given, cutXMin, cutXMax}
-use Rattle.clip.specs.declared.ClippedSeg.{ClippedSeg}
-use Rattle.clip.specs.declared.Edge.the-variants.{YMin, YMax}
+use Rattle.clip.proofs.Segments.{segXMin, segXMax}
+use Rattle.clip.proofs.Naming.{all-cut}
 use Rattle.clip.proofs.Ends.{swapBox}
-use Rattle.clip.proofs.Cuts.{Coords, swap-good, lowAs, highAs, swapped-coords, min-coords, max-coords, four-cuts}
+use Rattle.clip.proofs.Cuts.{Coords, swap-good, swapped-coords, min-coords, max-coords, four-cuts}
 use Rattle.clip.proofs.cutting.cut_all.Statement.{statement}
 use Rattle.clip.proofs.cutting.cut_all.Tie as tie
 
@@ -46,51 +45,42 @@ module _ (s : tie.Start) where
   abbrev box : BBox
   box = cornered (s .args .low) (s .args .high)
 
-  coords : Coords seg
-  coords = record { end0 = s .pre .1 .0; end1 = s .pre .1 .1 }
+  given : Coords seg
+  given = record { end0 = s .pre .1 .0; end1 = s .pre .1 .1 }
 
 ruleset read = (x0, y0, x1, y1, left, right, bottom, top)
 
-abbrev start : tie.After-stay → tie.Start
-start c = c .before .before .before .before .before .before .before
+abbrev start : tie.After-struct-told6 → tie.Start
+start c = c .before .before .before .before .before .before
 
--- the segment as given, and what each cut gave
-cut0 : (c : tie.After-stay) → c .stay .result ≡ given (seg (start c))
-cut0 c = simp read at (c .stay .ensures)
-
-cut1 : (c : tie.After-cut-low) → c .cut-low .result ≡ cutXMin (box (start (c .before))) (c .before .stay .result)
+-- what each cut gave
+cut1 : (c : tie.After-cut-low) → c .cut-low .result ≡ segXMin (box (start (c .before))) (seg (start (c .before)))
 cut1 c = simp read at (c .cut-low .ensures)
 
-cut2 : (c : tie.After-cut-high) → c .cut-high .result ≡ cutXMax (box (start (c .before .before))) (c .before .cut-low .result)
+cut2 : (c : tie.After-cut-high) → c .cut-high .result ≡ segXMax (box (start (c .before .before))) (c .before .cut-low .result)
 cut2 c = simp read at (c .cut-high .ensures)
 
-cut3 : (c : tie.After-cut-low2) → c .cut-low2 .result ≡ lowAs YMin (swapBox (box (start (c .before .before .before .before)))) (c .before .swap .result)
+cut3 : (c : tie.After-cut-low2) → c .cut-low2 .result ≡ segXMin (swapBox (box (start (c .before .before .before .before)))) (c .before .swap .result)
 cut3 c = simp read at (c .cut-low2 .ensures)
 
-cut4 : (c : tie.After-cut-high2) → c .cut-high2 .result ≡ highAs YMax (swapBox (box (start (c .before .before .before .before .before)))) (c .before .cut-low2 .result)
+cut4 : (c : tie.After-cut-high2) → c .cut-high2 .result ≡ segXMax (swapBox (box (start (c .before .before .before .before .before)))) (c .before .cut-low2 .result)
 cut4 c = simp read at (c .cut-high2 .ensures)
 
 -- each cut leaves the ends within the limit
-after0 : (c : tie.After-stay) → Coords (c .stay .result .seg)
-after0 c = subst (λ (t : ClippedSeg). Coords (t .seg)) (sym (cut0 c)) (coords (start c))
+after1 : (c : tie.After-cut-low) → Coords (c .cut-low .result)
+after1 c = let s = start (c .before) in min-coords (s .pre .0) (given s) _ (cut1 c)
 
-after1 : (c : tie.After-cut-low) → Coords (c .cut-low .result .seg)
-after1 c = let s = start (c .before) in min-coords (s .pre .0) _ _ (after0 (c .before)) _ (cut1 c)
+after2 : (c : tie.After-cut-high) → Coords (c .cut-high .result)
+after2 c = let s = start (c .before .before) in max-coords (s .pre .0) (after1 (c .before)) _ (cut2 c)
 
-after2 : (c : tie.After-cut-high) → Coords (c .cut-high .result .seg)
-after2 c = let s = start (c .before .before) in max-coords (s .pre .0) _ _ (after1 (c .before)) _ (cut2 c)
-
-turned : (c : tie.After-swap) → Coords (c .swap .result .seg)
+turned : (c : tie.After-swap) → Coords (c .swap .result)
 turned c = swapped-coords (c .swap .ensures) (after2 (c .before))
 
-after3 : (c : tie.After-cut-low2) → Coords (c .cut-low2 .result .seg)
-after3 c = let s = start (c .before .before .before .before) in min-coords (swap-good (s .pre .0)) _ _ (turned (c .before)) _ (cut3 c)
-
-stay-requires : tie.Need-stay-requires
-stay-requires c κs = search needs
+after3 : (c : tie.After-cut-low2) → Coords (c .cut-low2 .result)
+after3 c = let s = start (c .before .before .before .before) in min-coords (swap-good (s .pre .0)) (turned (c .before)) _ (cut3 c)
 
 cut-low-requires : tie.Need-cut-low-requires
-cut-low-requires c κs = (after0 c .end0, after0 c .end1)
+cut-low-requires c κs = search needs
 
 cut-high-requires : tie.Need-cut-high-requires
 cut-high-requires c κs = (after1 c .end0, after1 c .end1)
@@ -107,17 +97,26 @@ cut-high-requires-2 c κs = (after3 c .end0, after3 c .end1)
 swap-requires-2 : tie.Need-swap-requires-2
 swap-requires-2 c κs = search needs
 
+edge-of-requires : tie.Need-edge-of-requires
+edge-of-requires c κs = search needs
+
+edge-of-requires-2 : tie.Need-edge-of-requires-2
+edge-of-requires-2 c κs = search needs
+
 returns : tie.Need-returns
 returns c =
-    let c4 = c .before in
+    let e = c .before in
+    let w = e .before .before .before .before .before in
+    let c4 = w .before in
     let c3 = c4 .before in
     let t = c3 .before in
     let c2 = t .before in
     let c1 = c2 .before in
-    let c0 = c1 .before in
-    let s = start c0 in
-    four-cuts (box s) (s .pre .0) (seg s) _ _ _ _ _ _ _ (cut0 c0) (cut1 c1) (cut2 c2) (t .swap .ensures) (cut3 c3) (cut4 c4) (c .swap2 .ensures)
+    let s = start (c1 .before) in
+    let r = four-cuts (box s) (seg s) _ _ _ _ _ _ (cut1 c1) (cut2 c2) (t .swap .ensures) (cut3 c3) (cut4 c4) (w .swap2 .ensures) in
+    all-cut (box s) (s .pre .0) (seg s) _ _ _ _ _ (cut1 c1) (cut2 c2) r (e .edge-of .ensures) (c .edge-of2 .ensures)
 
 pub cut-all-spec : {M : Type 1} → statement M
 cut-all-spec =
-    tie.close (tie.spec stay-requires cut-low-requires cut-high-requires swap-requires cut-low-requires-2 cut-high-requires-2 swap-requires-2 returns)
+    tie.close
+    (tie.spec cut-low-requires cut-high-requires swap-requires cut-low-requires-2 cut-high-requires-2 swap-requires-2 edge-of-requires edge-of-requires-2 returns)
