@@ -7,7 +7,7 @@ ghost use Rattle.promise.specs.Answers.{Gives};
 ghost use Rattle.promise.specs.Laid.{lay};
 ghost use Rattle.whole.specs.Twos.{signed32};
 ghost use Rattle.encoder.specs.Jobs.{saidEncoded};
-ghost use Rattle.edge_job.specs.EdgeJobs.{lists};
+ghost use Rattle.edge_job.specs.EdgeJobs.{Writes};
 ghost use Rattle.job_file.specs.JobFile.{boxOf, bodyEncoded, jobFile, bodyOf, pointCount, bodyEdges, jobFileEdges};
 use clip::BBox;
 use encoder::whole_job::Encoded;
@@ -112,10 +112,7 @@ fn encode_body_edges(
     requires { ⌜ 6 ≤ body ⌝ }
     requires { ⌜ body ≤ length (now file) ⌝ }
     requires { ⌜ length (now file) ≤ length (now points) ⌝ }
-    ensures { λ r. ⌜
-        Gives (bodyEdges (now (file .entry)) body (lists (now (words .entry)) (now (edges .entry)))) (saidEncoded r)
-        (lists (now (words .exit)) (now (edges .exit)))
-        ⌝ }
+    ensures { λ r. ⌜ Writes (bodyEdges (now (file .entry)) body) (saidEncoded r) words edges ⌝ }
 {
     let n = file.len() - body;
     lay_signed(&file[body..], points);
@@ -131,10 +128,7 @@ fn encode_body_edges(
 
 // As `encode_file`, with the edges of each raw point.
 pub fn encode_file_edges(file: &[u32], words: &mut [u32], edges: &mut [u32]) -> Encoded
-    ensures { λ r. ⌜
-        Gives (jobFileEdges (now (file .entry)) (lists (now (words .entry)) (now (edges .entry)))) (saidEncoded r)
-        (lists (now (words .exit)) (now (edges .exit)))
-        ⌝ }
+    ensures { λ r. ⌜ Writes (jobFileEdges (now (file .entry))) (saidEncoded r) words edges ⌝ }
 {
     match body_of(file) {
         Body::Cut => Encoded::Refused(Refusal::Job, 0),
