@@ -143,6 +143,27 @@ fn swap(s: Seg) -> Seg
     }
 }
 
+// The four cuts, each on the segment as it then is; the box by its lower and its upper corner. For who asks for no edges.
+pub(crate) fn cut_seg(p0: Pt, p1: Pt, low: Pt, high: Pt) -> Seg
+    requires { ⌜ Good (cornered low high) ⌝ }
+    requires { ⌜ Coord p0 ⌝ }
+    requires { ⌜ Coord p1 ⌝ }
+    ensures { λ r. ⌜ r ≡ clip (cornered low high) (record { p0 = p0; p1 = p1 }) .seg ⌝ }
+{
+    let left = low.x;
+    let bottom = low.y;
+    let right = high.x;
+    let top = high.y;
+    let s = Seg {
+        p0: Pt { x: p0.x, y: p0.y },
+        p1: Pt { x: p1.x, y: p1.y },
+    };
+    let t1 = cut_low(s, left, bottom, top);
+    let t2 = cut_high(t1, right, bottom, top);
+    let t3 = cut_low(swap(t2), bottom, left, right);
+    swap(cut_high(t3, top, left, right))
+}
+
 // What became of an end, by where it stands as given, between the cuts at x and those at y, and after all: a cut moves an end off its coordinate, and no end
 // moves twice. The lower corner tells the lower edge from the upper one.
 fn edge_of(given: Pt, halfway: Pt, after: Pt, low: Pt) -> Edge
@@ -165,7 +186,7 @@ fn edge_of(given: Pt, halfway: Pt, after: Pt, low: Pt) -> Edge
     Edge::XMax
 }
 
-// The four cuts, each on the segment as it then is; the box by its lower and its upper corner.
+// The same with what became of each end.
 pub(crate) fn cut_all(p0: Pt, p1: Pt, low: Pt, high: Pt) -> ClippedSeg
     requires { ⌜ Good (cornered low high) ⌝ }
     requires { ⌜ Coord p0 ⌝ }

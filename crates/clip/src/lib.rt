@@ -4,10 +4,11 @@ ghost use mathlib.Core.Path.{_≡_};
 ghost use Rattle.clip.specs.Domain.{limit, within, isCoord, isGood, isInside};
 ghost use Rattle.clip.specs.Facts.{beside, besideX, besideY};
 ghost use Rattle.clip.specs.Cutting.{least, most, given};
-ghost use Rattle.clip.specs.Answer.{saidClipped, areCoords, clipped};
+ghost use Rattle.clip.specs.Answer.{saidClipped, areCoords, clipped, saidCut, segsOf};
 ghost use Rattle.clip.specs.Numbers.{between, edgeNumber, isMoved};
 ghost use Rattle.clip.specs.Demand3.{Demand3};
 use crate::cutting::cut_all;
+use crate::cutting::cut_seg;
 use refusal::Refusal;
 
 mod cutting;
@@ -47,6 +48,12 @@ pub struct ClippedSeg {
 
 pub enum Clipped {
     Done(ClippedSeg),
+    Refused(Refusal),
+}
+
+// A clip without its edges.
+pub enum Cut {
+    Done(Seg),
     Refused(Refusal),
 }
 
@@ -242,4 +249,23 @@ pub fn clip_between(from: Pt, to: Pt, bbox: BBox) -> Clipped
         return Clipped::Done(stay(seg));
     }
     Clipped::Done(cut_all(from, to, BBox::low(bbox), BBox::high(bbox)))
+}
+
+// The segment alone, for callers that ask for no edges: they do not pay for them.
+pub fn cut_between(from: Pt, to: Pt, bbox: BBox) -> Cut
+    ensures { λ r. ⌜ saidCut r ≡ segsOf (clipped (between from to) bbox) ⌝ }
+{
+    let seg = Seg { p0: from, p1: to };
+    if !BBox::is_good(bbox) {
+        return Cut::Refused(Refusal::Box);
+    }
+    if !are_coords(seg) {
+        return Cut::Refused(Refusal::Coord);
+    }
+    let beside = is_beside(bbox, seg);
+    let beyond = is_beyond(bbox, seg);
+    if beside | beyond {
+        return Cut::Done(seg);
+    }
+    Cut::Done(cut_seg(from, to, BBox::low(bbox), BBox::high(bbox)))
 }

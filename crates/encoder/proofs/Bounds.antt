@@ -16,11 +16,11 @@ use Rattle.clip.specs.Cutting.{given, clip}
 use Rattle.encoder.specs.declared.boundary.Ends.{Ends}
 use Rattle.encoder.specs.declared.draft.Draft.{Draft}
 use Rattle.encoder.specs.Points.{inLimit, samePt}
-use Rattle.encoder.specs.Boundary.{moved, maybe, listOf, endsIn, namedBy, outside, Brought, BroughtBy}
+use Rattle.encoder.specs.Boundary.{moved, maybe, listOf, movedBy, endsIn, namedBy, outside, Brought, BroughtBy}
 use Rattle.encoder.specs.Answers.{none}
 use Rattle.encoder.specs.Adding.{cutFrom, boundary, edgesFrom, edges}
 use Rattle.encoder.specs.Drafts.{stateIn}
-use Rattle.encoder.proofs.Boundaries.{movedBy, moved-is, inside-same, stays}
+use Rattle.encoder.proofs.Boundaries.{moved-is, inside-same, stays}
 use Rattle.encoder.proofs.Tests.{fixed0, fixed1}
 
 -- what the code's test tells: no points, a raw point, and an end outside

@@ -26,12 +26,12 @@ use Rattle.encoder.specs.declared.GeomEncoder.{GeomEncoder}
 use Rattle.encoder.specs.Pushed.{command}
 use Rattle.encoder.specs.Emitting.{Emission, steps, popped, pushed, emittedAt, emission}
 use Rattle.encoder.specs.Points.{clamped, samePt, between}
-use Rattle.encoder.specs.Boundary.{moved, movedEnds}
+use Rattle.encoder.specs.Boundary.{moved, movedEnds, movedBy}
 use Rattle.encoder.specs.Adding.{emitted}
 use Rattle.encoder.specs.Boundary.{outside}
 use Rattle.clip.proofs.Callers.{coord-facts, clip-within}
 use Rattle.promise.proofs.Joined.{both}
-use Rattle.encoder.proofs.Boundaries.{movedBy, inside-same, stays}
+use Rattle.encoder.proofs.Boundaries.{inside-same, stays}
 use Rattle.clip.specs.declared.ClippedSeg.{ClippedSeg}
 use Rattle.words.specs.Params.{param}
 use Rattle.promise.proofs.Stores.{two-stores}

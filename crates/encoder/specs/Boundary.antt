@@ -1,6 +1,6 @@
 -- Document 01, "Adding a point", the boundary points: "clip the raw segment. Emit the first end if it moved, then the second if it moved."
 use mathlib.Core.Path.{_≡_}
-use mathlib.Core.Bool.{Bool, true, false, cond, _||_}
+use mathlib.Core.Bool.{Bool, true, false, cond, not, _||_}
 use mathlib.Core.List.{List, [], _∷_, _++_}
 use lib.Signed.{ltZ}
 use Rattle.clip.specs.declared.Pt.{Pt}
@@ -36,7 +36,11 @@ listOf (At p) = p ∷ []
 abbrev pub endsOf : Ends → List Pt
 endsOf e = listOf (maybe (e .moved0) (e .end0)) ++ listOf (maybe (e .moved1) (e .end1))
 
--- the ends of a cut segment: one that an edge is named for has moved
+-- the ends of the segment from raw to p, cut, by the points: an end has moved where it differs from the one given
+abbrev pub movedBy : Pt → Pt → Seg → Ends
+movedBy raw p cut = record { moved0 = not (samePt raw (cut .p0)); moved1 = not (samePt p (cut .p1)); end0 = cut .p0; end1 = cut .p1 }
+
+-- the same by the edges (`moved-is` of proofs/Boundaries): one that an edge is named for has moved
 abbrev pub endsIn : ClippedSeg → Ends
 endsIn c = record { moved0 = isMoved (c .first); moved1 = isMoved (c .second); end0 = c .seg .p0; end1 = c .seg .p1 }
 

@@ -5,13 +5,15 @@ ghost use Rattle.clip.specs.Answer.{areCoords};
 ghost use Rattle.clip.specs.Cutting.{clip};
 ghost use Rattle.clip.specs.Domain.{isCoord, isGood};
 ghost use Rattle.encoder.specs.Adding.{boundary, edges};
-ghost use Rattle.encoder.specs.Boundary.{outside, endsIn, BroughtBy};
+ghost use Rattle.encoder.specs.Boundary.{outside, movedBy, endsIn, BroughtBy};
 ghost use Rattle.encoder.specs.Drafts.{stateIn};
 ghost use Rattle.encoder.specs.Points.{inLimit};
 use crate::draft::Draft;
+use crate::points::is_same;
 use clip::BBox;
 use clip::Clipped;
 use clip::ClippedSeg;
+use clip::Cut;
 use clip::Pt;
 use clip::Seg;
 use words::geometry::Geometry;
@@ -24,8 +26,22 @@ pub(crate) struct Ends {
     pub end1: Pt,
 }
 
-// The raw segment cut at the box. The clip of a good box and two coordinates is never refused.
-pub(crate) fn clip_raw(raw: Seg, bbox: BBox) -> ClippedSeg
+// The raw segment cut at the box, without the edges, for the loop. The clip of a good box and two coordinates is never refused.
+pub(crate) fn clip_raw(raw: Seg, bbox: BBox) -> Seg
+    requires { ⌜ isGood bbox ≡ true ⌝ }
+    requires { ⌜ areCoords raw ≡ true ⌝ }
+    ensures { λ r. ⌜ r ≡ clip bbox raw .seg ⌝ }
+{
+    let p0 = raw.p0;
+    let p1 = raw.p1;
+    match clip::cut_between(p0, p1, bbox) {
+        Cut::Done(s) => s,
+        Cut::Refused(_) => raw,
+    }
+}
+
+// The same with the edges.
+fn clip_named(raw: Seg, bbox: BBox) -> ClippedSeg
     requires { ⌜ isGood bbox ≡ true ⌝ }
     requires { ⌜ areCoords raw ≡ true ⌝ }
     ensures { λ r. ⌜ r ≡ clip bbox raw ⌝ }
@@ -51,7 +67,23 @@ pub(crate) fn is_outside(p: Pt, b: BBox) -> bool
     (x < left) | (right < x) | (y < bottom) | (top < y)
 }
 
-// The ends of a cut segment: one that an edge is named for has moved.
+// The ends of the segment from raw to p, once it is cut, by the points.
+pub(crate) fn moved_ends(raw: Pt, p: Pt, cut: Seg) -> Ends
+    ensures { λ r. ⌜ r ≡ movedBy raw p cut ⌝ }
+{
+    let c0 = cut.p0;
+    let c1 = cut.p1;
+    let same0 = is_same(raw, c0);
+    let same1 = is_same(p, c1);
+    Ends {
+        moved0: !same0,
+        moved1: !same1,
+        end0: c0,
+        end1: c1,
+    }
+}
+
+// The ends of a cut segment, by the edges: one that an edge is named for has moved.
 pub(crate) fn ends_of(cut: ClippedSeg) -> Ends
     ensures { λ r. ⌜ r ≡ endsIn cut ⌝ }
 {
@@ -82,7 +114,7 @@ pub(crate) fn add_boundary_points(d: Draft, p: Pt) -> ClippedSeg
     let out0 = is_outside(raw, bbox);
     let out1 = is_outside(p, bbox);
     if (d.kind != Geometry::POINT) & d.joins & (out0 | out1) {
-        return clip_raw(Seg { p0: raw, p1: p }, bbox);
+        return clip_named(Seg { p0: raw, p1: p }, bbox);
     }
     clip::stay(Seg { p0: p, p1: p })
 }

@@ -15,8 +15,8 @@ ghost use Rattle.encoder.specs.Pens.{stateOf, markedIf, markedEnds, draw
 use crate::GeomEncoder;
 use crate::boundary::Ends;
 use crate::boundary::clip_raw;
-use crate::boundary::ends_of;
 use crate::boundary::is_outside;
+use crate::boundary::moved_ends;
 use crate::draft::Draft;
 use crate::draft::draft_of;
 use crate::draft::state_of;
@@ -68,7 +68,8 @@ fn cross(b: BBox, ring: bool, pen: Pen, p: Pt, words: &mut [u32]) -> Pen
 {
     let raw = pen.raw;
     let cut = clip_raw(Seg { p0: raw, p1: p }, b);
-    let ends = emit_ends(ring, pen, ends_of(cut), words);
+    let moved = moved_ends(raw, p, cut);
+    let ends = emit_ends(ring, pen, moved, words);
     let q = make_point(p, b);
     let last = emit(ring, ends, q, words);
     set_raw(last, p)

@@ -1,30 +1,23 @@
 -- The clip of a good box and two coordinates is never refused.
-use Rattle.encoder.proofs.Boundaries.{clip-done, clip-refused}
+use Rattle.encoder.proofs.Boundaries.{cut-done, cut-refused}
 use borrow.Author.Needs.{needs}
 use Rattle.encoder.proofs.boundary.clip_raw.Statement.{statement}
 use Rattle.encoder.proofs.boundary.clip_raw.Tie as tie
-use Rattle.clip.proofs.clip_between.Reads as clip-between-reads
-use Rattle.clip.proofs.stay.Reads as stay-reads
 
-clip-between-requires : tie.Need-clip-between-requires
-clip-between-requires c κs = search needs
+cut-between-requires : tie.Need-cut-between-requires
+cut-between-requires c κs = search needs
 
-enum-known-c : tie.Need-enum-known-c
-enum-known-c c = search needs
+enum-known-s : tie.Need-enum-known-s
+enum-known-s c = search needs
 
 enum-told : tie.Need-enum-told
 enum-told c = search needs
 
-stay-requires : tie.Need-stay-requires
-stay-requires c κs = search needs
-
 returns : tie.Need-returns
-returns c = search (needs, clip-done, clip-refused)
+returns c = search (needs, cut-done, cut-refused)
 
 returns-2 : tie.Need-returns-2
-returns-2 c = search (needs, clip-done, clip-refused)
+returns-2 c = search (needs, cut-done, cut-refused)
 
 pub clip-raw-spec : {M : Type 1} → statement M
-clip-raw-spec =
-    tie.close
-    (tie.spec clip-between-requires enum-known-c enum-told stay-requires returns returns-2)
+clip-raw-spec = tie.close (tie.spec cut-between-requires enum-known-s enum-told returns returns-2)

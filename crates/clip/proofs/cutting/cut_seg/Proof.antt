@@ -1,0 +1,114 @@
+-- `clip::cutting::cut_seg` meets its contract: the four cuts are the definition's, each cut leaves the ends within the limit for the next, and the overlap test of the definition changes no answer; the names are not asked for.
+use borrow.Author.Needs.{needs}
+use mathlib.Core.Path.{_≡_, sym, _∙_, ap}
+use mir.Syntax.{w32}
+use Rattle.whole.proofs.Machine.{Back, back}
+use Rattle.clip.specs.declared.Seg.{Seg}
+use Rattle.clip.specs.declared.BBox.{BBox}
+use Rattle.clip.specs.Numbers.{cornered}
+use Rattle.clip.proofs.Segments.{segXMin, segXMax}
+use Rattle.clip.specs.declared.ClippedSeg.{ClippedSeg}
+use Rattle.clip.proofs.Overlaps.{clip-cuts}
+use Rattle.clip.proofs.Callers.{good-proper}
+use Rattle.clip.proofs.Ends.{swapBox}
+use Rattle.clip.proofs.Cuts.{Coords, swap-good, swapped-coords, min-coords, max-coords, four-cuts}
+use Rattle.clip.proofs.cutting.cut_seg.Statement.{statement}
+use Rattle.clip.proofs.cutting.cut_seg.Tie as tie
+
+-- what the machine reads back from the bits of each value
+module _ (s : tie.Start) where
+  x0 : Back w32 (s .args .p0 .x)
+  x0 = back (search needs depth 12)
+
+  y0 : Back w32 (s .args .p0 .y)
+  y0 = back (search needs depth 12)
+
+  x1 : Back w32 (s .args .p1 .x)
+  x1 = back (search needs depth 12)
+
+  y1 : Back w32 (s .args .p1 .y)
+  y1 = back (search needs depth 12)
+
+  left : Back w32 (s .args .low .x)
+  left = back (search needs depth 12)
+
+  bottom : Back w32 (s .args .low .y)
+  bottom = back (search needs depth 12)
+
+  right : Back w32 (s .args .high .x)
+  right = back (search needs depth 12)
+
+  top : Back w32 (s .args .high .y)
+  top = back (search needs depth 12)
+
+  abbrev seg : Seg
+  seg = record { p0 = s .args .p0; p1 = s .args .p1 }
+
+  abbrev box : BBox
+  box = cornered (s .args .low) (s .args .high)
+
+  given : Coords seg
+  given = record { end0 = s .pre .1 .0; end1 = s .pre .1 .1 }
+
+ruleset read = (x0, y0, x1, y1, left, right, bottom, top)
+
+abbrev start : tie.After-struct-told6 → tie.Start
+start c = c .before .before .before .before .before .before
+
+-- what each cut gave
+cut1 : (c : tie.After-cut-low) → c .cut-low .result ≡ segXMin (box (start (c .before))) (seg (start (c .before)))
+cut1 c = simp read at (c .cut-low .ensures)
+
+cut2 : (c : tie.After-cut-high) → c .cut-high .result ≡ segXMax (box (start (c .before .before))) (c .before .cut-low .result)
+cut2 c = simp read at (c .cut-high .ensures)
+
+cut3 : (c : tie.After-cut-low2) → c .cut-low2 .result ≡ segXMin (swapBox (box (start (c .before .before .before .before)))) (c .before .swap .result)
+cut3 c = simp read at (c .cut-low2 .ensures)
+
+cut4 : (c : tie.After-cut-high2) → c .cut-high2 .result ≡ segXMax (swapBox (box (start (c .before .before .before .before .before)))) (c .before .cut-low2 .result)
+cut4 c = simp read at (c .cut-high2 .ensures)
+
+-- each cut leaves the ends within the limit
+after1 : (c : tie.After-cut-low) → Coords (c .cut-low .result)
+after1 c = let s = start (c .before) in min-coords (s .pre .0) (given s) _ (cut1 c)
+
+after2 : (c : tie.After-cut-high) → Coords (c .cut-high .result)
+after2 c = let s = start (c .before .before) in max-coords (s .pre .0) (after1 (c .before)) _ (cut2 c)
+
+turned : (c : tie.After-swap) → Coords (c .swap .result)
+turned c = swapped-coords (c .swap .ensures) (after2 (c .before))
+
+after3 : (c : tie.After-cut-low2) → Coords (c .cut-low2 .result)
+after3 c = let s = start (c .before .before .before .before) in min-coords (swap-good (s .pre .0)) (turned (c .before)) _ (cut3 c)
+
+cut-low-requires : tie.Need-cut-low-requires
+cut-low-requires c κs = search needs
+
+cut-high-requires : tie.Need-cut-high-requires
+cut-high-requires c κs = (after1 c .end0, after1 c .end1)
+
+swap-requires : tie.Need-swap-requires
+swap-requires c κs = search needs
+
+cut-low-requires-2 : tie.Need-cut-low-requires-2
+cut-low-requires-2 c κs = (turned c .end0, turned c .end1)
+
+cut-high-requires-2 : tie.Need-cut-high-requires-2
+cut-high-requires-2 c κs = (after3 c .end0, after3 c .end1)
+
+swap-requires-2 : tie.Need-swap-requires-2
+swap-requires-2 c κs = search needs
+
+returns : tie.Need-returns
+returns c =
+    let c4 = c .before in
+    let c3 = c4 .before in
+    let t = c3 .before in
+    let c2 = t .before in
+    let c1 = c2 .before in
+    let s = start (c1 .before) in
+    four-cuts (box s) (seg s) _ _ _ _ _ _ (cut1 c1) (cut2 c2) (t .swap .ensures) (cut3 c3) (cut4 c4) (c .swap2 .ensures) ∙ sym (ap (λ (d : ClippedSeg). d .seg) (clip-cuts (box s) (good-proper (s .pre .0)) (seg s)))
+
+pub cut-seg-spec : {M : Type 1} → statement M
+cut-seg-spec =
+    tie.close (tie.spec cut-low-requires cut-high-requires swap-requires cut-low-requires-2 cut-high-requires-2 swap-requires-2 returns)
