@@ -1,4 +1,4 @@
--- The tests of specs/Domain as facts, for proofs and for what the private functions ask of their callers. No public promise cites them.
+-- The tests of specs/Domain as facts, and what the private functions ask and answer. No public promise cites them.
 -- That a test and its fact agree: `coord-facts`, `coord-is`, `good-facts`, `good-is` of proofs/Callers.
 use mathlib.Core.Bool.{Bool, cond, _||_}
 use lib.IntN.{ℤ, negℤ}
@@ -55,7 +55,7 @@ abbrev pub replaceSeg : Bool → Bool → Seg → Crossing → Seg
 replaceSeg out0 out1 s Missing = s
 replaceSeg out0 out1 s (At p) = cond out0 (record { p0 = p; p1 = s .p1 }) (cond out1 (record { p0 = s .p0; p1 = p }) s)
 
--- what became of an end, by where it stands as given, between the cuts at x and those at y, and after all (`edge-by` of proofs/Naming)
+-- what became of an end, by where it stands as given, between the cuts at x and those at y, and after all (`first-by`, `second-by` of proofs/Naming)
 abbrev pub edgeBy : Pt → Pt → Pt → Pt → Edge
 edgeBy given halfway after low =
     cond (eqZ (given .x) (halfway .x)) (cond (eqZ (halfway .y) (after .y)) Stayed (cond (eqZ (after .y) (low .y)) YMin YMax))

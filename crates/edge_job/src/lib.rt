@@ -52,7 +52,7 @@ fn note(e: Edges, i: usize, edges: &mut [u32])
 }
 
 // Adds point i to the words, and its edges to their list: STATE, COORD, ROOM.
-pub fn add_point(
+fn add_point(
     s: GeomEncoder,
     x: i32,
     y: i32,
