@@ -29,6 +29,7 @@ class Edit:
     names: list  # functions, or laws and definitions
     why: str
     pairs: list  # (file, old, new)
+    still: list  # laws that it leaves true
 
 
 def uses():
@@ -97,11 +98,12 @@ def callees(crate_functions, function, private_only=False):
 
 
 def read_edit(path):
-    """An edit's first line is `# NAME[, NAME]: what the wrong program does`; then `file:`, `old:` and `new:` lines as rt reads them."""
+    """An edit's first line is `# NAME[, NAME]: what the wrong program does`; then `file:`, `old:` and `new:` lines as rt reads them.
+    `# still: LAW[, LAW]` names laws that hold of the wrong program too."""
     lines = path.read_text().split("\n")
     head = re.fullmatch(r"# ([\w:·'-]+(?:, [\w:·'-]+)*): (.+)", lines[0])
     names, why = (head[1].split(", "), head[2]) if head else ([], lines[0])
-    pairs, file, old = [], None, None
+    pairs, still, file, old = [], [], None, None
     for line in lines:
         if line.startswith("file: "):
             file = line[6:]
@@ -109,7 +111,9 @@ def read_edit(path):
             old = line[5:]
         elif line.startswith("new:"):
             pairs.append((file, old, line[4:].removeprefix(" ")))
-    return Edit(path.parent.parent.name, path.stem, path.parent.name, names, why, pairs)
+        elif line.startswith("# still: "):
+            still = line[9:].split(", ")
+    return Edit(path.parent.parent.name, path.stem, path.parent.name, names, why, pairs, still)
 
 
 def edits(crate):

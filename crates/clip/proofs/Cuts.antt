@@ -16,15 +16,14 @@ use Rattle.clip.specs.declared.Seg.{Seg}
 use Rattle.clip.specs.declared.BBox.{BBox}
 use Rattle.clip.specs.declared.cutting.Meeting.{Meeting}
 use Rattle.clip.specs.declared.cutting.Meeting.the-variants.{Nowhere, At as AtY}
-use Rattle.clip.specs.Numbers.{boxAt}
 use Rattle.clip.specs.Facts.{Coord, Good, Asked, replaceSeg}
 use Rattle.clip.specs.Cutting.{Crossing, Missing, At, height, inRange, reaches, crossInOrder, crossAtX, swap, swapSeg, metAt, cuts}
 use Rattle.clip.proofs.Segments.{segXMin, segXMax, segYMin, segYMax, segCuts, seg-cuts}
 use Rattle.clip.proofs.Ends.{Side, low, high, beyond, endsX, join, swapBox}
 use Rattle.clip.proofs.Heights.{above-least, below-most}
-use Rattle.clip.proofs.Verdicts.{verdict}
-use Rattle.clip.proofs.Readings.{crossing-sym, out, swap-replace, at-x-min, at-x-max}
-use Rattle.clip.proofs.Fates.{Fate, clear, moved, stuck, fate, none-beyond}
+use Rattle.clip.proofs.Readings.{swap-replace, at-x-min, at-x-max}
+use Rattle.clip.proofs.Symmetry.{crossing-sym, none-beyond}
+use Rattle.clip.proofs.Fates.{Fate, clear, moved, stuck, fate}
 use Rattle.clip.proofs.Callers.{good-proper, inside-coord}
 
 -- ---- the crossing, with p left of q and the line between them
@@ -82,11 +81,6 @@ cross-on : (d : Side) (p q : Pt) (c a b : ℤ) → crossOn d p q c a b ≡ cross
 cross-on low p q c a b = refl
 cross-on high p q c a b = crossing-sym q p c a b
 
--- no crossing where both ends are strictly outside
-none-on : (d : Side) (p q : Pt) (c a b : ℤ) → beyond d c (p .x) ≡ true → beyond d c (q .x) ≡ true → crossAtX p q c a b ≡ Missing
-none-on low p q c a b u v = let x : BBox = boxAt c c a b in none-beyond low x (out low x p u) (out low x q v) (verdict _ _ _ p q)
-none-on high p q c a b u v = let x : BBox = boxAt c c a b in none-beyond high x (out high x p u) (out high x q v) (verdict _ _ _ p q)
-
 -- what the machine reads back from the bits of each value
 abbrev read : ℤ → ℤ
 read z = toZ w32 (ofZ w32 z)
@@ -120,7 +114,7 @@ module _ (d : Side) (s : Seg) (c a b : ℤ) (k : Reads s c a b) where
   is1 t e = rw (k .at, k .x1) at e
 
   pub both-out : Out0 true → Out1 true → s ≡ Cut
-  both-out u v = sym (ap (replaceSeg (beyond d c (s .p0 .x)) (beyond d c (s .p1 .x)) s) (none-on d (s .p0) (s .p1) c a b (is0 true u) (is1 true v)))
+  both-out u v = sym (ap (replaceSeg (beyond d c (s .p0 .x)) (beyond d c (s .p1 .x)) s) (none-beyond d c (s .p0) (s .p1) a b (is0 true u) (is1 true v)))
 
   pub none-out : Out0 false → Out1 false → s ≡ Cut
   none-out u v = replaced-none _ _ s (crossAtX (s .p0) (s .p1) c a b) (is0 false u) (is1 false v)

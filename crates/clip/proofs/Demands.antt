@@ -21,7 +21,8 @@ use Rattle.clip.specs.Demand3.{Inside, Share, Meets, along, Holds, Place
 use Rattle.whole.proofs.Cases.{le-is}
 use Rattle.promise.proofs.Joined.{both-is}
 use Rattle.clip.proofs.Tests.{most-lt, lt-least}
-use Rattle.clip.proofs.Ends.{Side, low, high, endsX, endsY, ends, swapBox, reversed, Proper, swap-proper}
+use Rattle.clip.specs.Laws.{reversed}
+use Rattle.clip.proofs.Ends.{Side, low, high, endsX, endsY, ends, swapBox, Proper, swap-proper}
 use Rattle.clip.proofs.Readings.{cuts-are-ends}
 use Rattle.clip.proofs.Slopes.{both-below, both-above}
 use Rattle.clip.proofs.Fates.{fate}

@@ -44,9 +44,6 @@ endsY s b t = swapSeg (endsX s (swapBox b) (swapSeg t))
 abbrev pub ends : BBox → Seg → Seg
 ends b t = endsY high b (endsY low b (endsX high b (endsX low b t)))
 
-abbrev pub reversed : Seg → Seg
-reversed t = join (t .p1) (t .p0)
-
 -- all that is asked of the box
 pub record Proper (b : BBox) : Type 0 where
   pub wide : b .«x_min» <ℤ b .«x_max»

@@ -14,7 +14,7 @@ use Rattle.whole.proofs.Laws.{prod, next, <-≤, diff<}
 use Rattle.whole.proofs.Auto.{reads, ≤:, <:, ≡:, ≤!, ≡! }
 use Rattle.clip.specs.declared.Pt.{Pt}
 use Rattle.clip.specs.declared.BBox.{BBox}
-use Rattle.clip.specs.Cutting.{Crossing, Missing, swap}
+use Rattle.clip.specs.Cutting.{Crossing, swap}
 use Rattle.clip.specs.Demand3.{OnEdge, Share, Meets}
 use Rattle.whole.proofs.Cases.{by-lt}
 use Rattle.clip.proofs.Ends.{Side, low, high, edge, put, move, join, swapBox, Proper}
@@ -106,17 +106,6 @@ not-past : (s : Side) (b : BBox) {e f : Pt} {r : ℤ} → Nearest (edge s b) e f
 not-past s b {e} {f} g o =
     let q : (g .m *ℤ turn s (edge s b -ℤ e .x)) ≤ℤ (g .n *ℤ turn s (f .x -ℤ e .x)) = (let z = across-at s (edge s b) (e .x) (f .x) (g .m) (g .n) (g .across) in omega zarith) in
     past s (edge s b) (e .x) (f .x) (as-far _ _ (g .share) o q)
-
--- no crossing where both ends are strictly outside
-pub none-beyond : (s : Side) (b : BBox) {e f : Pt} {w : Crossing} → Out s b e → Out s b f → Verdict (edge s b) (b .«y_min») (b .«y_max») e f w → w ≡ Missing
-none-beyond s b o n (level q) = refl
-none-beyond s b o n (left u v) = refl
-none-beyond s b o n (right u v) = refl
-none-beyond s b o n (under u v) = refl
-none-beyond s b o n (over u v) = refl
-none-beyond s b o n (lower r g l) = refl
-none-beyond s b o n (upper r g l) = refl
-none-beyond s b {e} {f} o n (good r g l u) = absurd (not-past s b g o n)
 
 -- ---- the fate of an end that is out
 module _ (b : BBox) (h : Proper b) (e f : Pt) where

@@ -17,3 +17,6 @@ pub mod Held
 pub mod Heights
 pub mod Cuts
 pub mod Returns
+pub mod Symmetry
+pub mod Shift
+pub mod Laws

@@ -8,7 +8,7 @@ use mathlib.Core.Path.{_≡_, refl, sym, _∙_, ap, subst}
 use mathlib.Core.Bool.{Bool, true, false}
 use native.Mathlib.Omega.{arith}
 use lib.IntN.{ℤ}
-use lib.Signed.{_≤ℤ_, ≤ℤ-refl, ltZ}
+use lib.Signed.{_≤ℤ_, ≤ℤ-refl}
 use Rattle.whole.proofs.Parts.{zarith}
 use Rattle.whole.proofs.Laws.{<-≤}
 use Rattle.whole.proofs.Machine.{lt-yes}

@@ -1,5 +1,4 @@
 -- The code's naming of an end: by its coordinates before, between and after the cuts. A cut moves an end off its coordinate, onto its edge, and no end moves twice (proofs/Names).
-use Prim.Native.Nat.{ℕ}
 use mathlib.Core.Path.{_≡_, refl, sym, _∙_, ap}
 use native.Mathlib.Omega.{arith}
 use lib.IntN.{ℤ}
@@ -14,12 +13,10 @@ use mathlib.Core.Bool.{true, false}
 use Rattle.clip.specs.declared.Pt.{Pt}
 use Rattle.clip.specs.declared.Seg.{Seg}
 use Rattle.clip.specs.declared.BBox.{BBox}
-use Rattle.clip.specs.declared.ClippedSeg.{ClippedSeg}
 use Rattle.clip.specs.declared.Edge.{Edge}
 use Rattle.clip.specs.declared.Edge.the-variants.{Stayed, XMin, XMax, YMin, YMax}
-use Rattle.clip.specs.Cutting.{given, cuts, cutXMin, cutXMax, clip}
+use Rattle.clip.specs.Cutting.{given, cuts, clip}
 use Rattle.clip.specs.Facts.{Good, edgeBy}
-use Rattle.clip.specs.Numbers.{cornered}
 use Rattle.clip.proofs.Ends.{Proper}
 use Rattle.clip.proofs.Names.{Step, stays, moves, not-passed, upTo, step-x-min, step-x-max, step-y-min, step-y-max}
 use Rattle.clip.proofs.Segments.{segXMin, segXMax, seg-x-min, seg-x-max}

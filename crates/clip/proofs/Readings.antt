@@ -2,35 +2,14 @@
 -- by which each end asks for itself (proofs/Ends), since a segment with both ends strictly outside has no crossing, and the crossing of the reversed segment is the same.
 use mathlib.Core.Path.{_≡_, refl, _∙_, ap}
 use mathlib.Core.Bool.{Bool, true, false, cond}
-use lib.IntN.{ℤ, _-ℤ_}
-use lib.Signed.{_<ℤ_, ltZ}
 use native.Mathlib.Omega.{arith}
-use Rattle.whole.proofs.Parts.{zarith, -parts, neg-p, neg-n}
-use Rattle.whole.proofs.Machine.{lt-yes}
-use Rattle.clip.specs.declared.Pt.{Pt}
 use Rattle.clip.specs.declared.Seg.{Seg}
 use Rattle.clip.specs.declared.BBox.{BBox}
-use Rattle.clip.specs.Cutting.{Crossing, Missing, At, crossInOrder, crossAtX, crossAtY, swap, swapped, cuts, swapSeg}
+use Rattle.clip.specs.Cutting.{Crossing, Missing, At, crossAtX, crossAtY, swap, swapped, cuts, swapSeg}
 use Rattle.clip.specs.Facts.{replaceSeg}
 use Rattle.clip.proofs.Segments.{segXMin, segXMax, segYMin, segYMax, segCuts, seg-cuts}
 use Rattle.clip.proofs.Ends.{Side, low, high, edge, beyond, put, move, join, endsX, endsY, ends, swapBox}
-use Rattle.clip.proofs.Verdicts.{verdict}
-use Rattle.clip.proofs.Fates.{Out, none-beyond}
-
--- ---- the ends exchanged
-either : {A : Type 0} (s t : Bool) (x y z : A) → (s ≡ true → t ≡ true → ⊥) → cond s x (cond t y z) ≡ cond t y (cond s x z)
-either true true x y z h = absurd (h refl refl)
-either true false x y z h = refl
-either false true x y z h = refl
-either false false x y z h = refl
-
-not-each : (a b : ℤ) → a <ℤ b → b <ℤ a → ⊥
-not-each a b h k = omega zarith
-
-pub crossing-sym : (p q : Pt) (x a b : ℤ) → crossAtX p q x a b ≡ crossAtX q p x a b
-unfolding crossAtX
-crossing-sym p q x a b =
-    either (ltZ (p .x) (q .x)) (ltZ (q .x) (p .x)) (crossInOrder p q x a b) (crossInOrder q p x a b) Missing (λ u v. not-each (p .x) (q .x) (lt-yes u) (lt-yes v))
+use Rattle.clip.proofs.Symmetry.{crossing-sym, none-beyond}
 
 -- ---- one cut
 one-end : (u v : Bool) (t : Seg) (w : Crossing) → (u ≡ true → v ≡ true → w ≡ Missing)
@@ -44,15 +23,11 @@ one-end false true t (At p) h = refl
 one-end false false t Missing h = refl
 one-end false false t (At p) h = refl
 
-pub out : (s : Side) (b : BBox) (p : Pt) → beyond s (edge s b) (p .x) ≡ true → Out s b p
-out low b p e = let l : p .x <ℤ b .«x_min» = lt-yes e in omega (zarith, -parts (b .«x_min») (p .x))
-out high b p e = let l : b .«x_max» <ℤ p .x = lt-yes e in omega (zarith, -parts (b .«x_max») (p .x), neg-p (b .«x_max» -ℤ p .x), neg-n (b .«x_max» -ℤ p .x))
-
 pub cut-x : (s : Side) (b : BBox) (t : Seg)
     → replaceSeg (beyond s (edge s b) (t .p0 .x)) (beyond s (edge s b) (t .p1 .x)) t (crossAtX (t .p0) (t .p1) (edge s b) (b .«y_min») (b .«y_max»)) ≡ endsX s b t
 unfolding move
 cut-x s b t =
-    one-end _ _ t (crossAtX (t .p0) (t .p1) (edge s b) (b .«y_min») (b .«y_max»)) (λ u v. none-beyond s b (out s b (t .p0) u) (out s b (t .p1) v) (verdict _ _ _ (t .p0) (t .p1))) ∙
+    one-end _ _ t (crossAtX (t .p0) (t .p1) (edge s b) (b .«y_min») (b .«y_max»)) (none-beyond s (edge s b) (t .p0) (t .p1) (b .«y_min») (b .«y_max»)) ∙
     ap (λ (w : Crossing). join (move s b (t .p0) (t .p1)) (cond (beyond s (edge s b) (t .p1 .x)) (put (t .p1) w) (t .p1))) (crossing-sym (t .p0) (t .p1) (edge s b) (b .«y_min») (b .«y_max»))
 
 -- ---- at y

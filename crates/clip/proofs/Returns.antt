@@ -1,7 +1,7 @@
 -- What the functions return, one law for each way through them, over plain values: the facts that the code's tests and calls tell make the definition's answer.
 use mathlib.Core.Path.{_≡_, refl, sym, _∙_, ap}
 use mathlib.Core.Bool.{Bool, true, false, not, _&&_, _||_}
-use mathlib.Core.List.{List, [], _∷_}
+use mathlib.Core.List.{[], _∷_}
 use mathlib.Core.Logic.{_⊎_, inl, inr, ⊎-elim}
 use lib.IntN.{ℤ, negℤ}
 use lib.Signed.{_≤ℤ_, _<ℤ_, ltZ, leZ}
@@ -18,7 +18,7 @@ use Rattle.clip.specs.declared.Clipped.{Clipped}
 use Rattle.clip.specs.declared.Clipped.the-variants.{Done, Refused}
 use Rattle.refusal.specs.declared.Refusal.the-variants.{Box, Coord as CoordRefusal}
 use Rattle.clip.specs.Domain.{limit, isCoord, isGood}
-use Rattle.refusal.specs.Said.{Said, accepted, refused}
+use Rattle.refusal.specs.Said.{accepted, refused}
 use Rattle.clip.specs.Answer.{saidClipped, areCoords, clipped}
 use Rattle.clip.specs.Numbers.{boxAt, cornered}
 use Rattle.clip.specs.Demand3.{Demand3}
@@ -26,16 +26,11 @@ use Rattle.clip.specs.Facts.{Coord, Good, beside, besideX, besideY}
 use Rattle.clip.specs.Cutting.{least, most, given, clip}
 use Rattle.clip.proofs.Overlaps.{Apart, left, right, under, over, cuts-apart, clip-cuts}
 use Rattle.clip.proofs.Callers.{coord-facts, good-facts, good-is, good-proper, box-refused, coord-refused, not-refused, demand-clip}
-use Rattle.clip.proofs.Tests.{most-lt, lt-least}
+use Rattle.clip.proofs.Tests.{same, most-lt, lt-least}
 use Rattle.whole.proofs.Cases.{le-is, lt-is}
 use Rattle.promise.proofs.Joined.{both, both-is}
 
 -- ---- tests joined in another order, or with fewer of them
-same : (s t : Bool) → (s ≡ true → t ≡ true) → (t ≡ true → s ≡ true) → s ≡ t
-same true t f g = sym (f refl)
-same false true f g = g refl
-same false false f g = refl
-
 -- the lower edge lies below the upper one: where one is within one end of the limit, so is the other
 module _ (l r b t : ℤ) where
   abbrev edgesTest : Bool

@@ -1,6 +1,6 @@
 -- The cuts of the segment alone, without the names of the edges: what they make of it is what the definition's cuts make of its segment (`seg-cuts`). The proofs of demand 3 but (d) speak of these.
 use mathlib.Core.Path.{_≡_, refl, _∙_, ap}
-use mathlib.Core.Bool.{Bool, true, false, cond}
+use mathlib.Core.Bool.{Bool, true, false}
 use lib.Signed.{ltZ}
 use Rattle.clip.specs.declared.Seg.{Seg}
 use Rattle.clip.specs.declared.BBox.{BBox}

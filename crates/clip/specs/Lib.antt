@@ -4,5 +4,6 @@ pub mod Cutting
 pub mod Answer
 pub mod Demand3
 pub mod Samples
+pub mod Laws
 pub mod Facts
 pub mod Numbers

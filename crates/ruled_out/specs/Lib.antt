@@ -3,6 +3,7 @@ pub mod ByName
 pub mod Promises
 pub mod Words
 pub mod Clips
+pub mod ClipLaws
 pub mod Points
 pub mod Encoding
 pub mod Jobs

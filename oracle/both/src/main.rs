@@ -10,6 +10,7 @@ mod edges;
 mod held;
 mod jobs;
 mod judge;
+mod laws;
 mod lent;
 mod many;
 mod near;
@@ -27,7 +28,7 @@ use jobs::Spoil;
 use report::{Difference, Tally};
 use std::process::exit;
 
-const USAGE: &str = "usage: both jobs|clips|readings|tiles|varints|arbitrary|arbitrary-tiles|spoiled-jobs|spoiled-clips|spoiled-edges|spoiled-calls|spoiled-readings|spoiled-tiles|spoiled-varints SEED COUNT, or both cases jobs|large_jobs|clips|tiles|large_tiles SEED COUNT";
+const USAGE: &str = "usage: both jobs|clips|laws|readings|tiles|varints|arbitrary|arbitrary-tiles|spoiled-jobs|spoiled-clips|spoiled-laws|spoiled-edges|spoiled-calls|spoiled-readings|spoiled-tiles|spoiled-varints SEED COUNT, or both cases jobs|large_jobs|clips|tiles|large_tiles SEED COUNT";
 
 fn run(kind: &str, seed: u64, count: usize, tally: &mut Tally) -> Option<Difference> {
     match kind {
@@ -40,6 +41,9 @@ fn run(kind: &str, seed: u64, count: usize, tally: &mut Tally) -> Option<Differe
         "clips" => clips::compare(seed, count, false, tally),
         // The same: another edge of a clip.
         "spoiled-clips" => clips::compare(seed, count, true, tally),
+        "laws" => laws::compare(seed, count, false, tally),
+        // The same: another edge in the answer to the reversed or the moved segment.
+        "spoiled-laws" => laws::compare(seed, count, true, tally),
         "readings" => readings::compare(seed, count, false, tally),
         // The same: a fault of ours is said to be COMMAND.
         "spoiled-readings" => readings::compare(seed, count, true, tally),
