@@ -7,6 +7,14 @@ use crate::random::Random;
 use crate::report::{Difference, Tally};
 use crate::shrink;
 
+/// What is changed of ours, to show that it is found: an edge of the first end, from the other end or moved.
+#[derive(Clone, Copy, PartialEq)]
+pub enum Spoil {
+    Nothing,
+    Turned,
+    Moved,
+}
+
 /// A segment, a box, and one step for both.
 type Case = [i32; 10];
 
@@ -18,8 +26,11 @@ fn parts(case: &Case) -> ([i32; 4], [i32; 4], [i32; 2]) {
     ([x0, y0, x1, y1], [left, right, bottom, top], [u, v])
 }
 
-fn said(segment: [i32; 4], edges: [i32; 4]) -> Said {
-    let given = ours::clip(segment, edges);
+fn said(segment: [i32; 4], edges: [i32; 4], spoil: bool) -> Said {
+    let mut given = ours::clip(segment, edges);
+    if spoil {
+        other_edge(&mut given.edge0);
+    }
     (
         given.refusal,
         [given.x0, given.y0, given.x1, given.y1],
@@ -52,19 +63,12 @@ fn asked(case: &Case) -> Option<([i32; 4], [i32; 4])> {
     moved(case).filter(|(s, b)| taken(segment, edges) && taken(*s, *b))
 }
 
-/// Which law fails, and how. Spoiled, an edge that is not 0 is another one in the second answer.
-fn fails(case: &Case, spoil: bool) -> Option<String> {
+/// Which law fails, and how.
+fn fails(case: &Case, spoil: Spoil) -> Option<String> {
     let (segment, edges, [u, v]) = parts(case);
-    let answer = |segment, edges| {
-        let mut second = said(segment, edges);
-        if spoil {
-            other_edge(&mut second.2[0]);
-        }
-        second
-    };
-    let (refusal, cut, [first, second]) = said(segment, edges);
+    let (refusal, cut, [first, second]) = said(segment, edges, false);
     let turned = (refusal, reversed(cut), [second, first]);
-    let from_other_end = answer(reversed(segment), edges);
+    let from_other_end = said(reversed(segment), edges, spoil == Spoil::Turned);
     if from_other_end != turned {
         return Some(format!(
             "from the other end {from_other_end:?}, expected {turned:?}"
@@ -73,7 +77,7 @@ fn fails(case: &Case, spoil: bool) -> Option<String> {
     let (segment, edges) = asked(case)?;
     let [x0, y0, x1, y1] = cut;
     let expected = (0, [x0 + u, y0 + v, x1 + u, y1 + v], [first, second]);
-    let by_one_step = answer(segment, edges);
+    let by_one_step = said(segment, edges, spoil == Spoil::Moved);
     (by_one_step != expected).then(|| format!("moved {by_one_step:?}, expected {expected:?}"))
 }
 
@@ -113,7 +117,7 @@ fn simpler(case: &Case) -> Vec<Case> {
     found
 }
 
-fn one(case: Case, spoil: bool, tally: &mut Tally) -> Option<Difference> {
+fn one(case: Case, spoil: Spoil, tally: &mut Tally) -> Option<Difference> {
     if fails(&case, spoil).is_some() {
         let (case, what) = shrink::smallest(case, &|case| fails(case, spoil), &simpler);
         return Some(Difference {
@@ -123,7 +127,7 @@ fn one(case: Case, spoil: bool, tally: &mut Tally) -> Option<Difference> {
     }
     let (segment, edges, [u, v]) = parts(&case);
     tally.add("from the other end", 1);
-    let (refusal, _, ends) = said(segment, edges);
+    let (refusal, _, ends) = said(segment, edges, false);
     tally.add("of these refused", usize::from(refusal != 0));
     tally.add("with an end moved", usize::from(ends != [0, 0]));
     if let Some((_, edges)) = asked(&case) {
@@ -139,7 +143,7 @@ fn one(case: Case, spoil: bool, tally: &mut Tally) -> Option<Difference> {
 }
 
 /// The fixed clips, then random ones, each with its step.
-pub fn compare(seed: u64, count: usize, spoil: bool, tally: &mut Tally) -> Option<Difference> {
+pub fn compare(seed: u64, count: usize, spoil: Spoil, tally: &mut Tally) -> Option<Difference> {
     let mut random = Random::new(seed);
     let fixed = cases::fixed_clips();
     (0..fixed.len() + count).find_map(|at| {

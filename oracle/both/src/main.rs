@@ -28,7 +28,7 @@ use jobs::Spoil;
 use report::{Difference, Tally};
 use std::process::exit;
 
-const USAGE: &str = "usage: both jobs|clips|laws|readings|tiles|varints|arbitrary|arbitrary-tiles|spoiled-jobs|spoiled-clips|spoiled-laws|spoiled-edges|spoiled-calls|spoiled-readings|spoiled-tiles|spoiled-varints SEED COUNT, or both cases jobs|large_jobs|clips|tiles|large_tiles SEED COUNT";
+const USAGE: &str = "usage: both jobs|clips|laws|readings|tiles|varints|arbitrary|arbitrary-tiles|spoiled-jobs|spoiled-clips|spoiled-turned|spoiled-moved|spoiled-edges|spoiled-calls|spoiled-readings|spoiled-tiles|spoiled-varints SEED COUNT, or both cases jobs|large_jobs|clips|tiles|large_tiles SEED COUNT";
 
 fn run(kind: &str, seed: u64, count: usize, tally: &mut Tally) -> Option<Difference> {
     match kind {
@@ -41,9 +41,10 @@ fn run(kind: &str, seed: u64, count: usize, tally: &mut Tally) -> Option<Differe
         "clips" => clips::compare(seed, count, false, tally),
         // The same: another edge of a clip.
         "spoiled-clips" => clips::compare(seed, count, true, tally),
-        "laws" => laws::compare(seed, count, false, tally),
-        // The same: another edge in the answer to the reversed or the moved segment.
-        "spoiled-laws" => laws::compare(seed, count, true, tally),
+        "laws" => laws::compare(seed, count, laws::Spoil::Nothing, tally),
+        // The same: another edge of a clip from the other end, and of a clip that is moved.
+        "spoiled-turned" => laws::compare(seed, count, laws::Spoil::Turned, tally),
+        "spoiled-moved" => laws::compare(seed, count, laws::Spoil::Moved, tally),
         "readings" => readings::compare(seed, count, false, tally),
         // The same: a fault of ours is said to be COMMAND.
         "spoiled-readings" => readings::compare(seed, count, true, tally),
