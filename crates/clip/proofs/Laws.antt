@@ -1,6 +1,6 @@
 -- The two laws of specs/Laws, from what Symmetry and Shift prove of the definition: `from-other-end`, `by-one-step`.
 use mathlib.Core.Path.{_≡_, refl, sym, _∙_, ap}
-use mathlib.Core.Bool.{Bool, true, false, cond, _&&_}
+use mathlib.Core.Bool.{Bool, true, false, cond}
 use mathlib.Core.List.{List, [], _∷_}
 use lib.IntN.{ℤ}
 use Rattle.refusal.specs.declared.Refusal.the-variants.{Box, Coord}
@@ -14,6 +14,7 @@ use Rattle.clip.specs.Domain.{isCoord, isGood}
 use Rattle.clip.specs.Cutting.{clip}
 use Rattle.clip.specs.Answer.{saidClipped, areCoords, clipped}
 use Rattle.clip.specs.Laws.{saidOf, answerOf, reversed, turned, FromOtherEnd, movedSeg, movedBox, movedClip, BothTaken, ByOneStep}
+use Rattle.promise.proofs.Joined.{and-sym}
 use Rattle.clip.proofs.Callers.{one-answer, not-refused}
 use Rattle.clip.proofs.Symmetry.{clip-reversed}
 use Rattle.clip.proofs.Shift.{clip-moved}
@@ -26,12 +27,6 @@ said-of f (Refused r) = refl
 -- what is said leaves one answer
 one-changed : (f : ClippedSeg → ClippedSeg) (r r′ : Clipped) {a a′ : Said (List ClippedSeg)} → a′ ≡ saidOf f a → saidClipped r ≡ a → saidClipped r′ ≡ a′ → r′ ≡ answerOf f r
 one-changed f r r′ e g h = one-answer r′ (answerOf f r) (h ∙ e ∙ ap (saidOf f) (sym g) ∙ sym (said-of f r))
-
-and-sym : (s t : Bool) → (s && t) ≡ (t && s)
-and-sym true true = refl
-and-sym true false = refl
-and-sym false true = refl
-and-sym false false = refl
 
 reversed-said : (s : Seg) (b : BBox) → clipped (reversed s) b ≡ saidOf turned (clipped s b)
 unfolding clipped

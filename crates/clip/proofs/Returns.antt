@@ -26,9 +26,9 @@ use Rattle.clip.specs.Facts.{Coord, Good, beside, besideX, besideY}
 use Rattle.clip.specs.Cutting.{least, most, given, clip}
 use Rattle.clip.proofs.Overlaps.{Apart, left, right, under, over, cuts-apart, clip-cuts}
 use Rattle.clip.proofs.Callers.{coord-facts, good-facts, good-is, good-proper, box-refused, coord-refused, not-refused, demand-clip}
-use Rattle.clip.proofs.Tests.{same, most-lt, lt-least}
+use Rattle.clip.proofs.Tests.{most-lt, lt-least}
 use Rattle.whole.proofs.Cases.{le-is, lt-is}
-use Rattle.promise.proofs.Joined.{both, both-is}
+use Rattle.promise.proofs.Joined.{same, both, both-is}
 
 -- ---- tests joined in another order, or with fewer of them
 -- the lower edge lies below the upper one: where one is within one end of the limit, so is the other

@@ -16,7 +16,7 @@ use Rattle.clip.specs.declared.Edge.the-variants.{XMin, XMax, YMin, YMax
 use Rattle.clip.specs.declared.ClippedSeg.{ClippedSeg}
 use Rattle.clip.specs.Rounding.{round}
 use Rattle.clip.specs.Cutting.{Crossing, Missing, At, least, most, height, inRange, reaches, crossInOrder, crossAtX, crossAtY, swap, swapped, given, replace, cutXMin, cutXMax, cutYMin, cutYMax, cuts, overlap, clip}
-use Rattle.clip.proofs.Tests.{same}
+use Rattle.promise.proofs.Joined.{same, all-four}
 use Rattle.clip.proofs.Ends.{Side, low, high, beyond}
 use Rattle.clip.specs.Laws.{movedPt, movedSeg, movedBox, movedClip}
 
@@ -51,9 +51,6 @@ upto-most c m n u = ap (leZ (c +ℤ u)) (most-moved m n u) ∙ le-moved c (most 
 
 least-upto : (c m n u : ℤ) → leZ (least (m +ℤ u) (n +ℤ u)) (c +ℤ u) ≡ leZ (least m n) c
 least-upto c m n u = ap (λ (z : ℤ). leZ z (c +ℤ u)) (least-moved m n u) ∙ le-moved (least m n) c u
-
-all-four : {s s′ t t′ u u′ v v′ : Bool} → s ≡ s′ → t ≡ t′ → u ≡ u′ → v ≡ v′ → (s && t && (u && v)) ≡ (s′ && t′ && (u′ && v′))
-all-four d e f g = λ i. d i && e i && (f i && g i)
 
 -- ---- the crossing
 height-moved : (x1 y1 x2 y2 x u v : ℤ) → height (x1 +ℤ u) (y1 +ℤ v) (x2 +ℤ u) (y2 +ℤ v) (x +ℤ u) ≡ height x1 y1 x2 y2 x +ℤ v

@@ -8,6 +8,7 @@ use lib.Signed.{_≤ℤ_, _<ℤ_, ltZ, leZ}
 use Rattle.whole.proofs.Parts.{zarith}
 use Rattle.whole.proofs.Machine.{lt-yes, le-yes}
 use Rattle.whole.proofs.Cases.{by-le}
+use Rattle.promise.proofs.Joined.{all-four}
 use Rattle.clip.specs.declared.Pt.{Pt}
 use Rattle.clip.specs.declared.Seg.{Seg}
 use Rattle.clip.specs.declared.BBox.{BBox}
@@ -78,25 +79,25 @@ module _ (s : Side) (e : Edge) (c a b : ℤ) (d : ClippedSeg) where
       turned-replace e _ _ d (crossAtY p q c a b) (λ i j. ap swapped (none-beyond s c (swap p) (swap q) a b i j)))
 
 module _ (b : BBox) (c : ClippedSeg) where
-  at-x-min : cutXMin b (turned c) ≡ turned (cutXMin b c)
-  at-x-min = turned-x low XMin (b .«x_min») (b .«y_min») (b .«y_max») c
+  x-min-turned : cutXMin b (turned c) ≡ turned (cutXMin b c)
+  x-min-turned = turned-x low XMin (b .«x_min») (b .«y_min») (b .«y_max») c
 
-  at-x-max : cutXMax b (turned c) ≡ turned (cutXMax b c)
-  at-x-max = turned-x high XMax (b .«x_max») (b .«y_min») (b .«y_max») c
+  x-max-turned : cutXMax b (turned c) ≡ turned (cutXMax b c)
+  x-max-turned = turned-x high XMax (b .«x_max») (b .«y_min») (b .«y_max») c
 
-  at-y-min : cutYMin b (turned c) ≡ turned (cutYMin b c)
-  at-y-min = turned-y low YMin (b .«y_min») (b .«x_min») (b .«x_max») c
+  y-min-turned : cutYMin b (turned c) ≡ turned (cutYMin b c)
+  y-min-turned = turned-y low YMin (b .«y_min») (b .«x_min») (b .«x_max») c
 
-  at-y-max : cutYMax b (turned c) ≡ turned (cutYMax b c)
-  at-y-max = turned-y high YMax (b .«y_max») (b .«x_min») (b .«x_max») c
+  y-max-turned : cutYMax b (turned c) ≡ turned (cutYMax b c)
+  y-max-turned = turned-y high YMax (b .«y_max») (b .«x_min») (b .«x_max») c
 
 cuts-reversed : (b : BBox) (s : Seg) → cuts b (reversed s) ≡ turned (cuts b s)
 unfolding cuts
 cuts-reversed b s =
     let c1 = cutXMin b (given s) in
     let c2 = cutXMax b c1 in
-    ap (λ (c : ClippedSeg). cutYMax b (cutYMin b (cutXMax b c))) (at-x-min b (given s)) ∙ ap (λ (c : ClippedSeg). cutYMax b (cutYMin b c)) (at-x-max b c1) ∙
-    ap (cutYMax b) (at-y-min b c2) ∙ at-y-max b (cutYMin b c2)
+    ap (λ (c : ClippedSeg). cutYMax b (cutYMin b (cutXMax b c))) (x-min-turned b (given s)) ∙ ap (λ (c : ClippedSeg). cutYMax b (cutYMin b c)) (x-max-turned b c1) ∙
+    ap (cutYMax b) (y-min-turned b c2) ∙ y-max-turned b (cutYMin b c2)
 
 -- ---- the overlap
 most-sym : (m n : ℤ) → most m n ≡ most n m
@@ -111,7 +112,11 @@ least-sym m n = by-le (λ z. z ≡ least n m) m n m n
 
 overlap-reversed : (b : BBox) (s : Seg) → overlap b (reversed s) ≡ overlap b s
 unfolding overlap
-overlap-reversed b s = rw (most-sym (s .p1 .x) (s .p0 .x), most-sym (s .p1 .y) (s .p0 .y), least-sym (s .p1 .x) (s .p0 .x), least-sym (s .p1 .y) (s .p0 .y)) refl
+overlap-reversed b s =
+    let p = s .p0 in
+    let q = s .p1 in
+    all-four (ap (leZ (b .«x_min»)) (most-sym (q .x) (p .x))) (ap (λ (z : ℤ). leZ z (b .«x_max»)) (least-sym (q .x) (p .x)))
+    (ap (leZ (b .«y_min»)) (most-sym (q .y) (p .y))) (ap (λ (z : ℤ). leZ z (b .«y_max»)) (least-sym (q .y) (p .y)))
 
 pub clip-reversed : (b : BBox) (s : Seg) → clip b (reversed s) ≡ turned (clip b s)
 unfolding clip

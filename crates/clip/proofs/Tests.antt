@@ -1,5 +1,5 @@
--- The larger and the smaller of two numbers: a bound on them, and which of the two they are. Two tests that tell the same.
-use mathlib.Core.Path.{_≡_, refl, sym}
+-- The larger and the smaller of two numbers: a bound on them, and which of the two they are.
+use mathlib.Core.Path.{_≡_, refl}
 use mathlib.Core.Bool.{Bool, true, false}
 use mir.Syntax.{w32}
 use mir.Val.{toZ, ofZ}
@@ -9,11 +9,6 @@ use Rattle.whole.proofs.Parts.{zarith}
 use Rattle.whole.proofs.Machine.{Back}
 use Rattle.whole.proofs.Cases.{by-le}
 use Rattle.clip.specs.Cutting.{least, most}
-
-pub same : (s t : Bool) → (s ≡ true → t ≡ true) → (t ≡ true → s ≡ true) → s ≡ t
-same true t f g = sym (f refl)
-same false true f g = g refl
-same false false f g = refl
 
 pub most-lt : (a b c : ℤ) → most a b <ℤ c → (a <ℤ c) × (b <ℤ c)
 most-lt a b c = by-le (λ z. z <ℤ c → (a <ℤ c) × (b <ℤ c)) a b b a (λ h k. (omega zarith, k)) (λ h k. (k, omega zarith))

@@ -3,7 +3,7 @@
 --   segment, refused ones too.
 --   BY ONE STEP. Segment and box moved by one whole step clip to the segment moved by that step, and the edges stay; the call is asked where box and segment
 --   are accepted before and after.
--- They are proved as `from-other-end` and `by-one-step` (proofs/Symmetry, proofs/Shift). Exchanging x with y is no law, since the cuts at x come first: two
+-- They are proved as `from-other-end` and `by-one-step` (proofs/Laws, from Symmetry and Shift). Exchanging x with y is no law, since the cuts at x come first: two
 -- examples at the end.
 use mathlib.Core.Path.{_≡_, refl}
 use mathlib.Core.Bool.{true}

@@ -16,7 +16,7 @@ use Rattle.table.specs.Keys.{findKey, keysIn}
 use Rattle.table.specs.Values.{isZero, sameContent, sameValue, findValue, valueOk, valuesIn}
 use Rattle.records.specs.Records.{isFound}
 use Rattle.table.proofs.Growing.{never, cond-both}
-use Rattle.promise.proofs.Joined.{both}
+use Rattle.promise.proofs.Joined.{same, both}
 use Rattle.index.proofs.Alike.{text-is}
 use Rattle.index.proofs.Growing.{text-kept}
 use Rattle.layer.specs.TagLists.{valueGiven, textPlace}
@@ -25,11 +25,6 @@ use Rattle.layer.specs.NeedSteps.{placedText}
 use Rattle.layer.proofs.Entries.{text-next}
 
 -- ---- tests
-same-when : (a b : Bool) → (a ≡ true → b ≡ true) → (b ≡ true → a ≡ true) → a ≡ b
-same-when true b f g = sym (f refl)
-same-when false true f g = g refl
-same-when false false f g = refl
-
 -- one that follows from another adds nothing to it
 absorbed : (a b : Bool) → (b ≡ true → a ≡ true) → a ≡ cond a true b
 absorbed true b f = refl
@@ -49,7 +44,7 @@ is-text ts start len key h e =
 
 same-texts : (ts us : List ℕ) (start len s n : ℕ) (key : List ℕ) → start + len ≤ length ts → s + n ≤ length us → textOf ts start len ≡ textOf us s n → sameText ts start len key ≡ sameText us s n key
 same-texts ts us start len s n key h k e =
-    same-when (sameText ts start len key) (sameText us s n key)
+    same (sameText ts start len key) (sameText us s n key)
     (λ y. is-text us s n key k (sym e ∙ text-is ts start len key y))
     (λ y. is-text ts start len key h (e ∙ text-is us s n key y))
 

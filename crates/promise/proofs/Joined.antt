@@ -1,9 +1,16 @@
--- Tests joined by `&&`.
---     both both-is          two tests joined
+-- Tests joined by `&&`, and tests that tell the same.
+--     same                  two tests that tell the same
+--     both both-is and-sym  two tests joined
+--     all-four              four tests joined, each told by another
 --     by-both by-four       a definition that goes by two or by four joined tests
-use mathlib.Core.Path.{_≡_, refl}
+use mathlib.Core.Path.{_≡_, refl, sym}
 use mathlib.Core.Bool.{Bool, true, false, cond, _&&_}
 use native.Mathlib.Omega.{arith}
+
+pub same : (s t : Bool) → (s ≡ true → t ≡ true) → (t ≡ true → s ≡ true) → s ≡ t
+same true t f g = sym (f refl)
+same false true f g = g refl
+same false false f g = refl
 
 pub both : (s t : Bool) → (s && t) ≡ true → (s ≡ true) × (t ≡ true)
 both true t e = (refl, e)
@@ -11,6 +18,15 @@ both false t e = absurd (let z : _≡_ {A = Prim.Native.Nat.ℕ} 0 1 = cc in ome
 
 pub both-is : {s t : Bool} → s ≡ true → t ≡ true → (s && t) ≡ true
 both-is e f = rw (e, f) refl
+
+pub and-sym : (s t : Bool) → (s && t) ≡ (t && s)
+and-sym true true = refl
+and-sym true false = refl
+and-sym false true = refl
+and-sym false false = refl
+
+pub all-four : {s s′ t t′ u u′ v v′ : Bool} → s ≡ s′ → t ≡ t′ → u ≡ u′ → v ≡ v′ → (s && t && (u && v)) ≡ (s′ && t′ && (u′ && v′))
+all-four d e f g = λ i. d i && e i && (f i && g i)
 
 module _ {A : Type 0} (P : A → Type 0) where
   pub by-both : (s t : Bool) (p q : A) → (s ≡ true → t ≡ true → P p) → (s ≡ false → P q) → (t ≡ false → P q) → P (cond (s && t) p q)
