@@ -11,22 +11,22 @@ use lib.Dec.{eqb}
 use Rattle.whole.proofs.Machine.{Back}
 use Rattle.promise.specs.Answers.{Written, Gives}
 use Rattle.refusal.specs.declared.Refusal.{Refusal}
-use Rattle.refusal.specs.declared.Refusal.the-variants.{Box, State}
+use Rattle.refusal.specs.declared.Refusal.the-variants.{Box, Coord, State}
 use Rattle.refusal.specs.Refusals.{numberOf}
-use Rattle.refusal.specs.Said.{Said}
+use Rattle.refusal.specs.Said.{Said, accepted}
 use Rattle.telling.proofs.Tellings.{told-gives}
 use Rattle.clip.specs.declared.Seg.{Seg}
 use Rattle.clip.specs.declared.BBox.{BBox}
 use Rattle.clip.specs.declared.ClippedSeg.{ClippedSeg}
 use Rattle.clip.specs.declared.Clipped.{Clipped}
 use Rattle.clip.specs.declared.Clipped.the-variants.{Done as Cut, Refused as NotCut}
-use Rattle.clip.specs.Domain.{isGood, isInside}
-use Rattle.clip.specs.Answer.{saidClipped, clipped}
+use Rattle.clip.specs.Domain.{isCoord, isGood, isInside}
+use Rattle.clip.specs.Answer.{saidClipped, areCoords, clipped}
 use Rattle.clip.specs.Numbers.{segAt, boxAt}
-use Rattle.clip.specs.Cutting.{given as asGiven}
+use Rattle.clip.specs.Cutting.{given as asGiven, overlap}
 use Rattle.clip.specs.declared.Edge.{Edge}
 use Rattle.promise.proofs.Joined.{both}
-use Rattle.clip.proofs.Callers.{box-refused, kept-inside}
+use Rattle.clip.proofs.Callers.{box-refused, coord-refused, kept-inside, kept-apart}
 use Rattle.encoder.specs.declared.GeomEncoder.{GeomEncoder}
 use Rattle.encoder.specs.declared.Started.{Started}
 use Rattle.encoder.specs.declared.Drawn.{Drawn}
@@ -59,15 +59,31 @@ box-read bl br bb bt x e = rw (bl, br, bb, bt) at e
 pub clip-of : (s t : Seg) (b c : BBox) (r : BpClipped) → s ≡ t → b ≡ c → r ≡ flatClip (clipped s b) → r ≡ flatClip (clipped t c)
 clip-of s t b c r e f h = rw (e, f) at h
 
--- a box that is not good, and both ends in one that is, as the code's tests tell it
+-- a segment answered as given
+as-given : (s t : Seg) (b : BBox) (r : BpClipped) → clipped s b ≡ accepted (asGiven s ∷ []) → s ≡ t → r ≡ ends 0 (asGiven t ∷ []) → r ≡ flatClip (clipped s b)
+unfolding flatClip
+as-given s t b r h f e = e ∙ ap (λ (z : Seg). ends 0 (asGiven z ∷ [])) (sym f) ∙ sym (ap flatClip h)
+
+-- a box that is not good; then both ends in it, an end beyond the limit, and no overlap, as the code's tests tell it
 module _ (s : Seg) (b : BBox) (g : Bool) (eg : g ≡ isGood b) (r : BpClipped) where
   pub clip-box : not g ≡ true → r ≡ ends (numberOf Box) [] → r ≡ flatClip (clipped s b)
   unfolding flatClip
   clip-box n e = e ∙ sym (ap flatClip (box-refused s b (sym eg ∙ not-true g n)))
 
-  pub clip-kept : not g ≡ false → (u v : Bool) → u ≡ isInside b (s .p0) → v ≡ isInside b (s .p1) → (u && v) ≡ true → (t : Seg) → s ≡ t → r ≡ ends 0 (asGiven t ∷ []) → r ≡ flatClip (clipped s b)
-  unfolding flatClip
-  clip-kept n u v eu ev i t f e = let h = both u v i in e ∙ ap (λ (z : Seg). ends 0 (asGiven z ∷ [])) (sym f) ∙ sym (ap flatClip (kept-inside s b (sym eg ∙ not-false g n) (sym eu ∙ h .0) (sym ev ∙ h .1)))
+  module _ (n : not g ≡ false) (u v : Bool) where
+    pub clip-kept : u ≡ isInside b (s .p0) → v ≡ isInside b (s .p1) → (u && v) ≡ true → (t : Seg) → s ≡ t → r ≡ ends 0 (asGiven t ∷ []) → r ≡ flatClip (clipped s b)
+    clip-kept eu ev i t = let h = both u v i in as-given s t b r (kept-inside s b (sym eg ∙ not-false g n) (sym eu ∙ h .0) (sym ev ∙ h .1))
+
+    module _ (eu : u ≡ isCoord (s .p0)) (ev : v ≡ isCoord (s .p1)) where
+      told : (u && v) ≡ areCoords s
+      told = rw (eu, ev) refl
+
+      pub clip-coord : not (u && v) ≡ true → r ≡ ends (numberOf Coord) [] → r ≡ flatClip (clipped s b)
+      unfolding flatClip
+      clip-coord i e = e ∙ sym (ap flatClip (coord-refused s b (sym eg ∙ not-false g n) (sym told ∙ not-true (u && v) i)))
+
+      pub clip-apart : not (u && v) ≡ false → (o : Bool) → o ≡ overlap b s → not o ≡ true → (t : Seg) → s ≡ t → r ≡ ends 0 (asGiven t ∷ []) → r ≡ flatClip (clipped s b)
+      clip-apart i o eo h t = as-given s t b r (kept-apart s b (sym eg ∙ not-false g n) (sym told ∙ not-false (u && v) i) (sym eo ∙ not-true o h))
 
 -- what the clip said, by its two cases
 module _ (a : Clipped) (s : Seg) (b : BBox) (e : saidClipped a ≡ clipped s b) (r : BpClipped) where

@@ -3,6 +3,7 @@ ghost use mathlib.Core.Path.{_≡_};
 ghost use mathlib.Core.List.{[], _∷_};
 ghost use Rattle.refusal.specs.Refusals.{numberOf};
 ghost use Rattle.clip.specs.Answer.{clipped};
+ghost use Rattle.clip.specs.Cutting.{given};
 ghost use Rattle.clip.specs.Numbers.{segAt, boxAt};
 ghost use Rattle.brinepost.specs.Segments.{ends, flatClip};
 use clip::BBox;
@@ -23,7 +24,7 @@ pub struct BpClipped {
     pub edge1: u32,
 }
 
-// The answer of a segment that is accepted, and that of a refused call.
+// The answer of a segment that is accepted, of one that stays as given, and of a refused call.
 fn accepted(x0: i32, y0: i32, x1: i32, y1: i32, first: Edge, second: Edge) -> BpClipped
     ensures { λ r. ⌜ r ≡ ends 0 (record { seg = segAt x0 y0 x1 y1; first = first; second = second } ∷ []) ⌝ }
 {
@@ -36,6 +37,12 @@ fn accepted(x0: i32, y0: i32, x1: i32, y1: i32, first: Edge, second: Edge) -> Bp
         edge0: first.number(),
         edge1: second.number(),
     }
+}
+
+fn kept(x0: i32, y0: i32, x1: i32, y1: i32) -> BpClipped
+    ensures { λ r. ⌜ r ≡ ends 0 (given (segAt x0 y0 x1 y1) ∷ []) ⌝ }
+{
+    accepted(x0, y0, x1, y1, Edge::Stayed, Edge::Stayed)
 }
 
 fn refused(k: Refusal) -> BpClipped
@@ -74,8 +81,8 @@ fn make_seg(x0: i32, y0: i32, x1: i32, y1: i32) -> Seg
 }
 
 // The segment from (x0, y0) to (x1, y1), cut at the box: BOX, then COORD, else the clipped segment.
-// A segment with both ends in a good box stays as given, and is answered at once. Each answer returns by itself and in numbers, so that the compiler keeps
-// them where they came in.
+// A segment with both ends in a good box stays as given, and so does one without overlap: both are answered at once. Each answer returns by itself and in
+// numbers, so that the compiler keeps them where they came in.
 #[no_mangle]
 pub extern "C" fn bp_clip(
     x0: i32,
@@ -97,7 +104,13 @@ pub extern "C" fn bp_clip(
     let p0 = seg.p0;
     let p1 = seg.p1;
     if BBox::is_inside(bbox, p0) & BBox::is_inside(bbox, p1) {
-        return accepted(x0, y0, x1, y1, Edge::Stayed, Edge::Stayed);
+        return kept(x0, y0, x1, y1);
+    }
+    if !(BBox::is_coord(p0) & BBox::is_coord(p1)) {
+        return refused(Refusal::Coord);
+    }
+    if !BBox::overlaps(bbox, seg) {
+        return kept(x0, y0, x1, y1);
     }
     match clip::clip(seg, bbox) {
         Clipped::Done(c) => {

@@ -7,7 +7,7 @@
 --     clip-coord0 clip-coord1 clip-within           the clipped segment's ends lie within the limit
 --     clip-inside                                   a segment with no end outside an edge stays as it is
 --     first-kept first-moved second-kept second-moved   an end is said to have stayed exactly where it is as given
---     kept-inside                                   what a call says of a segment with both ends in a good box
+--     kept-inside kept-apart                        what a call says of a segment with both ends in a good box, and of one without overlap
 use mathlib.Core.Path.{_≡_, refl, sym, _∙_, ap, subst}
 use mathlib.Core.Bool.{Bool, true, false, cond, _&&_}
 use mathlib.Core.List.{List, [], _∷_}
@@ -230,3 +230,8 @@ kept-inside s b g e f =
     let j = inside-facts b (s .p1) f in
     let c = both-is (coord-is (inside-coord (good-facts g) i)) (coord-is (inside-coord (good-facts g) j)) in
     not-refused s b g c ∙ ap (λ (t : ClippedSeg). accepted (t ∷ [])) (clip-inside b s (kept i) (kept j))
+
+-- ---- no overlap: the call accepts the segment as given
+pub kept-apart : (s : Seg) (b : BBox) → isGood b ≡ true → areCoords s ≡ true → overlap b s ≡ false → clipped s b ≡ accepted (given s ∷ [])
+unfolding clip
+kept-apart s b g c o = not-refused s b g c ∙ ap (λ (t : Bool). accepted (cond t (cuts b s) (given s) ∷ [])) o

@@ -16,12 +16,16 @@ use Rattle.clip.specs.declared.Seg.{Seg}
 use Rattle.clip.specs.declared.BBox.{BBox}
 use Rattle.clip.specs.declared.cutting.Meeting.{Meeting}
 use Rattle.clip.specs.declared.cutting.Meeting.the-variants.{Nowhere, At as AtY}
-use Rattle.clip.specs.Facts.{Coord, Good, Asked, replaceSeg}
-use Rattle.clip.specs.Cutting.{Crossing, Missing, At, height, inRange, reaches, crossInOrder, crossAtX, swap, swapSeg, metAt, cuts}
-use Rattle.clip.proofs.Segments.{segXMin, segXMax, segYMin, segYMax, segCuts, seg-cuts}
+use Rattle.clip.specs.declared.Edge.{Edge}
+use Rattle.clip.specs.declared.Edge.the-variants.{XMin, XMax, YMin, YMax}
+use Rattle.clip.specs.declared.ClippedSeg.{ClippedSeg}
+use Rattle.clip.specs.Facts.{Coord, Good, Asked, swapClipped}
+use Rattle.clip.specs.Cutting.{Crossing, Missing, At, height, inRange, reaches, crossInOrder, crossAtX, swap, swapped, swapSeg, metAt, given, replace, cutXMax, cutYMin, cutYMax, cuts, clip}
+use Rattle.clip.proofs.Segments.{seg-replace}
+use Rattle.clip.proofs.Overlaps.{clip-cuts}
 use Rattle.clip.proofs.Ends.{Side, low, high, beyond, endsX, join, swapBox}
 use Rattle.clip.proofs.Heights.{above-least, below-most}
-use Rattle.clip.proofs.Readings.{swap-replace, at-x-min, at-x-max}
+use Rattle.clip.proofs.Readings.{at-x-min, at-x-max}
 use Rattle.clip.proofs.Symmetry.{crossing-sym, none-beyond}
 use Rattle.clip.proofs.Fates.{Fate, clear, moved, stuck, fate}
 use Rattle.clip.proofs.Callers.{good-proper, inside-coord}
@@ -87,68 +91,79 @@ read z = toZ w32 (ofZ w32 z)
 
 pub record Reads (s : Seg) (c a b : ℤ) : Type 0 where
   pub x0 : Back w32 (s .p0 .x)
+  pub y0 : Back w32 (s .p0 .y)
   pub x1 : Back w32 (s .p1 .x)
+  pub y1 : Back w32 (s .p1 .y)
   pub at : Back w32 c
   pub from : Back w32 a
   pub to : Back w32 b
 
-module _ (u v : Bool) (s : Seg) where
-  replaced-none : (w : Crossing) → u ≡ false → v ≡ false → s ≡ replaceSeg u v s w
-  replaced-none Missing e f = refl
-  replaced-none (At p) e f = rw (e, f) refl
+-- a point made anew of its numbers
+abbrev again : Pt → Pt
+again p = record { x = read (p .x); y = read (p .y) }
 
-module _ (d : Side) (s : Seg) (c a b : ℤ) (k : Reads s c a b) where
-  abbrev Cut : Seg
-  Cut = replaceSeg (beyond d c (s .p0 .x)) (beyond d c (s .p1 .x)) s (crossAtX (s .p0) (s .p1) c a b)
+replaced-none : (e : Edge) (u v : Bool) (s : ClippedSeg) (w : Crossing) → u ≡ false → v ≡ false → s ≡ replace e u v s w
+replaced-none e u v s Missing f g = refl
+replaced-none e u v s (At p) f g = rw (f, g) refl
+
+module _ (d : Side) (e : Edge) (s : ClippedSeg) (c a b : ℤ) (k : Reads (s .seg) c a b) where
+  abbrev p : Pt
+  p = s .seg .p0
+
+  abbrev q : Pt
+  q = s .seg .p1
+
+  abbrev Cut : ClippedSeg
+  Cut = replace e (beyond d c (p .x)) (beyond d c (q .x)) s (crossAtX p q c a b)
 
   abbrev Out0 : Bool → Type 0
-  Out0 t = beyond d (read c) (read (s .p0 .x)) ≡ t
+  Out0 t = beyond d (read c) (read (p .x)) ≡ t
 
   abbrev Out1 : Bool → Type 0
-  Out1 t = beyond d (read c) (read (s .p1 .x)) ≡ t
+  Out1 t = beyond d (read c) (read (q .x)) ≡ t
 
-  is0 : (t : Bool) → Out0 t → beyond d c (s .p0 .x) ≡ t
+  is0 : (t : Bool) → Out0 t → beyond d c (p .x) ≡ t
   is0 t e = rw (k .at, k .x0) at e
 
-  is1 : (t : Bool) → Out1 t → beyond d c (s .p1 .x) ≡ t
+  is1 : (t : Bool) → Out1 t → beyond d c (q .x) ≡ t
   is1 t e = rw (k .at, k .x1) at e
 
   pub both-out : Out0 true → Out1 true → s ≡ Cut
-  both-out u v = sym (ap (replaceSeg (beyond d c (s .p0 .x)) (beyond d c (s .p1 .x)) s) (none-beyond d c (s .p0) (s .p1) a b (is0 true u) (is1 true v)))
+  both-out u v = sym (ap (replace e (beyond d c (p .x)) (beyond d c (q .x)) s) (none-beyond d c p q a b (is0 true u) (is1 true v)))
 
   pub none-out : Out0 false → Out1 false → s ≡ Cut
-  none-out u v = replaced-none _ _ s (crossAtX (s .p0) (s .p1) c a b) (is0 false u) (is1 false v)
+  none-out u v = replaced-none e _ _ s (crossAtX p q c a b) (is0 false u) (is1 false v)
 
-  pub asked-0 : Coord (s .p0) → Coord (s .p1) → Out0 true → Out1 false → AskedOn d (s .p0) (s .p1) (read c)
-  asked-0 g h u v = rw (k .at) (asked-on d (s .p0) (s .p1) c g h (is0 true u) (is1 false v))
+  pub asked-0 : Coord p → Coord q → Out0 true → Out1 false → AskedOn d p q (read c)
+  asked-0 g h u v = rw (k .at) (asked-on d p q c g h (is0 true u) (is1 false v))
 
-  pub asked-1 : Coord (s .p0) → Coord (s .p1) → Out0 false → Out1 true → AskedOn d (s .p1) (s .p0) (read c)
-  asked-1 g h u v = rw (k .at) (asked-on d (s .p1) (s .p0) c h g (is1 true v) (is0 false u))
+  pub asked-1 : Coord p → Coord q → Out0 false → Out1 true → AskedOn d q p (read c)
+  asked-1 g h u v = rw (k .at) (asked-on d q p c h g (is1 true v) (is0 false u))
 
   -- the answer m, found from the end that is outside
   module _ (m : Meeting) where
-    met-0 : metAt (read c) m ≡ crossOn d (s .p0) (s .p1) (read c) (read a) (read b) → metAt c m ≡ crossAtX (s .p0) (s .p1) c a b
-    met-0 e = rw (k .at, k .from, k .to) at e ∙ cross-on d (s .p0) (s .p1) c a b
+    met-0 : metAt (read c) m ≡ crossOn d p q (read c) (read a) (read b) → metAt c m ≡ crossAtX p q c a b
+    met-0 f = rw (k .at, k .from, k .to) at f ∙ cross-on d p q c a b
 
-    met-1 : metAt (read c) m ≡ crossOn d (s .p1) (s .p0) (read c) (read a) (read b) → metAt c m ≡ crossAtX (s .p0) (s .p1) c a b
-    met-1 e = rw (k .at, k .from, k .to) at e ∙ cross-on d (s .p1) (s .p0) c a b ∙ crossing-sym (s .p1) (s .p0) c a b
+    met-1 : metAt (read c) m ≡ crossOn d q p (read c) (read a) (read b) → metAt c m ≡ crossAtX p q c a b
+    met-1 f = rw (k .at, k .from, k .to) at f ∙ cross-on d q p c a b ∙ crossing-sym q p c a b
 
-    missing : metAt c m ≡ crossAtX (s .p0) (s .p1) c a b → m ≡ Nowhere → s ≡ Cut
-    missing e f = sym (ap (replaceSeg (beyond d c (s .p0 .x)) (beyond d c (s .p1 .x)) s) (sym e ∙ ap (metAt c) f))
+    missing : metAt c m ≡ crossAtX p q c a b → m ≡ Nowhere → s ≡ Cut
+    missing f n = sym (ap (replace e (beyond d c (p .x)) (beyond d c (q .x)) s) (sym f ∙ ap (metAt c) n))
 
-    module _ (e : metAt (read c) m ≡ crossOn d (s .p0) (s .p1) (read c) (read a) (read b)) where
+    module _ (f : metAt (read c) m ≡ crossOn d p q (read c) (read a) (read b)) where
       pub stays-0 : m ≡ Nowhere → s ≡ Cut
-      stays-0 f = missing (met-0 e) f
+      stays-0 n = missing (met-0 f) n
 
-      pub goes-0 : Out0 true → (y : ℤ) → Back w32 y → m ≡ AtY y → join (record { x = read c; y = read y }) (s .p1) ≡ Cut
-      goes-0 u y r f = let w : crossAtX (s .p0) (s .p1) c a b ≡ At (record { x = c; y = y }) = sym (met-0 e) ∙ ap (metAt c) f in rw (k .at, r, w, is0 true u) refl
+      pub goes-0 : Out0 true → (y : ℤ) → Back w32 y → m ≡ AtY y → record { seg = join (record { x = read c; y = read y }) (again q); first = e; second = s .second } ≡ Cut
+      goes-0 u y r n = let w : crossAtX p q c a b ≡ At (record { x = c; y = y }) = sym (met-0 f) ∙ ap (metAt c) n in rw (k .at, r, w, is0 true u, k .x1, k .y1) refl
 
-    module _ (e : metAt (read c) m ≡ crossOn d (s .p1) (s .p0) (read c) (read a) (read b)) where
+    module _ (f : metAt (read c) m ≡ crossOn d q p (read c) (read a) (read b)) where
       pub stays-1 : m ≡ Nowhere → s ≡ Cut
-      stays-1 f = missing (met-1 e) f
+      stays-1 n = missing (met-1 f) n
 
-      pub goes-1 : Out0 false → Out1 true → (y : ℤ) → Back w32 y → m ≡ AtY y → join (s .p0) (record { x = read c; y = read y }) ≡ Cut
-      goes-1 u v y r f = let w : crossAtX (s .p0) (s .p1) c a b ≡ At (record { x = c; y = y }) = sym (met-1 e) ∙ ap (metAt c) f in rw (k .at, r, w, is0 false u, is1 true v) refl
+      pub goes-1 : Out0 false → Out1 true → (y : ℤ) → Back w32 y → m ≡ AtY y → record { seg = join (again p) (record { x = read c; y = read y }); first = s .first; second = e } ≡ Cut
+      goes-1 u v y r n = let w : crossAtX p q c a b ≡ At (record { x = c; y = y }) = sym (met-1 f) ∙ ap (metAt c) n in rw (k .at, r, w, is0 false u, is1 true v, k .x0, k .y0) refl
 
 -- ---- what is cut stays within the limit
 fate-coord : {s : Side} {b : BBox} {p q r : Pt} → Good b → Coord p → Fate s b p q r → Coord r
@@ -167,33 +182,50 @@ module _ {b : BBox} (g : Good b) (t : Seg) (h : Coords t) where
   of-x : (s : Side) → Coords (endsX s b t)
   of-x s = record { end0 = fate-coord g (h .end0) (fate b (good-proper g) (t .p0) (t .p1) s); end1 = fate-coord g (h .end1) (fate b (good-proper g) (t .p1) (t .p0) s) }
 
-pub swap-coords : {t : Seg} → Coords t → Coords (swapSeg t)
+swap-coords : {t : Seg} → Coords t → Coords (swapSeg t)
 swap-coords h = record { end0 = record { at-x = h .end0 .at-y; at-y = h .end0 .at-x }; end1 = record { at-x = h .end1 .at-y; at-y = h .end1 .at-x } }
 
--- ---- a cut at y is one at x, with x and y exchanged
-module _ (b : BBox) (t : Seg) where
-  swap-min : segYMin b t ≡ swapSeg (segXMin (swapBox b) (swapSeg t))
-  swap-min = swap-replace (ltZ (t .p0 .y) (b .«y_min»)) (ltZ (t .p1 .y) (b .«y_min»)) t (crossAtX (swap (t .p0)) (swap (t .p1)) (b .«y_min») (b .«x_min») (b .«x_max»))
+-- ---- the cuts as the code makes them: at the lower and at the upper edge of x of any box, under any name
+abbrev pub cutLow : Edge → BBox → ClippedSeg → ClippedSeg
+cutLow e b c = replace e (ltZ (c .seg .p0 .x) (b .«x_min»)) (ltZ (c .seg .p1 .x) (b .«x_min»)) c (crossAtX (c .seg .p0) (c .seg .p1) (b .«x_min») (b .«y_min») (b .«y_max»))
 
-  swap-max : segYMax b t ≡ swapSeg (segXMax (swapBox b) (swapSeg t))
-  swap-max = swap-replace (ltZ (b .«y_max») (t .p0 .y)) (ltZ (b .«y_max») (t .p1 .y)) t (crossAtX (swap (t .p0)) (swap (t .p1)) (b .«y_max») (b .«x_min») (b .«x_max»))
+abbrev pub cutHigh : Edge → BBox → ClippedSeg → ClippedSeg
+cutHigh e b c = replace e (ltZ (b .«x_max») (c .seg .p0 .x)) (ltZ (b .«x_max») (c .seg .p1 .x)) c (crossAtX (c .seg .p0) (c .seg .p1) (b .«x_max») (b .«y_min») (b .«y_max»))
 
-pub swapped-coords : {s t : Seg} → t ≡ swapSeg s → Coords s → Coords t
-swapped-coords e h = subst Coords (sym e) (swap-coords h)
+pub swapped-coords : {c d : ClippedSeg} → d ≡ swapClipped c → Coords (c .seg) → Coords (d .seg)
+swapped-coords e h = subst (λ (z : ClippedSeg). Coords (z .seg)) (sym e) (swap-coords h)
 
-module _ {b : BBox} (g : Good b) {t : Seg} (h : Coords t) where
-  pub min-coords : (r : Seg) → r ≡ segXMin b t → Coords r
-  min-coords r e = subst Coords (sym (e ∙ at-x-min b t)) (of-x g t h low)
+module _ {b : BBox} (g : Good b) (e : Edge) (c r : ClippedSeg) (h : Coords (c .seg)) where
+  pub low-coords : r ≡ cutLow e b c → Coords (r .seg)
+  low-coords f =
+      let w = crossAtX (c .seg .p0) (c .seg .p1) (b .«x_min») (b .«y_min») (b .«y_max») in
+      subst Coords (sym (ap (λ (z : ClippedSeg). z .seg) f ∙ seg-replace e _ _ c w ∙ at-x-min b (c .seg))) (of-x g (c .seg) h low)
 
-  pub max-coords : (r : Seg) → r ≡ segXMax b t → Coords r
-  max-coords r e = subst Coords (sym (e ∙ at-x-max b t)) (of-x g t h high)
+  pub high-coords : r ≡ cutHigh e b c → Coords (r .seg)
+  high-coords f =
+      let w = crossAtX (c .seg .p0) (c .seg .p1) (b .«x_max») (b .«y_min») (b .«y_max») in
+      subst Coords (sym (ap (λ (z : ClippedSeg). z .seg) f ∙ seg-replace e _ _ c w ∙ at-x-max b (c .seg))) (of-x g (c .seg) h high)
+
+-- ---- a cut at y is one at x, with x and y exchanged; the names stay
+swap-cut : (e : Edge) (u v : Bool) (c : ClippedSeg) (w : Crossing) → swapClipped (replace e u v (swapClipped c) w) ≡ replace e u v c (swapped w)
+swap-cut e u v c Missing = refl
+swap-cut e true v c (At p) = refl
+swap-cut e false true c (At p) = refl
+swap-cut e false false c (At p) = refl
+
+module _ (b : BBox) (c : ClippedSeg) where
+  at-y-min : swapClipped (cutLow YMin (swapBox b) (swapClipped c)) ≡ cutYMin b c
+  at-y-min = swap-cut YMin (ltZ (c .seg .p0 .y) (b .«y_min»)) (ltZ (c .seg .p1 .y) (b .«y_min»)) c (crossAtX (swap (c .seg .p0)) (swap (c .seg .p1)) (b .«y_min») (b .«x_min») (b .«x_max»))
+
+  at-y-max : swapClipped (cutHigh YMax (swapBox b) (swapClipped c)) ≡ cutYMax b c
+  at-y-max = swap-cut YMax (ltZ (b .«y_max») (c .seg .p0 .y)) (ltZ (b .«y_max») (c .seg .p1 .y)) c (crossAtX (swap (c .seg .p0)) (swap (c .seg .p1)) (b .«y_max») (b .«x_min») (b .«x_max»))
 
 -- ---- the four cuts, those at y with x and y exchanged
-module _ (b : BBox) (s s1 s2 t2 s3 s4 r : Seg) where
-  pub four-cuts : s1 ≡ segXMin b s → s2 ≡ segXMax b s1 → t2 ≡ swapSeg s2 → s3 ≡ segXMin (swapBox b) t2 → s4 ≡ segXMax (swapBox b) s3 → r ≡ swapSeg s4 → r ≡ cuts b s .seg
-  unfolding segCuts
+module _ {b : BBox} (g : Good b) (s : Seg) (c1 c2 t2 c3 c4 r : ClippedSeg) where
+  pub four-cuts : c1 ≡ cutLow XMin b (given s) → c2 ≡ cutHigh XMax b c1 → t2 ≡ swapClipped c2 → c3 ≡ cutLow YMin (swapBox b) t2 → c4 ≡ cutHigh YMax (swapBox b) c3 → r ≡ swapClipped c4 → r ≡ clip b s
+  unfolding cuts
   four-cuts e1 e2 f2 e3 e4 f4 =
-      let k3 : swapSeg s3 ≡ segYMin b s2 = ap swapSeg (e3 ∙ ap (segXMin (swapBox b)) f2) ∙ sym (swap-min b s2) in
-      let k4 : r ≡ segYMax b (swapSeg s3) = f4 ∙ ap swapSeg e4 ∙ sym (swap-max b (swapSeg s3)) in
-      let k : r ≡ segCuts b s = k4 ∙ ap (segYMax b) (k3 ∙ ap (segYMin b) (e2 ∙ ap (segXMax b) e1)) in
-      k ∙ sym (seg-cuts b s)
+      let k3 : swapClipped c3 ≡ cutYMin b c2 = ap swapClipped (e3 ∙ ap (cutLow YMin (swapBox b)) f2) ∙ at-y-min b c2 in
+      let k4 : r ≡ cutYMax b (swapClipped c3) = f4 ∙ ap swapClipped e4 ∙ at-y-max b (swapClipped c3) in
+      let k : r ≡ cuts b s = k4 ∙ ap (cutYMax b) (k3 ∙ ap (cutYMin b) (e2 ∙ ap (cutXMax b) e1)) in
+      k ∙ sym (clip-cuts b (good-proper g) s)

@@ -4,7 +4,6 @@ pub mod Overlaps
 pub mod Readings
 pub mod Segments
 pub mod Names
-pub mod Naming
 pub mod Roundings
 pub mod Tight
 pub mod Tests

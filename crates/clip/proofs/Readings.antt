@@ -6,8 +6,7 @@ use native.Mathlib.Omega.{arith}
 use Rattle.clip.specs.declared.Seg.{Seg}
 use Rattle.clip.specs.declared.BBox.{BBox}
 use Rattle.clip.specs.Cutting.{Crossing, Missing, At, crossAtX, crossAtY, swap, swapped, cuts, swapSeg}
-use Rattle.clip.specs.Facts.{replaceSeg}
-use Rattle.clip.proofs.Segments.{segXMin, segXMax, segYMin, segYMax, segCuts, seg-cuts}
+use Rattle.clip.proofs.Segments.{replaceSeg, segXMin, segXMax, segYMin, segYMax, segCuts, seg-cuts}
 use Rattle.clip.proofs.Ends.{Side, low, high, edge, beyond, put, move, join, endsX, endsY, ends, swapBox}
 use Rattle.clip.proofs.Symmetry.{crossing-sym, none-beyond}
 

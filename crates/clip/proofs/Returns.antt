@@ -23,11 +23,11 @@ use Rattle.clip.specs.Answer.{saidClipped, areCoords, clipped}
 use Rattle.clip.specs.Numbers.{boxAt, cornered}
 use Rattle.clip.specs.Demand3.{Demand3}
 use Rattle.clip.specs.Facts.{Coord, Good, beside, besideX, besideY}
-use Rattle.clip.specs.Cutting.{least, most, given, clip}
+use Rattle.clip.specs.Cutting.{least, most, given, overlap, clip}
 use Rattle.clip.proofs.Overlaps.{Apart, left, right, under, over, cuts-apart, clip-cuts}
 use Rattle.clip.proofs.Callers.{coord-facts, good-facts, good-is, good-proper, box-refused, coord-refused, not-refused, demand-clip}
 use Rattle.clip.proofs.Tests.{most-lt, lt-least}
-use Rattle.whole.proofs.Cases.{le-is, lt-is}
+use Rattle.whole.proofs.Cases.{le-is, lt-is, le-not}
 use Rattle.promise.proofs.Joined.{same, both, both-is}
 
 -- ---- tests joined in another order, or with fewer of them
@@ -92,6 +92,26 @@ module _ (b : BBox) (s : Seg) (g : Good b) where
 
   pub beside-either : (besideX b s || besideY b s) ≡ true → given s ≡ clip b s
   beside-either t = ⊎-elim beside-x beside-y (or-cases (besideX b s) (besideY b s) t)
+
+-- ---- the rectangles overlap where the segment lies beside the box neither in x nor in y
+besides : (m n l h : ℤ) → (leZ l (most m n) && leZ (least m n) h) ≡ not (beside m n l h)
+unfolding beside
+besides m n l h = (λ i. le-not l (most m n) i && le-not (least m n) h i) ∙ neither (ltZ (most m n) l) (ltZ h (least m n))
+  where
+    neither : (s t : Bool) → (not s && not t) ≡ not (s || t)
+    neither true t = refl
+    neither false t = refl
+
+module _ (b : BBox) (s : Seg) where
+  apart : overlap b s ≡ (not (besideX b s) && not (besideY b s))
+  unfolding overlap besideX besideY
+  apart = λ i. besides (s .p0 .x) (s .p1 .x) (b .«x_min») (b .«x_max») i && besides (s .p0 .y) (s .p1 .y) (b .«y_min») (b .«y_max») i
+
+  pub overlap-beside : besideX b s ≡ true → false ≡ overlap b s
+  overlap-beside e = sym (rw e at apart)
+
+  pub overlap-beyond : besideX b s ≡ false → not (besideY b s) ≡ overlap b s
+  overlap-beyond e = sym (rw e at apart)
 
 -- ---- a box by its corners
 module _ (b : BBox) (l h : Pt) (el : l ≡ record { x = b .«x_min»; y = b .«y_min» }) (eh : h ≡ record { x = b .«x_max»; y = b .«y_max» }) where

@@ -1,13 +1,17 @@
 -- The cuts of the segment alone, without the names of the edges: what they make of it is what the definition's cuts make of its segment (`seg-cuts`). The proofs of demand 3 but (d) speak of these.
 use mathlib.Core.Path.{_≡_, refl, _∙_, ap}
-use mathlib.Core.Bool.{Bool, true, false}
+use mathlib.Core.Bool.{Bool, true, false, cond}
 use lib.Signed.{ltZ}
 use Rattle.clip.specs.declared.Seg.{Seg}
 use Rattle.clip.specs.declared.BBox.{BBox}
 use Rattle.clip.specs.declared.Edge.{Edge}
 use Rattle.clip.specs.declared.ClippedSeg.{ClippedSeg}
-use Rattle.clip.specs.Facts.{replaceSeg}
 use Rattle.clip.specs.Cutting.{Crossing, Missing, At, crossAtX, crossAtY, given, replace, cutXMin, cutXMax, cutYMin, cutYMax, cuts}
+
+-- the crossing replaces the end strictly outside, if one is: the definition's `replace` makes the same of its segment (`seg-replace`)
+abbrev pub replaceSeg : Bool → Bool → Seg → Crossing → Seg
+replaceSeg out0 out1 s Missing = s
+replaceSeg out0 out1 s (At p) = cond out0 (record { p0 = p; p1 = s .p1 }) (cond out1 (record { p0 = s .p0; p1 = p }) s)
 
 abbrev pub segXMin : BBox → Seg → Seg
 segXMin b s = replaceSeg (ltZ (s .p0 .x) (b .«x_min»)) (ltZ (s .p1 .x) (b .«x_min»)) s (crossAtX (s .p0) (s .p1) (b .«x_min») (b .«y_min») (b .«y_max»))

@@ -8,8 +8,6 @@ use Rattle.clip.specs.declared.BBox.{BBox}
 use Rattle.clip.specs.declared.ClippedSeg.{ClippedSeg}
 use Rattle.clip.specs.declared.Clipped.{Clipped}
 use Rattle.clip.specs.declared.Clipped.the-variants.{Done, Refused}
-use Rattle.clip.specs.declared.Cut.{Cut}
-use Rattle.clip.specs.declared.Cut.the-variants.{Done as CutDone, Refused as CutRefused}
 use Rattle.clip.specs.Domain.{isCoord, isGood}
 use Rattle.clip.specs.Cutting.{clip}
 
@@ -26,15 +24,3 @@ areCoords s = isCoord (s .p0) && isCoord (s .p1)
 -- what a call says
 unfoldable pub clipped : Seg → BBox → Said (List ClippedSeg)
 clipped s b = cond (isGood b) (cond (areCoords s) (accepted (clip b s ∷ [])) (refused Coord [])) (refused Box [])
-
--- the same of the segment alone
-abbrev pub segsIn : List ClippedSeg → List Seg
-segsIn [] = []
-segsIn (c ∷ cs) = c .seg ∷ segsIn cs
-
-abbrev pub segsOf : Said (List ClippedSeg) → Said (List Seg)
-segsOf a = record { number = a .number; place = a .place; values = segsIn (a .values) }
-
-abbrev pub saidCut : Cut → Said (List Seg)
-saidCut (CutDone s) = accepted (s ∷ [])
-saidCut (CutRefused r) = refused r []

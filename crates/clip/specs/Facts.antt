@@ -1,16 +1,14 @@
 -- The tests of specs/Domain as facts, and what the private functions ask and answer. No public promise cites them.
 -- That a test and its fact agree: `coord-facts`, `coord-is`, `good-facts`, `good-is` of proofs/Callers.
-use mathlib.Core.Bool.{Bool, cond, _||_}
+use mathlib.Core.Bool.{Bool, _||_}
 use lib.IntN.{ℤ, negℤ}
 use lib.Signed.{_≤ℤ_, _<ℤ_, ltZ}
 use Rattle.clip.specs.declared.Pt.{Pt}
 use Rattle.clip.specs.declared.Seg.{Seg}
-use Rattle.whole.specs.Equal.{eqZ}
 use Rattle.clip.specs.declared.BBox.{BBox}
-use Rattle.clip.specs.declared.Edge.{Edge}
-use Rattle.clip.specs.declared.Edge.the-variants.{Stayed, XMin, XMax, YMin, YMax}
+use Rattle.clip.specs.declared.ClippedSeg.{ClippedSeg}
 use Rattle.clip.specs.Domain.{limit}
-use Rattle.clip.specs.Cutting.{Crossing, Missing, At, least, most}
+use Rattle.clip.specs.Cutting.{least, most, swapSeg}
 
 -- z lies within the limit
 pub record Within (z : ℤ) : Type 0 where
@@ -50,13 +48,6 @@ besideX b s = beside (s .p0 .x) (s .p1 .x) (b .«x_min») (b .«x_max»)
 unfoldable pub besideY : BBox → Seg → Bool
 besideY b s = beside (s .p0 .y) (s .p1 .y) (b .«y_min») (b .«y_max»)
 
--- a cut of the segment alone: the crossing replaces the end strictly outside, if one is. The definition's `replace` makes the same of its segment (`seg-replace`)
-abbrev pub replaceSeg : Bool → Bool → Seg → Crossing → Seg
-replaceSeg out0 out1 s Missing = s
-replaceSeg out0 out1 s (At p) = cond out0 (record { p0 = p; p1 = s .p1 }) (cond out1 (record { p0 = s .p0; p1 = p }) s)
-
--- what became of an end, by where it stands as given, between the cuts at x and those at y, and after all (`first-by`, `second-by` of proofs/Naming)
-abbrev pub edgeBy : Pt → Pt → Pt → Pt → Edge
-edgeBy given halfway after low =
-    cond (eqZ (given .x) (halfway .x)) (cond (eqZ (halfway .y) (after .y)) Stayed (cond (eqZ (after .y) (low .y)) YMin YMax))
-    (cond (eqZ (halfway .x) (low .x)) XMin XMax)
+-- x and y change roles; the names stay
+abbrev pub swapClipped : ClippedSeg → ClippedSeg
+swapClipped c = record { seg = swapSeg (c .seg); first = c .first; second = c .second }

@@ -1,13 +1,12 @@
 // The cuts at the four edges (document 01, "Cutting a segment"; in the Rust: `intersect_at_x`, `intersect_at_y` and the body of `clip`). Those at y are
-// those at x
-// of the segment with x and y exchanged. A crossing is looked for only where one end is strictly outside and the other not: a line that both are beyond
-// has none.
+// those at x of the segment with x and y exchanged. A crossing is looked for only where one end is strictly outside and the other not: a line that both
+// are beyond has none.
 ghost use mathlib.Core.Path.{_≡_};
 ghost use lib.IntN.{pos};
 ghost use lib.Signed.{_<ℤ_, ltZ};
 ghost use Rattle.whole.specs.Floor.{floor};
-ghost use Rattle.clip.specs.Facts.{Coord, Good, Asked, replaceSeg, edgeBy};
-ghost use Rattle.clip.specs.Cutting.{height, crossAtX, metAt, swapSeg, clip};
+ghost use Rattle.clip.specs.Facts.{Coord, Good, Asked, swapClipped};
+ghost use Rattle.clip.specs.Cutting.{height, crossAtX, metAt, replace, clip};
 ghost use Rattle.clip.specs.Numbers.{cornered};
 use crate::ClippedSeg;
 use crate::Edge;
@@ -55,138 +54,121 @@ fn intersect_at_x(p: Pt, q: Pt, x: i32, a: i32, b: i32) -> Meeting
     Meeting::Nowhere
 }
 
-// The cut at a lower edge: the end strictly below it goes to the crossing, if there is one.
-fn cut_low(s: Seg, x: i32, a: i32, b: i32) -> Seg
-    requires { ⌜ Coord (s .p0) ⌝ }
-    requires { ⌜ Coord (s .p1) ⌝ }
-    ensures { λ r. ⌜ r ≡ replaceSeg (ltZ (s .p0 .x) x) (ltZ (s .p1 .x) x) s (crossAtX (s .p0) (s .p1) x a b) ⌝ }
+// The cut at a lower edge: the end strictly below it goes to the crossing, if there is one, and is said to have been moved by that edge. The end that stays
+// is made anew of its numbers, so that the compiler keeps each number by itself.
+fn cut_low(c: ClippedSeg, x: i32, a: i32, b: i32, lower: Edge) -> ClippedSeg
+    requires { ⌜ Coord (c .seg .p0) ⌝ }
+    requires { ⌜ Coord (c .seg .p1) ⌝ }
+    ensures { λ r. ⌜ r ≡ replace lower (ltZ (c .seg .p0 .x) x) (ltZ (c .seg .p1 .x) x) c (crossAtX (c .seg .p0) (c .seg .p1) x a b) ⌝ }
 {
+    let s = c.seg;
     let p0 = s.p0;
     let p1 = s.p1;
-    let x0 = p0.x;
-    let x1 = p1.x;
-    if x0 < x {
-        if x1 < x {
-            return s;
+    if p0.x < x {
+        if p1.x < x {
+            return c;
         }
         match intersect_at_x(p0, p1, x, a, b) {
             Meeting::At(y) => {
-                return Seg {
-                    p0: Pt { x: x, y: y },
-                    p1: p1,
+                let second = c.second;
+                return ClippedSeg {
+                    seg: Seg {
+                        p0: Pt { x: x, y: y },
+                        p1: Pt { x: p1.x, y: p1.y },
+                    },
+                    first: lower,
+                    second: second,
                 };
             }
-            Meeting::Nowhere => return s,
+            Meeting::Nowhere => return c,
         }
     }
-    if x1 < x {
+    if p1.x < x {
         match intersect_at_x(p1, p0, x, a, b) {
             Meeting::At(y) => {
-                return Seg {
-                    p0: p0,
-                    p1: Pt { x: x, y: y },
+                let first = c.first;
+                return ClippedSeg {
+                    seg: Seg {
+                        p0: Pt { x: p0.x, y: p0.y },
+                        p1: Pt { x: x, y: y },
+                    },
+                    first: first,
+                    second: lower,
                 };
             }
-            Meeting::Nowhere => return s,
+            Meeting::Nowhere => return c,
         }
     }
-    s
+    c
 }
 
 // The cut at an upper edge.
-fn cut_high(s: Seg, x: i32, a: i32, b: i32) -> Seg
-    requires { ⌜ Coord (s .p0) ⌝ }
-    requires { ⌜ Coord (s .p1) ⌝ }
-    ensures { λ r. ⌜ r ≡ replaceSeg (ltZ x (s .p0 .x)) (ltZ x (s .p1 .x)) s (crossAtX (s .p0) (s .p1) x a b) ⌝ }
+fn cut_high(c: ClippedSeg, x: i32, a: i32, b: i32, upper: Edge) -> ClippedSeg
+    requires { ⌜ Coord (c .seg .p0) ⌝ }
+    requires { ⌜ Coord (c .seg .p1) ⌝ }
+    ensures { λ r. ⌜ r ≡ replace upper (ltZ x (c .seg .p0 .x)) (ltZ x (c .seg .p1 .x)) c (crossAtX (c .seg .p0) (c .seg .p1) x a b) ⌝ }
 {
+    let s = c.seg;
     let p0 = s.p0;
     let p1 = s.p1;
-    let x0 = p0.x;
-    let x1 = p1.x;
-    if x < x0 {
-        if x < x1 {
-            return s;
+    if x < p0.x {
+        if x < p1.x {
+            return c;
         }
         match intersect_at_x(p1, p0, x, a, b) {
             Meeting::At(y) => {
-                return Seg {
-                    p0: Pt { x: x, y: y },
-                    p1: p1,
+                let second = c.second;
+                return ClippedSeg {
+                    seg: Seg {
+                        p0: Pt { x: x, y: y },
+                        p1: Pt { x: p1.x, y: p1.y },
+                    },
+                    first: upper,
+                    second: second,
                 };
             }
-            Meeting::Nowhere => return s,
+            Meeting::Nowhere => return c,
         }
     }
-    if x < x1 {
+    if x < p1.x {
         match intersect_at_x(p0, p1, x, a, b) {
             Meeting::At(y) => {
-                return Seg {
-                    p0: p0,
-                    p1: Pt { x: x, y: y },
+                let first = c.first;
+                return ClippedSeg {
+                    seg: Seg {
+                        p0: Pt { x: p0.x, y: p0.y },
+                        p1: Pt { x: x, y: y },
+                    },
+                    first: first,
+                    second: upper,
                 };
             }
-            Meeting::Nowhere => return s,
+            Meeting::Nowhere => return c,
         }
     }
-    s
+    c
 }
 
-// At y: x and y change roles.
-fn swap(s: Seg) -> Seg
-    ensures { λ r. ⌜ r ≡ swapSeg s ⌝ }
+// At y: x and y change roles. The names stay.
+fn swap(c: ClippedSeg) -> ClippedSeg
+    ensures { λ r. ⌜ r ≡ swapClipped c ⌝ }
 {
+    let s = c.seg;
     let p0 = s.p0;
     let p1 = s.p1;
-    Seg {
-        p0: Pt { x: p0.y, y: p0.x },
-        p1: Pt { x: p1.y, y: p1.x },
+    let name0 = c.first;
+    let name1 = c.second;
+    ClippedSeg {
+        seg: Seg {
+            p0: Pt { x: p0.y, y: p0.x },
+            p1: Pt { x: p1.y, y: p1.x },
+        },
+        first: name0,
+        second: name1,
     }
 }
 
-// The four cuts, each on the segment as it then is; the box by its lower and its upper corner. For who asks for no edges.
-pub(crate) fn cut_seg(p0: Pt, p1: Pt, low: Pt, high: Pt) -> Seg
-    requires { ⌜ Good (cornered low high) ⌝ }
-    requires { ⌜ Coord p0 ⌝ }
-    requires { ⌜ Coord p1 ⌝ }
-    ensures { λ r. ⌜ r ≡ clip (cornered low high) (record { p0 = p0; p1 = p1 }) .seg ⌝ }
-{
-    let left = low.x;
-    let bottom = low.y;
-    let right = high.x;
-    let top = high.y;
-    let s = Seg {
-        p0: Pt { x: p0.x, y: p0.y },
-        p1: Pt { x: p1.x, y: p1.y },
-    };
-    let t1 = cut_low(s, left, bottom, top);
-    let t2 = cut_high(t1, right, bottom, top);
-    let t3 = cut_low(swap(t2), bottom, left, right);
-    swap(cut_high(t3, top, left, right))
-}
-
-// What became of an end, by where it stands as given, between the cuts at x and those at y, and after all: a cut moves an end off its coordinate, and no end
-// moves twice. The lower corner tells the lower edge from the upper one.
-fn edge_of(given: Pt, halfway: Pt, after: Pt, low: Pt) -> Edge
-    ensures { λ r. ⌜ r ≡ edgeBy given halfway after low ⌝ }
-{
-    let x = halfway.x;
-    let y = after.y;
-    if given.x == x {
-        if halfway.y == y {
-            return Edge::Stayed;
-        }
-        if y == low.y {
-            return Edge::YMin;
-        }
-        return Edge::YMax;
-    }
-    if x == low.x {
-        return Edge::XMin;
-    }
-    Edge::XMax
-}
-
-// The same with what became of each end.
+// The four cuts, each on the segment as it then is; the box by its lower and its upper corner.
 pub(crate) fn cut_all(p0: Pt, p1: Pt, low: Pt, high: Pt) -> ClippedSeg
     requires { ⌜ Good (cornered low high) ⌝ }
     requires { ⌜ Coord p0 ⌝ }
@@ -197,21 +179,16 @@ pub(crate) fn cut_all(p0: Pt, p1: Pt, low: Pt, high: Pt) -> ClippedSeg
     let bottom = low.y;
     let right = high.x;
     let top = high.y;
-    let s = Seg {
-        p0: Pt { x: p0.x, y: p0.y },
-        p1: Pt { x: p1.x, y: p1.y },
+    let c = ClippedSeg {
+        seg: Seg {
+            p0: Pt { x: p0.x, y: p0.y },
+            p1: Pt { x: p1.x, y: p1.y },
+        },
+        first: Edge::Stayed,
+        second: Edge::Stayed,
     };
-    let s1 = cut_low(s, left, bottom, top);
-    let s2 = cut_high(s1, right, bottom, top);
-    let s3 = cut_low(swap(s2), bottom, left, right);
-    let s4 = swap(cut_high(s3, top, left, right));
-    let h0 = s2.p0;
-    let h1 = s2.p1;
-    let e0 = s4.p0;
-    let e1 = s4.p1;
-    ClippedSeg {
-        seg: s4,
-        first: edge_of(p0, h0, e0, low),
-        second: edge_of(p1, h1, e1, low),
-    }
+    let c1 = cut_low(c, left, bottom, top, Edge::XMin);
+    let c2 = cut_high(c1, right, bottom, top, Edge::XMax);
+    let c3 = cut_low(swap(c2), bottom, left, right, Edge::YMin);
+    swap(cut_high(c3, top, left, right, Edge::YMax))
 }

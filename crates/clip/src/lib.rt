@@ -1,14 +1,14 @@
 // Cutting a segment at the edges of a box (document 01, "Cutting a segment"; in the Rust: `clip` for i32 of encoder.rs, with `Pt`, `Seg` and `BBox` of pointy).
 // No loop; a division only for a cut whose line the segment reaches with one end strictly outside; for a segment inside the box nothing but comparisons.
 ghost use mathlib.Core.Path.{_≡_};
+ghost use mathlib.Core.Bool.{_&&_};
 ghost use Rattle.clip.specs.Domain.{limit, within, isCoord, isGood, isInside};
 ghost use Rattle.clip.specs.Facts.{beside, besideX, besideY};
-ghost use Rattle.clip.specs.Cutting.{least, most, given};
-ghost use Rattle.clip.specs.Answer.{saidClipped, areCoords, clipped, saidCut, segsOf};
+ghost use Rattle.clip.specs.Cutting.{least, most, given, overlap};
+ghost use Rattle.clip.specs.Answer.{saidClipped, areCoords, clipped};
 ghost use Rattle.clip.specs.Numbers.{between, edgeNumber, isMoved};
 ghost use Rattle.clip.specs.Demand3.{Demand3};
 use crate::cutting::cut_all;
-use crate::cutting::cut_seg;
 use refusal::Refusal;
 
 mod cutting;
@@ -48,12 +48,6 @@ pub struct ClippedSeg {
 
 pub enum Clipped {
     Done(ClippedSeg),
-    Refused(Refusal),
-}
-
-// A clip without its edges.
-pub enum Cut {
-    Done(Seg),
     Refused(Refusal),
 }
 
@@ -132,6 +126,17 @@ impl BBox {
         (b.x_min <= p.x) & (p.x <= b.x_max) & ((b.y_min <= p.y) & (p.y <= b.y_max))
     }
 
+    // Whether the segment's bounding rectangle and the box overlap, edges counted. A segment without overlap stays as given, and need not be clipped to see
+    // it.
+    pub fn overlaps(b: BBox, s: Seg) -> bool
+        ensures { λ r. ⌜ r ≡ overlap b s ⌝ }
+    {
+        if is_beside(b, s) {
+            return false;
+        }
+        !is_beyond(b, s)
+    }
+
     // The lower and the upper corner.
     fn low(b: BBox) -> Pt
         ensures { λ r. ⌜ r ≡ record { x = b .«x_min»; y = b .«y_min» } ⌝ }
@@ -152,15 +157,6 @@ impl BBox {
     }
 }
 
-// Whether both ends lie within the limit.
-fn are_coords(s: Seg) -> bool
-    ensures { λ r. ⌜ r ≡ areCoords s ⌝ }
-{
-    let p0 = s.p0;
-    let p1 = s.p1;
-    BBox::is_coord(p0) & BBox::is_coord(p1)
-}
-
 // The smaller and the larger of two numbers.
 fn least_of(m: i32, n: i32) -> i32
     ensures { λ r. ⌜ r ≡ least m n ⌝ }
@@ -172,6 +168,22 @@ fn most_of(m: i32, n: i32) -> i32
     ensures { λ r. ⌜ r ≡ most m n ⌝ }
 {
     if m <= n { n } else { m }
+}
+
+// Whether two numbers lie within the limit, asked of the smaller and the larger: the overlap test needs these too.
+fn are_within(m: i32, n: i32) -> bool
+    ensures { λ r. ⌜ r ≡ (within m && within n) ⌝ }
+{
+    (-BBox::LIMIT <= least_of(m, n)) & (most_of(m, n) <= BBox::LIMIT)
+}
+
+// Whether both ends lie within the limit.
+fn are_coords(s: Seg) -> bool
+    ensures { λ r. ⌜ r ≡ areCoords s ⌝ }
+{
+    let p0 = s.p0;
+    let p1 = s.p1;
+    are_within(p0.x, p1.x) & are_within(p0.y, p1.y)
 }
 
 // Whether two numbers lie both below a range or both above it.
@@ -249,23 +261,4 @@ pub fn clip_between(from: Pt, to: Pt, bbox: BBox) -> Clipped
         return Clipped::Done(stay(seg));
     }
     Clipped::Done(cut_all(from, to, BBox::low(bbox), BBox::high(bbox)))
-}
-
-// The segment alone, for callers that ask for no edges: they do not pay for them.
-pub fn cut_between(from: Pt, to: Pt, bbox: BBox) -> Cut
-    ensures { λ r. ⌜ saidCut r ≡ segsOf (clipped (between from to) bbox) ⌝ }
-{
-    let seg = Seg { p0: from, p1: to };
-    if !BBox::is_good(bbox) {
-        return Cut::Refused(Refusal::Box);
-    }
-    if !are_coords(seg) {
-        return Cut::Refused(Refusal::Coord);
-    }
-    let beside = is_beside(bbox, seg);
-    let beyond = is_beyond(bbox, seg);
-    if beside | beyond {
-        return Cut::Done(seg);
-    }
-    Cut::Done(cut_seg(from, to, BBox::low(bbox), BBox::high(bbox)))
 }

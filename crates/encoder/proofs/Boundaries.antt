@@ -21,12 +21,8 @@ use Rattle.clip.specs.declared.Clipped.{Clipped}
 use Rattle.clip.specs.declared.Clipped.the-variants.{Done, Refused}
 use Rattle.clip.specs.Domain.{isGood, isInside}
 use Rattle.clip.specs.Cutting.{given, clip}
-use Rattle.clip.specs.Answer.{areCoords, saidClipped, clipped, saidCut, segsOf}
-use Rattle.clip.specs.declared.Cut.{Cut}
-use Rattle.clip.specs.declared.Cut.the-variants.{Done as CutDone, Refused as CutRefused}
-use Rattle.refusal.specs.Said.{Said, accepted}
-use Rattle.refusal.proofs.Laws.{never-both}
-use Rattle.clip.proofs.Callers.{answered, never-refused, not-refused, Kept, clip-inside, first-kept, first-moved, second-kept, second-moved}
+use Rattle.clip.specs.Answer.{areCoords, saidClipped, clipped}
+use Rattle.clip.proofs.Callers.{answered, never-refused, Kept, clip-inside, first-kept, first-moved, second-kept, second-moved}
 use Rattle.clip.specs.Numbers.{isMoved}
 use Rattle.encoder.specs.Points.{samePt}
 use Rattle.encoder.specs.Boundary.{movedEnds, movedBy, endsIn, outside}
@@ -38,16 +34,6 @@ module _ (s : Seg) (b : BBox) (r : Clipped) (h : saidClipped r ≡ clipped s b) 
 
   pub clip-refused : isGood b ≡ true → areCoords s ≡ true → (k : Refusal) → r ≡ Refused k → (c : ClippedSeg) → c ≡ clip b s
   clip-refused g e k f c = absurd (never-refused s b r h k f g e)
-
-module _ (s : Seg) (b : BBox) (r : Cut) (h : saidCut r ≡ segsOf (clipped s b)) (g : isGood b ≡ true) (e : areCoords s ≡ true) where
-  said : saidCut r ≡ accepted (clip b s .seg ∷ [])
-  said = h ∙ ap segsOf (not-refused s b g e)
-
-  pub cut-done : (t : Seg) → r ≡ CutDone t → t ≡ clip b s .seg
-  cut-done t f = let k : t ∷ [] ≡ clip b s .seg ∷ [] = ap (λ (a : Said (List Seg)). a .values) (sym (ap saidCut f) ∙ said) in cc
-
-  pub cut-refused : (k : Refusal) → r ≡ CutRefused k → s ≡ clip b s .seg
-  cut-refused k f = absurd (never-both k (sym (sym (ap saidCut f) ∙ said)))
 
 -- ---- the ends of the cut segment
 -- by the points, as the code's two tests tell

@@ -13,7 +13,6 @@ use crate::points::is_same;
 use clip::BBox;
 use clip::Clipped;
 use clip::ClippedSeg;
-use clip::Cut;
 use clip::Pt;
 use clip::Seg;
 use words::geometry::Geometry;
@@ -26,21 +25,7 @@ pub(crate) struct Ends {
     pub end1: Pt,
 }
 
-// The raw segment cut at the box, without the edges, for the loop. The clip of a good box and two coordinates is never refused.
-pub(crate) fn clip_raw(raw: Seg, bbox: BBox) -> Seg
-    requires { ⌜ isGood bbox ≡ true ⌝ }
-    requires { ⌜ areCoords raw ≡ true ⌝ }
-    ensures { λ r. ⌜ r ≡ clip bbox raw .seg ⌝ }
-{
-    let p0 = raw.p0;
-    let p1 = raw.p1;
-    match clip::cut_between(p0, p1, bbox) {
-        Cut::Done(s) => s,
-        Cut::Refused(_) => raw,
-    }
-}
-
-// The same with the edges.
+// The raw segment cut at the box, and the edges. The clip of a good box and two coordinates is never refused.
 fn clip_named(raw: Seg, bbox: BBox) -> ClippedSeg
     requires { ⌜ isGood bbox ≡ true ⌝ }
     requires { ⌜ areCoords raw ≡ true ⌝ }
@@ -52,6 +37,16 @@ fn clip_named(raw: Seg, bbox: BBox) -> ClippedSeg
         Clipped::Done(c) => c,
         Clipped::Refused(_) => clip::stay(raw),
     }
+}
+
+// The same without the edges, for the loop.
+pub(crate) fn clip_raw(raw: Seg, bbox: BBox) -> Seg
+    requires { ⌜ isGood bbox ≡ true ⌝ }
+    requires { ⌜ areCoords raw ≡ true ⌝ }
+    ensures { λ r. ⌜ r ≡ clip bbox raw .seg ⌝ }
+{
+    let c = clip_named(raw, bbox);
+    c.seg
 }
 
 // Whether a point lies strictly outside an edge.
