@@ -6,23 +6,32 @@ use mir.Val.{toZ, ofZ}
 use lib.IntN.{ℤ, negℤ}
 use lib.Signed.{_≤ℤ_, _<ℤ_, leZ}
 use Rattle.whole.proofs.Parts.{zarith}
+use Rattle.whole.proofs.Laws.{<-≤}
 use Rattle.whole.proofs.Machine.{Back, le-yes}
 use Rattle.whole.proofs.Cases.{by-le, le-is}
 use Rattle.promise.proofs.Joined.{same, both, both-is}
 use Rattle.clip.specs.Domain.{limit, within}
 use Rattle.clip.specs.Cutting.{least, most}
 
+-- a property that every smaller number keeps holds of both numbers where it holds of the larger one; one that every larger number keeps, where it holds of the smaller one
+module _ (P : ℤ → Type 0) where
+  most-down : ((x y : ℤ) → x ≤ℤ y → P y → P x) → (a b : ℤ) → P (most a b) → P a × P b
+  most-down f a b = by-le (λ z. P z → P a × P b) a b b a (λ h k. (f a b h k, k)) (λ h k. (k, f b a (<-≤ h) k))
+
+  least-up : ((x y : ℤ) → x ≤ℤ y → P x → P y) → (a b : ℤ) → P (least a b) → P a × P b
+  least-up f a b = by-le (λ z. P z → P a × P b) a b a b (λ h k. (k, f a b h k)) (λ h k. (f b a (<-≤ h) k, k))
+
 pub most-lt : (a b c : ℤ) → most a b <ℤ c → (a <ℤ c) × (b <ℤ c)
-most-lt a b c = by-le (λ z. z <ℤ c → (a <ℤ c) × (b <ℤ c)) a b b a (λ h k. (omega zarith, k)) (λ h k. (k, omega zarith))
+most-lt a b c = most-down (λ z. z <ℤ c) (λ x y h k. omega zarith) a b
 
 pub lt-least : (a b c : ℤ) → c <ℤ least a b → (c <ℤ a) × (c <ℤ b)
-lt-least a b c = by-le (λ z. c <ℤ z → (c <ℤ a) × (c <ℤ b)) a b a b (λ h k. (k, omega zarith)) (λ h k. (omega zarith, k))
+lt-least a b c = least-up (λ z. c <ℤ z) (λ x y h k. omega zarith) a b
 
 most-le : (a b c : ℤ) → most a b ≤ℤ c → (a ≤ℤ c) × (b ≤ℤ c)
-most-le a b c = by-le (λ z. z ≤ℤ c → (a ≤ℤ c) × (b ≤ℤ c)) a b b a (λ h k. (omega zarith, k)) (λ h k. (k, omega zarith))
+most-le a b c = most-down (λ z. z ≤ℤ c) (λ x y h k. omega zarith) a b
 
 le-least : (a b c : ℤ) → c ≤ℤ least a b → (c ≤ℤ a) × (c ≤ℤ b)
-le-least a b c = by-le (λ z. c ≤ℤ z → (c ≤ℤ a) × (c ≤ℤ b)) a b a b (λ h k. (k, omega zarith)) (λ h k. (omega zarith, k))
+le-least a b c = least-up (λ z. c ≤ℤ z) (λ x y h k. omega zarith) a b
 
 most-to : (a b c : ℤ) → a ≤ℤ c → b ≤ℤ c → most a b ≤ℤ c
 most-to a b c i j = by-le (λ z. z ≤ℤ c) a b b a (λ h. j) (λ h. i)

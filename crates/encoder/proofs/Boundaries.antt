@@ -5,7 +5,7 @@
 use Prim.Native.Nat.{ℕ}
 use mathlib.Core.Path.{_≡_, refl, sym, ap, _∙_}
 use mathlib.Core.Bool.{Bool, true, false, not, _&&_, _||_}
-use mathlib.Core.List.{List, [], _∷_}
+use mathlib.Core.List.{[]}
 use native.Mathlib.Omega.{arith}
 use lib.Signed.{ltZ}
 use Rattle.whole.proofs.Cases.{le-not}
