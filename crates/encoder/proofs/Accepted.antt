@@ -2,6 +2,7 @@
 --     added-accepted completed-accepted
 --     refused-keeps                        a refused call writes nowhere
 --     emitted-run                          what a run of emissions keeps: kind, box, raw end, readiness, the list's length
+--     emitted-lost                         what it loses: at most one point an emission
 use mathlib.Core.Path.{_≡_, refl, sym, _∙_, ap}
 use mathlib.Core.Bool.{Bool, true, false, cond}
 use mathlib.Core.List.{List, [], _∷_}
@@ -22,7 +23,8 @@ use Rattle.clip.specs.Domain.{isCoord}
 use Rattle.words.specs.Geometries.{room}
 use Rattle.encoder.specs.declared.GeomEncoder.{GeomEncoder}
 use Rattle.encoder.specs.States.{valid}
-use Rattle.encoder.specs.Answers.{Counted, done, turned, fitting}
+use Rattle.encoder.specs.Answers.{Counted, done, turned, fitting, roomy}
+use Rattle.encoder.specs.Tallies.{countsFit}
 use Rattle.encoder.specs.Emitting.{Emission, emission}
 use Rattle.encoder.specs.Adding.{emitted, drawn, added}
 use Rattle.encoder.specs.Completing.{isEmpty, closed, completed}
@@ -57,14 +59,19 @@ fitting-accepted s t out l w = by (leb (w .answer .used) (room (length out))) re
 pub record AddAccepted (s : GeomEncoder) (p : Pt) (out : List ℕ) (t : GeomEncoder) (l : List ℕ) : Type 0 where
   pub valid : valid s (length out) ≡ true
   pub coord : isCoord p ≡ true
+  pub counts : countsFit (drawn s p out .answer .tally) ≡ true
   pub fits : Fits (drawn s p out) out t l
 
 module _ (s : GeomEncoder) (p : Pt) (out : List ℕ) (t : GeomEncoder) (l : List ℕ) where
-  by-coord : valid s (length out) ≡ true → (c : Bool) → isCoord p ≡ c → cond c (fitting s out (drawn s p out)) (kept (turned Coord s) out) ≡ kept (done t) l → AddAccepted s p out t l
-  by-coord v true f e = record { valid = v; coord = f; fits = fitting-accepted s t out l (drawn s p out) e }
+  by-counts : valid s (length out) ≡ true → isCoord p ≡ true → (n : Bool) → countsFit (drawn s p out .answer .tally) ≡ n → cond n (fitting s out (drawn s p out)) (kept (turned Room s) out) ≡ kept (done t) l → AddAccepted s p out t l
+  by-counts v f true g e = record { valid = v; coord = f; counts = g; fits = fitting-accepted s t out l (drawn s p out) e }
+  by-counts v f false g e = refused-not Room s t out l e
+
+  by-coord : valid s (length out) ≡ true → (c : Bool) → isCoord p ≡ c → cond c (roomy s out (drawn s p out)) (kept (turned Coord s) out) ≡ kept (done t) l → AddAccepted s p out t l
+  by-coord v true f e = by-counts v f (countsFit (drawn s p out .answer .tally)) refl e
   by-coord v false f e = refused-not Coord s t out l e
 
-  by-valid : (b : Bool) → valid s (length out) ≡ b → cond b (cond (isCoord p) (fitting s out (drawn s p out)) (kept (turned Coord s) out)) (kept (turned State s) out) ≡ kept (done t) l → AddAccepted s p out t l
+  by-valid : (b : Bool) → valid s (length out) ≡ b → cond b (cond (isCoord p) (roomy s out (drawn s p out)) (kept (turned Coord s) out)) (kept (turned State s) out) ≡ kept (done t) l → AddAccepted s p out t l
   by-valid true v e = by-coord v (isCoord p) refl e
   by-valid false v e = refused-not State s t out l e
 
@@ -124,6 +131,25 @@ emitted-run n s (p ∷ ps) out R =
           I .long (omega arith) ∙ m;
     }
 
+-- ---- what it loses: an emission loses at most one point, and counts no other
+pub record Lost (n : ℕ) (s t : GeomEncoder) : Type 0 where
+  pub taken : t .tally .taken ≡ s .tally .taken
+  pub bounds : t .tally .boundary ≡ s .tally .boundary
+  pub lost : t .tally .skipped + t .tally .«taken_out» ≤ s .tally .skipped + s .tally .«taken_out» + n
+
+emission-lost : (s : GeomEncoder) (p : Pt) → Lost 1 s (emission s p .next)
+emission-lost s p = emission-cases (λ (e : Emission). Lost 1 s (e .next)) s p
+    (λ e. record { taken = refl; bounds = refl; lost = omega arith })
+    (λ e. record { taken = refl; bounds = refl; lost = omega arith })
+    (record { taken = refl; bounds = refl; lost = omega arith })
+
+pub emitted-lost : (s : GeomEncoder) (ps : List Pt) (out : List ℕ) → Lost (length ps) s (emitted s ps out .answer)
+emitted-lost s [] out = record { taken = refl; bounds = refl; lost = omega arith }
+emitted-lost s (p ∷ ps) out =
+    let E = emission-lost s p in
+    let I = emitted-lost (emission s p .next) ps (lay (emission s p .at) (emission s p .run) out) in
+    record { taken = I .taken ∙ E .taken; bounds = I .bounds ∙ E .bounds; lost = omega (arith, I .lost, E .lost) }
+
 -- ---- a refused call writes nowhere
 fitting-keeps : (s : GeomEncoder) (out : List ℕ) (w : Written GeomEncoder (List ℕ)) → (fitting s out w .answer .number ≡ 0 → ⊥) → fitting s out w .memory ≡ out
 fitting-keeps s out w = by (leb (w .answer .used) (room (length out)))
@@ -132,12 +158,19 @@ fitting-keeps s out w = by (leb (w .answer .used) (room (length out)))
     by true h = absurd (h refl)
     by false h = refl
 
+roomy-keeps : (s : GeomEncoder) (out : List ℕ) (w : Written GeomEncoder (List ℕ)) → (roomy s out w .answer .number ≡ 0 → ⊥) → roomy s out w .memory ≡ out
+roomy-keeps s out w = by (countsFit (w .answer .tally))
+  where
+    by : (b : Bool) → (cond b (fitting s out w) (kept (turned Room s) out) .answer .number ≡ 0 → ⊥) → cond b (fitting s out w) (kept (turned Room s) out) .memory ≡ out
+    by true h = fitting-keeps s out w h
+    by false h = refl
+
 added-keeps : (s : GeomEncoder) (p : Pt) (out : List ℕ) → (added s p out .answer .number ≡ 0 → ⊥) → added s p out .memory ≡ out
 unfolding added
 added-keeps s p out = by (valid s (length out)) (isCoord p)
   where
-    by : (b c : Bool) → (cond b (cond c (fitting s out (drawn s p out)) (kept (turned Coord s) out)) (kept (turned State s) out) .answer .number ≡ 0 → ⊥) → cond b (cond c (fitting s out (drawn s p out)) (kept (turned Coord s) out)) (kept (turned State s) out) .memory ≡ out
-    by true true h = fitting-keeps s out (drawn s p out) h
+    by : (b c : Bool) → (cond b (cond c (roomy s out (drawn s p out)) (kept (turned Coord s) out)) (kept (turned State s) out) .answer .number ≡ 0 → ⊥) → cond b (cond c (roomy s out (drawn s p out)) (kept (turned Coord s) out)) (kept (turned State s) out) .memory ≡ out
+    by true true h = roomy-keeps s out (drawn s p out) h
     by true false h = refl
     by false c h = refl
 

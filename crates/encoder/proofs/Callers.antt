@@ -2,7 +2,7 @@
 use mathlib.Core.Path.{_≡_, refl, sym, subst}
 use mathlib.Core.Bool.{Bool, true, false, cond}
 use mathlib.Core.List.{List}
-use Prim.Native.Nat.{ℕ, zero, suc, _+_, _-_, _/_, _≤_, _<_}
+use Prim.Native.Nat.{ℕ, zero, suc, _+_, _-_, _*_, _/_, _≤_, _<_}
 use native.Mathlib.Omega.{arith}
 use borrow.Author.Tests.{leb-true, leb-false}
 use lib.Dec.{leb, eqb}
@@ -14,16 +14,19 @@ use Rattle.clip.specs.Domain.{isCoord}
 use Rattle.words.specs.Geometries.{room}
 use Rattle.encoder.specs.declared.GeomEncoder.{GeomEncoder}
 use Rattle.encoder.specs.Answers.{Counted, done}
-use Rattle.encoder.specs.Adding.{added}
+use Rattle.encoder.specs.Adding.{counted, added}
 use Rattle.promise.proofs.Joined.{both}
 use Rattle.encoder.specs.declared.pen.Pen.{Pen}
 use Rattle.encoder.specs.declared.stretch.Stretch.{Stretch}
-use Rattle.encoder.specs.Stretches.{isStart, Ongoing, pointIn, isPlain, halted, run, lastPoint, stretched}
+use Rattle.encoder.specs.Stretches.{isStart, Ongoing, pointIn, spareOf, isPlain, halted, run, lastPoint, least, stretched}
+use Rattle.encoder.specs.Tallies.{maxTally}
 use Rattle.encoder.specs.States.{Sound}
 use Rattle.encoder.specs.Drafts.{draftOf}
 use Rattle.encoder.specs.Pens.{penOf, stateOf, drawnBy}
 use Rattle.encoder.proofs.Tests.{pen-whole}
-use Rattle.encoder.proofs.Plain.{ongoing-start, next-is}
+use Rattle.encoder.proofs.Plain.{ongoing-start, brings, next-is}
+use Rattle.encoder.proofs.Marks.{ends-two}
+use Rattle.encoder.proofs.Drawing.{least-right}
 
 abbrev Answered : Type 0
 Answered = Written (Said Counted) (List ℕ)
@@ -33,24 +36,35 @@ module _ (l : List ℤ) (end : ℕ) (P : ℕ → GeomEncoder → List ℕ → Ty
   abbrev Ends : Written Stretch (List ℕ) → Type 0
   Ends w = P (w .answer .reached) (w .answer .state) (w .memory)
 
-  run-keeps : (s : GeomEncoder) (n i : ℕ) (pen : Pen) (out : List ℕ) → n ≤ end - i → Ongoing s pen (length out) → P i (stateOf s pen) out → Ends (run n l i (stateOf s pen) out)
-  run-keeps s zero i pen out h O x = x
-  run-keeps s (suc n) i pen out h O x =
+  abbrev Spare : GeomEncoder → ℕ → Type 0
+  Spare s n = 0 < n → s .tally .taken + s .tally .boundary + 3 * n ≤ maxTally
+
+  run-keeps : (s : GeomEncoder) (n i : ℕ) (pen : Pen) (out : List ℕ) → n ≤ end - i → Spare s n → Ongoing s pen (length out) → P i (stateOf s pen) out → Ends (run n l i (stateOf s pen) out)
+  run-keeps s zero i pen out h r O x = x
+  run-keeps s (suc n) i pen out h r O x =
       let w = drawnBy (s .bbox) (eqb (s .kind) 3) pen (pointIn l i) out in
-      by (isPlain (stateOf s pen) (pointIn l i) (length out)) refl (run-keeps s n (i + 1) (w .answer) (w .memory) (omega arith))
+      by (isPlain (stateOf s pen) (pointIn l i) (length out)) refl
+      (run-keeps (counted 1 (brings s pen (pointIn l i)) s) n (i + 1) (w .answer) (w .memory) (omega arith) (λ z. omega (arith, r (omega arith), ends-two (s .bbox) (pen .raw) (pointIn l i))))
     where
       by : (b : Bool) → isPlain (stateOf s pen) (pointIn l i) (length out) ≡ b →
-          (Ongoing s (drawnBy (s .bbox) (eqb (s .kind) 3) pen (pointIn l i) out .answer) (length (drawnBy (s .bbox) (eqb (s .kind) 3) pen (pointIn l i) out .memory)) →
-          P (i + 1) (stateOf s (drawnBy (s .bbox) (eqb (s .kind) 3) pen (pointIn l i) out .answer)) (drawnBy (s .bbox) (eqb (s .kind) 3) pen (pointIn l i) out .memory) →
-          Ends (run n l (i + 1) (stateOf s (drawnBy (s .bbox) (eqb (s .kind) 3) pen (pointIn l i) out .answer)) (drawnBy (s .bbox) (eqb (s .kind) 3) pen (pointIn l i) out .memory))) →
+          (Ongoing (counted 1 (brings s pen (pointIn l i)) s) (drawnBy (s .bbox) (eqb (s .kind) 3) pen (pointIn l i) out .answer) (length (drawnBy (s .bbox) (eqb (s .kind) 3) pen (pointIn l i) out .memory)) →
+          P (i + 1) (stateOf (counted 1 (brings s pen (pointIn l i)) s) (drawnBy (s .bbox) (eqb (s .kind) 3) pen (pointIn l i) out .answer)) (drawnBy (s .bbox) (eqb (s .kind) 3) pen (pointIn l i) out .memory) →
+          Ends (run n l (i + 1) (stateOf (counted 1 (brings s pen (pointIn l i)) s) (drawnBy (s .bbox) (eqb (s .kind) 3) pen (pointIn l i) out .answer)) (drawnBy (s .bbox) (eqb (s .kind) 3) pen (pointIn l i) out .memory))) →
           Ends (cond b (run n l (i + 1) (added (stateOf s pen) (pointIn l i) out .answer .values .state) (added (stateOf s pen) (pointIn l i) out .memory)) (kept (halted (stateOf s pen) i) out))
       by true e go =
           let w = drawnBy (s .bbox) (eqb (s .kind) 3) pen (pointIn l i) out in
-          let (a, c) = both (leb (pen .used + 6) (room (length out))) (isCoord (pointIn l i)) e in
-          let N = next-is s pen (pointIn l i) out O c (leb-true (pen .used + 6) (room (length out)) a) in
+          let (a, f) = both (leb (pen .used + 6) (room (length out))) (isCoord (pointIn l i)) e in
+          let N = next-is s pen (pointIn l i) out O f (leb-true (pen .used + 6) (room (length out)) a) (omega (arith, r (omega arith))) in
           subst (λ (a : Answered). Ends (run n l (i + 1) (a .answer .values .state) (a .memory))) (sym (N .accepted))
-          (go (N .ongoing) (step i (stateOf s pen) (stateOf s (w .answer)) out (w .memory) (omega arith) (N .accepted) (N .long) x))
+          (go (N .ongoing) (step i (stateOf s pen) (stateOf (counted 1 (brings s pen (pointIn l i)) s) (w .answer)) out (w .memory) (omega arith) (N .accepted) (N .long) x))
       by false e go = x
+
+least-left : (n m : ℕ) → least n m ≤ n
+least-left n m = by (leb n m) refl
+  where
+    by : (b : Bool) → leb n m ≡ b → cond b n m ≤ n
+    by true e = omega arith
+    by false e = omega (arith, leb-false n m e)
 
 last-before : (n to : ℕ) → lastPoint n to ≤ to
 last-before n to = by (leb to (n / 2)) refl
@@ -69,12 +83,10 @@ stretch-keeps l to P step s from out S x = by (isStart (draftOf s)) refl
     step′ : (i : ℕ) (s t : GeomEncoder) (out m : List ℕ) → i < lastPoint (length l) to → added s (pointIn l i) out ≡ kept (done t) m → length m ≡ length out → P i s out → P (i + 1) t m
     step′ i s t out m h = step i s t out m (omega (arith, last-before (length l) to))
 
-    by : (b : Bool) → isStart (draftOf s) ≡ b →
-        P (cond b (run (lastPoint (length l) to - from) l from s out) (kept (halted s from) out) .answer .reached) (cond b (run (lastPoint (length l) to - from) l from s out) (kept (halted s from) out) .answer .state)
-        (cond b (run (lastPoint (length l) to - from) l from s out) (kept (halted s from) out) .memory)
+    by : (b : Bool) → isStart (draftOf s) ≡ b → Ends l (lastPoint (length l) to) P step′ (cond b (run (least (lastPoint (length l) to - from) (spareOf (s .tally))) l from s out) (kept (halted s from) out))
     by true e =
         let w = pen-whole s e in
-        subst (λ (t : GeomEncoder). Ends l (lastPoint (length l) to) P step′ (run (lastPoint (length l) to - from) l from t out)) w
-        (run-keeps l (lastPoint (length l) to) P step′ s (lastPoint (length l) to - from) from (penOf s) out (omega arith)
-        (ongoing-start s (length out) S e) (rw w x))
+        subst (λ (t : GeomEncoder). Ends l (lastPoint (length l) to) P step′ (run (least (lastPoint (length l) to - from) (spareOf (s .tally))) l from t out)) w
+        (run-keeps l (lastPoint (length l) to) P step′ s (least (lastPoint (length l) to - from) (spareOf (s .tally))) from (penOf s) out (least-left (lastPoint (length l) to - from) (spareOf (s .tally)))
+        (λ z. omega (arith, least-right (lastPoint (length l) to - from) (spareOf (s .tally)))) (ongoing-start s (length out) S e) (rw w x))
     by false e = x

@@ -19,7 +19,7 @@ use Rattle.encoder.specs.Pushed.{moveTo, lineTo, closePath}
 use Rattle.encoder.specs.Ends.{Fitting, EndFits, layEnd}
 use Rattle.encoder.specs.declared.GeomEncoder.{GeomEncoder}
 use Rattle.encoder.specs.States.{valid, Valid}
-use Rattle.encoder.specs.Answers.{Counted, done, turned, fitting, passed}
+use Rattle.encoder.specs.Answers.{Counted, done, turned, roomy, passed}
 use Rattle.encoder.specs.declared.Edges.{Edges}
 use Rattle.encoder.specs.Emitting.{placeOf}
 use Rattle.encoder.specs.Adding.{drawn, added}
@@ -85,11 +85,11 @@ module _ (s : GeomEncoder) (p : Pt) (out : List ℕ) where
       pub add-asked : (valid s (length out) ≡ true) × (isCoord p ≡ true)
       add-asked = (w, yes-of t (isCoord p) f k)
 
-      pub add-edges : (n m : Edges) → m ≡ passed (fitting s out (drawn s p out) .answer) n → m ≡ passed (added s p out .answer) n
+      pub add-edges : (n m : Edges) → m ≡ passed (roomy s out (drawn s p out) .answer) n → m ≡ passed (added s p out .answer) n
       unfolding added
       add-edges n m e = rw (add-asked .0, add-asked .1) e
 
-      pub add-within : {a : Said Counted} {o : List ℕ} → Gives (fitting s out (drawn s p out)) a o → Gives (added s p out) a o
+      pub add-within : {a : Said Counted} {o : List ℕ} → Gives (roomy s out (drawn s p out)) a o → Gives (added s p out) a o
       unfolding added
       add-within g = rw (add-asked .0, add-asked .1) g
 

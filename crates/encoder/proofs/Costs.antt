@@ -26,13 +26,13 @@ use Rattle.encoder.specs.Points.{clamped, samePt, lastOf}
 use Rattle.encoder.specs.Boundary.{moved, movedEnds}
 use Rattle.encoder.specs.Pushed.{closePath}
 use Rattle.encoder.specs.Emitting.{Emission, emission, steps, placeOf, begun}
-use Rattle.encoder.specs.Adding.{cutFrom, boundary, emissions, emitted, added}
+use Rattle.encoder.specs.Adding.{cutFrom, boundary, emissions, emitted, counted, added}
 use Rattle.encoder.specs.Completing.{closing, cleared, finished, completed}
 use Rattle.encoder.specs.Calls.{Call, add, complete, partCalls, After, none, next}
 use Rattle.encoder.specs.Planning.{Ready}
 use Rattle.encoder.proofs.Pushing.{out-count, out-used}
 use Rattle.encoder.proofs.Steps.{emission-cases, command-cases, emission-step}
-use Rattle.encoder.proofs.States.{valid-facts, valid-ready}
+use Rattle.encoder.proofs.States.{valid-facts, valid-ready, counted-ready}
 use Rattle.encoder.proofs.Calls.{finished-used}
 use Rattle.encoder.proofs.Accepted.{added-accepted, completed-accepted, emitted-run, same-emission}
 
@@ -113,23 +113,23 @@ boundary-none s p e = rw e (by (eqb (s .kind) 1))
 
 -- ---- the calls
 module _ (s : GeomEncoder) (p : Pt) (out : List ℕ) (t : GeomEncoder) (l : List ℕ) (k : s .kind ≡ 1 → ⊥) (e : added s p out ≡ kept (done t) l) where
-  R : Ready maxWords s
-  R = valid-ready (valid-facts s (length out) (added-accepted s p out t l e .valid))
+  abbrev c : GeomEncoder
+  c = counted 1 (length (boundary s p)) s
 
-  w : Written GeomEncoder (List ℕ)
-  w = emitted s (emissions s p) out
+  R : Ready maxWords c
+  R = counted-ready 1 (length (boundary s p)) (valid-ready (valid-facts s (length out) (added-accepted s p out t l e .valid)))
 
   add-kind : t .kind ≡ s .kind
-  add-kind = ap (λ (x : GeomEncoder). x .kind) (added-accepted s p out t l e .fits .state) ∙ emitted-run maxWords s (emissions s p) out R .kind
+  add-kind = ap (λ (x : GeomEncoder). x .kind) (added-accepted s p out t l e .fits .state) ∙ emitted-run maxWords c (emissions s p) out R .kind
 
   add-cost : t .used + left (t .count) ≤ s .used + left (s .count) + 2 * (length (boundary s p) + 1)
   add-cost =
       let f = added-accepted s p out t l e .fits .state in
-      let u : t .used ≡ emitted s (emissions s p) out .answer .used = ap (λ (x : GeomEncoder). x .used) f in
-      let c : t .count ≡ emitted s (emissions s p) out .answer .count = ap (λ (x : GeomEncoder). x .count) f in
+      let u : t .used ≡ emitted c (emissions s p) out .answer .used = ap (λ (x : GeomEncoder). x .used) f in
+      let v : t .count ≡ emitted c (emissions s p) out .answer .count = ap (λ (x : GeomEncoder). x .count) f in
       let n : length (emissions s p) ≡ length (boundary s p) + 1 = length-append (boundary s p) (p ∷ []) in
-      let h = emitted-cost maxWords s (emissions s p) out R k in
-      rw (u, c, ← n) h
+      let h = emitted-cost maxWords c (emissions s p) out R k in
+      rw (u, v, ← n) h
 
 closes : ℕ → ℕ
 closes kind = cond (eqb kind 3) 1 0
@@ -190,8 +190,9 @@ Starts s = s .count ≡ 0 → s .«xy_end» ≡ Nowhere
 
 add-starts : (s : GeomEncoder) (p : Pt) (out : List ℕ) (t : GeomEncoder) (l : List ℕ) → added s p out ≡ kept (done t) l → Starts t
 add-starts s p out t l e z =
-    let c : t .count ≡ emitted s (emissions s p) out .answer .count = ap (λ (x : GeomEncoder). x .count) (added-accepted s p out t l e .fits .state) in
-    absurd (omega (arith, emitted-some s (boundary s p) p out))
+    let c : GeomEncoder = counted 1 (length (boundary s p)) s in
+    let v : t .count ≡ emitted c (emissions s p) out .answer .count = ap (λ (x : GeomEncoder). x .count) (added-accepted s p out t l e .fits .state) in
+    absurd (omega (arith, emitted-some c (boundary s p) p out))
 
 complete-starts : (s : GeomEncoder) (out : List ℕ) (t : GeomEncoder) (l : List ℕ) → Starts s → completed s out ≡ kept (done t) l → Starts t
 unfolding finished

@@ -25,13 +25,14 @@ use Rattle.encoder.specs.declared.draft.Draft.{Draft}
 use Rattle.encoder.specs.declared.plan.Plan.{Plan}
 use Rattle.encoder.specs.declared.pen.Pen.{Pen}
 use Rattle.encoder.specs.Points.{inLimit, missing, isLast, samePt, between, lastBetween, lastOf}
-use Rattle.encoder.specs.Boundary.{maybe}
+use Rattle.encoder.specs.Boundary.{maybe, listOf, endsOf}
 use Rattle.encoder.specs.Pushed.{wordOf, command}
-use Rattle.encoder.specs.Emitting.{Emission, takenOut, popped, steps, pushed, skipped, emittedAt}
-use Rattle.encoder.specs.Adding.{ended}
-use Rattle.encoder.specs.Planning.{planLimit, Ready}
-use Rattle.encoder.specs.Pens.{taken, beforePush, onward}
-use Rattle.encoder.specs.Drafts.{draftOf, stateIn, withPen, ringing, pushedTo, behind, pushedBy, emittedIf, Writable, EndsFit, AllFit, laidEnds, laidAll}
+use Rattle.encoder.specs.Emitting.{Emission, takenOut, popped, steps, pushed, begun, skipped, emittedAt}
+use Rattle.encoder.specs.Adding.{counted, ended}
+use Rattle.encoder.specs.Planning.{planLimit, Ready, Few}
+use Rattle.encoder.specs.Tallies.{maxTally}
+use Rattle.encoder.specs.Pens.{withRaw, again, taken, beforePush, onward}
+use Rattle.encoder.specs.Drafts.{draftOf, stateIn, withPen, ringing, pushedTo, behind, pushedBy, oneIf, takenBy, emittedIf, Writable, EndsFit, AllFit, laidEnds, laidAll}
 use Rattle.promise.proofs.Joined.{both}
 use Rattle.encoder.proofs.Coords.{last-coord}
 use Rattle.encoder.proofs.Pushing.{out-count}
@@ -47,11 +48,11 @@ whole s = rw (there (s .«xy_end»), there (s .pt0), there (s .pt1))
 
 pub draft-is : (s : GeomEncoder) (raw before last : Pt) (a b c : Bool) → raw ≡ lastOf (s .«xy_end») → before ≡ lastOf (s .pt0) → last ≡ lastOf (s .pt1) →
     a ≡ missing (s .«xy_end») → b ≡ missing (s .pt0) → c ≡ missing (s .pt1) →
-    record { kind = s .kind; bbox = s .bbox; pen = record { raw = raw; pt0 = before; pt1 = last; count = s .count; used = s .used }; joins = not a; has0 = not b; has1 = not c; place = s .«cmd_offset» } ≡ draftOf s
+    record { kind = s .kind; bbox = s .bbox; pen = record { raw = raw; pt0 = before; pt1 = last; count = s .count; used = s .used; skipped = s .tally .skipped; «taken_out» = s .tally .«taken_out» }; joins = not a; has0 = not b; has1 = not c; place = s .«cmd_offset»; taken = s .tally .taken; boundary = s .tally .boundary } ≡ draftOf s
 draft-is s raw before last a b c e f g h i j = rw (e, f, g, h, i, j)
 
 pub state-is : (d : Draft) (raw before last : MaybePt) → raw ≡ maybe (d .joins) (d .pen .raw) → before ≡ maybe (d .has0) (d .pen .pt0) → last ≡ maybe (d .has1) (d .pen .pt1) →
-    record { kind = d .kind; bbox = d .bbox; «xy_end» = raw; pt0 = before; pt1 = last; «cmd_offset» = d .place; count = d .pen .count; used = d .pen .used } ≡ stateIn d
+    record { tally = stateIn d .tally; kind = d .kind; bbox = d .bbox; «xy_end» = raw; pt0 = before; pt1 = last; «cmd_offset» = d .place; count = d .pen .count; used = d .pen .used } ≡ stateIn d
 state-is d raw before last e f g = rw (e, f, g)
 
 module _ (there : Bool) (p : Pt) where
@@ -61,17 +62,44 @@ module _ (there : Bool) (p : Pt) where
   pub is-nowhere : there ≡ false → Nowhere ≡ maybe there p
   is-nowhere e = rw e
 
+-- ---- a point taken
+module _ (b : Bool) where
+  pub one-yes : b ≡ true → 1 ≡ oneIf b
+  one-yes e = rw e
+
+  pub one-no : b ≡ false → 0 ≡ oneIf b
+  one-no e = rw e
+
+pub one-most : (b : Bool) (n : ℕ) → n ≡ oneIf b → n ≤ 1
+one-most true n e = omega arith
+one-most false n e = omega arith
+
+pub taken-is : (d : Draft) (e : Ends) (a b : ℕ) → a ≡ oneIf (e .moved0) → b ≡ oneIf (e .moved1) →
+    record { kind = d .kind; bbox = d .bbox; pen = d .pen; joins = d .joins; has0 = d .has0; has1 = d .has1; place = d .place; taken = d .taken + 1; boundary = d .boundary + (a + b) } ≡ takenBy d e
+taken-is d e a b f g = rw (f, g)
+
+-- the ends that moved are as many as the boundary points
+ends-counted : (e : Ends) → length (endsOf e) ≡ oneIf (e .moved0) + oneIf (e .moved1)
+ends-counted e = by (e .moved0) (e .moved1)
+  where
+    by : (a b : Bool) → length (listOf (maybe a (e .end0)) ++ listOf (maybe b (e .end1))) ≡ oneIf a + oneIf b
+    by true true = refl
+    by true false = refl
+    by false true = refl
+    by false false = refl
+
+pub taken-state : (d : Draft) (e : Ends) (l : List Pt) → endsOf e ≡ l → stateIn (takenBy d e) ≡ counted 1 (length l) (stateIn d)
+taken-state d e l f = rw (← f, ends-counted e)
+
 -- ---- the last point again
 pub again-is : (h t : Bool) (p q : Pt) → t ≡ samePt p q → (h && t) ≡ isLast (maybe h p) q
 again-is true t p q e = e
 again-is false t p q e = refl
 
 module _ (d : Draft) where
-  pub skip-begun : d .pen .count ≡ 0 → (r : Draft) → r ≡ withPen d (record { raw = d .pen .raw; pt0 = d .pen .pt0; pt1 = d .pen .pt1; count = 1; used = d .pen .used }) → stateIn r ≡ skipped (stateIn d) .next
-  skip-begun e r f = rw (f, eq-eqb (d .pen .count) 0 e)
-
-  pub skip-same : (d .pen .count ≡ 0 → ⊥) → stateIn d ≡ skipped (stateIn d) .next
-  skip-same e = rw (ne-eqb (d .pen .count) 0 e)
+  pub skip-is : (pen : Pen) → pen ≡ again (d .pen) → (n : ℕ) → n ≡ begun (pen .count) →
+      (r : Draft) → r ≡ withPen d (record { raw = pen .raw; pt0 = pen .pt0; pt1 = pen .pt1; count = n; used = pen .used; skipped = pen .skipped; «taken_out» = pen .«taken_out» }) → stateIn r ≡ skipped (stateIn d) .next
+  skip-is pen g n e r f = rw (f, e, g)
 
 -- ---- taking out
 module _ (d : Draft) (q : Pt) where
@@ -98,13 +126,16 @@ module _ (d : Draft) (q : Pt) where
       by false e = refl
 
   module _ (R : Ready planLimit (stateIn d)) where
-    pub may-pop : (t : Bool) → t ≡ ringing d → t ≡ true → (2 ≤ d .pen .count) × (2 ≤ d .pen .used)
+    may-pop : (t : Bool) → t ≡ ringing d → t ≡ true → (2 ≤ d .pen .count) × (2 ≤ d .pen .used)
     may-pop t e h =
         let (x, k) = both (eqb (d .kind) 3 && leb 2 (d .pen .count) && d .has0) (d .has1) (sym e ∙ h) in
         let (y, j) = both (eqb (d .kind) 3 && leb 2 (d .pen .count)) (d .has0) x in
         let (z, i) = both (eqb (d .kind) 3) (leb 2 (d .pen .count)) y in
         let c = leb-true 2 (d .pen .count) i in
         (c, omega (arith, R .counted))
+
+    pub push-asked : Few 1 (stateIn d) → (t : Bool) → t ≡ ringing d → (t ≡ true → (2 ≤ d .pen .count) × (2 ≤ d .pen .used)) × (d .pen .«taken_out» ≤ maxTally + 6)
+    push-asked F t e = (may-pop t e, omega (arith, F .outs))
 
     pub base-fits : (t : Bool) (base : Pen) → base ≡ beforePush t (d .pen) q → (base .count ≤ planLimit) × (base .used ≤ planLimit)
     base-fits t base e = subst (λ (x : Pen). (x .count ≤ planLimit) × (x .used ≤ planLimit)) (sym e) (by (t && between (d .pen .pt0) (d .pen .pt1) q))
@@ -139,7 +170,7 @@ module _ (d : Draft) (base : Pen) (q : Pt) (word : MaybeWord) (r : Draft) where
   push-behind w e f = rw e f
 
 pub pushed-is : (d : Draft) (base : Pen) (q : Pt) (place : ℕ) (pen : Pen) → pen ≡ onward base q .pen →
-    record { kind = d .kind; bbox = d .bbox; pen = pen; joins = d .joins; has0 = d .has1; has1 = true; place = place } ≡ pushedTo d base q place
+    record { kind = d .kind; bbox = d .bbox; pen = pen; joins = d .joins; has0 = d .has1; has1 = true; place = place; taken = d .taken; boundary = d .boundary } ≡ pushedTo d base q place
 pushed-is d base q place pen e = rw e
 
 -- ---- the returns of `emit_if`
@@ -163,8 +194,8 @@ module _ (d : Draft) (p : Pt) where
   pub end-stays : d .kind ≡ 1 → stateIn d ≡ ended (stateIn d) p
   end-stays e = rw (eq-eqb (d .kind) 1 e)
 
-  pub end-moves : (d .kind ≡ 1 → ⊥) → (pen : Pen) → pen ≡ record { raw = p; pt0 = d .pen .pt0; pt1 = d .pen .pt1; count = d .pen .count; used = d .pen .used } →
-      stateIn (record { kind = d .kind; bbox = d .bbox; pen = pen; joins = true; has0 = d .has0; has1 = d .has1; place = d .place }) ≡ ended (stateIn d) p
+  pub end-moves : (d .kind ≡ 1 → ⊥) → (pen : Pen) → pen ≡ withRaw (d .pen) p →
+      stateIn (record { kind = d .kind; bbox = d .bbox; pen = pen; joins = true; has0 = d .has0; has1 = d .has1; place = d .place; taken = d .taken; boundary = d .boundary }) ≡ ended (stateIn d) p
   end-moves e pen f = rw (ne-eqb (d .kind) 1 e, f)
 
 -- ---- the returns of `write_command`

@@ -37,7 +37,8 @@ use Rattle.words.specs.Params.{param}
 use Rattle.promise.proofs.Stores.{two-stores}
 use Rattle.encoder.specs.declared.pen.Pen.{Pen}
 use Rattle.encoder.specs.declared.boundary.Ends.{Ends}
-use Rattle.encoder.specs.Pens.{stateOf, withRaw, Mark, still, taken, beforePush, onward, mark, laid, marked, markedIf, markedEnds, marks, ends, drawnBy, Fit, Able}
+use Rattle.encoder.specs.Pens.{stateOf, withRaw, Mark, again, still, taken, beforePush, onward, mark, laid, marked, markedIf, markedEnds, marks, ends, drawnBy, Fit, Able}
+use Rattle.encoder.specs.Stretches.{emissionsBy}
 use Rattle.encoder.proofs.Tests.{clamped-inside, made-coord, fixed0, fixed1, neither}
 
 -- ---- the returns of `before_push` and `emit`
@@ -52,9 +53,9 @@ pub may-pop : (ring b : Bool) (pen : Pen) → (ring ≡ true → (2 ≤ pen .cou
 may-pop ring b pen h u f k = h (both ring b (sym f ∙ k) .0)
 
 module _ (ring : Bool) (pen : Pen) (q : Pt) (out : List ℕ) (t : Bool) (e : t ≡ samePt (pen .pt1) q) where
-  pub emit-still : t ≡ true → Gives (marked ring pen q out) pen out
+  pub emit-still : t ≡ true → (r : Pen) → r ≡ again pen → Gives (marked ring pen q out) r out
   unfolding marked
-  emit-still h = rw (sym e ∙ h) (record { answer = refl; memory = sym (lay-nothing (pen .used) out) })
+  emit-still h r f = rw (sym e ∙ h) (record { answer = f; memory = sym (lay-nothing (pen .used) out) })
 
   pub emit-next : t ≡ false → (base : Pen) → base ≡ beforePush ring pen q → (r : Pen) (o : List ℕ) → Gives (laid (onward base q) out) r o → Gives (marked ring pen q out) r o
   unfolding marked
@@ -74,7 +75,7 @@ push-fits n ring pen q a base e = subst (λ (x : Pen). Fit x n) (sym e) (by (rin
 
 -- ---- what is asked of a pen
 pub less : {m k n : ℕ} {pen : Pen} → k ≤ m → Able m pen n → Able k pen n
-less h a = record { room = omega (arith, a .room); few = omega (arith, a .few); two = a .two; counted = a .counted; at0 = a .at0; at1 = a .at1 }
+less h a = record { room = omega (arith, a .room); few = omega (arith, a .few); two = a .two; counted = a .counted; lost = omega (arith, a .lost); at0 = a .at0; at1 = a .at1 }
 
 module _ (m n : ℕ) (ring : Bool) (pen : Pen) (a : Able (m + 2) pen n) where
   pub marked-able : (q : Pt) (out : List ℕ) → Coord q → Able m (marked ring pen q out .answer) n
@@ -82,11 +83,11 @@ module _ (m n : ℕ) (ring : Bool) (pen : Pen) (a : Able (m + 2) pen n) where
   marked-able q out c = by (samePt (pen .pt1) q) (ring && between (pen .pt0) (pen .pt1) q)
     where
       by : (t u : Bool) → Able m (cond t (still pen) (onward (cond u (taken pen) pen) q) .pen) n
-      by true u = less (omega arith) a
+      by true u = record { room = omega (arith, a .room); few = omega (arith, a .few); two = a .two; counted = a .counted; lost = omega (arith, a .lost); at0 = a .at0; at1 = a .at1 }
       by false true =
           let s : 2 ≤ pen .used = omega (arith, a .two, a .counted) in
-          record { room = omega (arith, a .room); few = omega (arith, a .few); two = omega (arith, a .two); counted = omega (arith, a .counted, a .two); at0 = a .at0; at1 = c }
-      by false false = record { room = omega (arith, a .room); few = omega (arith, a .few); two = omega (arith, a .two); counted = omega (arith, a .counted); at0 = a .at1; at1 = c }
+          record { room = omega (arith, a .room); few = omega (arith, a .few); two = omega (arith, a .two); counted = omega (arith, a .counted, a .two); lost = omega (arith, a .lost); at0 = a .at0; at1 = c }
+      by false false = record { room = omega (arith, a .room); few = omega (arith, a .few); two = omega (arith, a .two); counted = omega (arith, a .counted); lost = omega (arith, a .lost); at0 = a .at1; at1 = c }
 
   pub if-able : (moved : Bool) (end : Pt) (out : List ℕ) → isCoord end ≡ true → Able m (markedIf moved ring pen end out .answer) n
   unfolding markedIf
@@ -228,7 +229,7 @@ module _ (s : GeomEncoder) where
       let l : leb 2 (pen .count) ≡ true = le-leb 2 (pen .count) (B .two) in
       rw (n, z, l) (by (samePt (pen .pt1) q) (eqb (s .kind) 3) (between (pen .pt0) (pen .pt1) q))
     where
-      by : (t k w : Bool) → cond t (record { next = stateOf s pen; at = pen .used; run = [] }) (pushed [] (cond (k && true && w) (popped (stateOf s pen)) (stateOf s pen)) q)
+      by : (t k w : Bool) → cond t (record { next = stateOf s (again pen); at = pen .used; run = [] }) (pushed [] (cond (k && true && w) (popped (stateOf s pen)) (stateOf s pen)) q)
           ≡ emissionOf s (cond t (still pen) (onward (cond (k && w) (taken pen) pen) q))
       by true k w = refl
       by false true true = refl
@@ -245,6 +246,28 @@ module _ (s : GeomEncoder) where
       let q = clamped (s .bbox) p in
       ap (λ (e : Emission). emitted (e .next) ps (lay (e .at) (e .run) out)) (mark-is pen q B) ∙
       marks-emitted ps (marked (eqb (s .kind) 3) pen q out .answer) (marked (eqb (s .kind) 3) pen q out .memory) (begun-next (eqb (s .kind) 3) pen q out B)
+
+-- ---- each emission is a vertex more, a point skipped or one taken out
+marked-sum : (ring : Bool) (pen : Pen) (q : Pt) (out : List ℕ) → Begun pen → emissionsBy (marked ring pen q out .answer) ≡ emissionsBy pen + 1
+unfolding marked
+marked-sum ring pen q out B = by (samePt (pen .pt1) q) (ring && between (pen .pt0) (pen .pt1) q)
+  where
+    by : (t u : Bool) → emissionsBy (cond t (still pen) (onward (cond u (taken pen) pen) q) .pen) ≡ emissionsBy pen + 1
+    by true u = omega arith
+    by false true = omega (arith, B .two)
+    by false false = omega arith
+
+marks-sum : (b : BBox) (ring : Bool) (ps : List Pt) (pen : Pen) (out : List ℕ) → Begun pen → emissionsBy (marks b ring pen ps out .answer) ≡ emissionsBy pen + length ps
+marks-sum b ring [] pen out B = omega arith
+marks-sum b ring (p ∷ ps) pen out B =
+    let m = marked ring pen (clamped b p) out in
+    omega (arith, marks-sum b ring ps (m .answer) (m .memory) (begun-next ring pen (clamped b p) out B), marked-sum ring pen (clamped b p) out B)
+
+pub drawn-sum : (b : BBox) (ring : Bool) (pen : Pen) (p : Pt) (out : List ℕ) → Begun pen → emissionsBy (drawnBy b ring pen p out .answer) ≡ emissionsBy pen + length (ends b (pen .raw) p) + 1
+unfolding drawnBy
+drawn-sum b ring pen p out B =
+    let n : length (ends b (pen .raw) p ++ (p ∷ [])) ≡ length (ends b (pen .raw) p) + 1 = length-append (ends b (pen .raw) p) (p ∷ []) in
+    omega (arith, marks-sum b ring (ends b (pen .raw) p ++ (p ∷ [])) pen out B)
 
 -- ---- at most two words for each emission
 marked-used : (ring : Bool) (pen : Pen) (q : Pt) (out : List ℕ) → marked ring pen q out .answer .used ≤ pen .used + 2
@@ -270,12 +293,40 @@ moved-one raw end = by (samePt raw end)
     by true = omega arith
     by false = omega arith
 
+pub ends-two : (b : BBox) (raw p : Pt) → length (ends b raw p) ≤ 2
+ends-two b raw p =
+    let cut = clip b (record { p0 = raw; p1 = p }) .seg in
+    let n : length (ends b raw p) ≡ length (moved raw (cut .p0)) + length (moved p (cut .p1)) = length-append (moved raw (cut .p0)) (moved p (cut .p1)) in
+    omega (arith, moved-one raw (cut .p0), moved-one p (cut .p1))
+
+-- ---- at most one point lost for each emission
+marked-lost : (ring : Bool) (pen : Pen) (q : Pt) (out : List ℕ) → marked ring pen q out .answer .skipped + marked ring pen q out .answer .«taken_out» ≤ pen .skipped + pen .«taken_out» + 1
+unfolding marked
+marked-lost ring pen q out = by (samePt (pen .pt1) q) (ring && between (pen .pt0) (pen .pt1) q)
+  where
+    by : (t u : Bool) → cond t (still pen) (onward (cond u (taken pen) pen) q) .pen .skipped + cond t (still pen) (onward (cond u (taken pen) pen) q) .pen .«taken_out» ≤ pen .skipped + pen .«taken_out» + 1
+    by true u = omega arith
+    by false true = omega arith
+    by false false = omega arith
+
+marks-lost : (b : BBox) (ring : Bool) (ps : List Pt) (pen : Pen) (out : List ℕ) → marks b ring pen ps out .answer .skipped + marks b ring pen ps out .answer .«taken_out» ≤ pen .skipped + pen .«taken_out» + length ps
+marks-lost b ring [] pen out = omega arith
+marks-lost b ring (p ∷ ps) pen out =
+    let h = marked-lost ring pen (clamped b p) out in
+    let k = marks-lost b ring ps (marked ring pen (clamped b p) out .answer) (marked ring pen (clamped b p) out .memory) in
+    omega arith
+
+pub drawn-lost : (b : BBox) (ring : Bool) (pen : Pen) (p : Pt) (out : List ℕ) → drawnBy b ring pen p out .answer .skipped + drawnBy b ring pen p out .answer .«taken_out» ≤ pen .skipped + pen .«taken_out» + 3
+unfolding drawnBy
+drawn-lost b ring pen p out =
+    let n : length (ends b (pen .raw) p ++ (p ∷ [])) ≡ length (ends b (pen .raw) p) + 1 = length-append (ends b (pen .raw) p) (p ∷ []) in
+    omega (arith, marks-lost b ring (ends b (pen .raw) p ++ (p ∷ [])) pen out, ends-two b (pen .raw) p)
+
 pub drawn-used : (b : BBox) (ring : Bool) (pen : Pen) (p : Pt) (out : List ℕ) → drawnBy b ring pen p out .answer .used ≤ pen .used + 6
 unfolding drawnBy
 drawn-used b ring pen p out =
-    let cut = clip b (record { p0 = pen .raw; p1 = p }) .seg in
-    let n : length (ends b (pen .raw) p ++ (p ∷ [])) ≡ length (moved (pen .raw) (cut .p0)) + length (moved p (cut .p1)) + 1 = simp length-append in
-    omega (arith, marks-used b ring (ends b (pen .raw) p ++ (p ∷ [])) pen out, n, moved-one (pen .raw) (cut .p0), moved-one p (cut .p1))
+    let n : length (ends b (pen .raw) p ++ (p ∷ [])) ≡ length (ends b (pen .raw) p) + 1 = length-append (ends b (pen .raw) p) (p ∷ []) in
+    omega (arith, marks-used b ring (ends b (pen .raw) p ++ (p ∷ [])) pen out, ends-two b (pen .raw) p)
 
 -- ---- two stores
 pub steps-laid : (l : List ℕ) (at : ℕ) (p q : Pt) (a b : ℕ) → at + 2 ≤ length l → a ≡ param (q .x -ℤ p .x) → b ≡ param (q .y -ℤ p .y) → set (set l at a) (at + 1) b ≡ lay at (steps p q) l

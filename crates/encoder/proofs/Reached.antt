@@ -13,7 +13,7 @@ use native.Mathlib.Decide.{ℕ-discrete}
 use borrow.Author.Tests.{le-leb, lt-ltb, eq-eqb, ne-eqb}
 use lib.Dec.{ltb, eqb}
 use lib.IntN.{pos}
-use lib.ListN.{length}
+use lib.ListN.{length, length-append}
 use Rattle.promise.specs.Answers.{kept}
 use Rattle.promise.specs.Laid.{lay}
 use Rattle.promise.proofs.Laying.{length-lay, lay-nothing}
@@ -33,7 +33,7 @@ use Rattle.encoder.specs.Answers.{done, started}
 use Rattle.encoder.specs.Points.{inLimit, clamped, isLast, lastOf}
 use Rattle.encoder.specs.Pushed.{closePath}
 use Rattle.encoder.specs.Emitting.{Emission, emission, steps, placeOf}
-use Rattle.encoder.specs.Adding.{pointAt, boundary, emissions, emitted, ended, added}
+use Rattle.encoder.specs.Adding.{pointAt, boundary, emissions, emitted, ended, counted, added}
 use Rattle.encoder.specs.Completing.{counting, closing, cleared, finished, completed}
 use Rattle.encoder.specs.Calls.{Call, add, complete, After, none, next}
 use Rattle.encoder.specs.Planning.{Ready}
@@ -41,8 +41,8 @@ use Rattle.encoder.proofs.Pushing.{out-count, out-used}
 use Rattle.encoder.proofs.Steps.{emission-cases, command-cases, emission-step}
 use Rattle.encoder.proofs.Calls.{one-word, counted-some, finished-used}
 use Rattle.words.proofs.Rooms.{room-length}
-use Rattle.encoder.proofs.States.{valid-ready}
-use Rattle.encoder.proofs.Accepted.{added-accepted, completed-accepted, emitted-run}
+use Rattle.encoder.proofs.States.{valid-ready, counted-ready}
+use Rattle.encoder.proofs.Accepted.{added-accepted, completed-accepted, emitted-run, emitted-lost}
 
 -- ---- STATE from its rules
 either-is : (count place used : ℕ) → ((count ≡ 0 → ⊥) → place < used) → Dec (count ≡ 0) → (eqb count 0 || ltb place used) ≡ true
@@ -60,15 +60,13 @@ valid-is s n v = rw (
   v .end,
   v .at0,
   v .at1,
+  le-leb (s .tally .skipped + s .tally .«taken_out») (s .tally .taken + s .tally .boundary) (v .balanced),
 )
 
 -- where the last command stands below the used words: wherever there is a count or a last point
 pub record Placed (s : GeomEncoder) : Type 0 where
   pub counts : (s .count ≡ 0 → ⊥) → s .«cmd_offset» < s .used
   pub points : isThere (s .pt1) ≡ true → s .«cmd_offset» < s .used
-
-sound-placed : {s : GeomEncoder} {n : ℕ} → Sound s n → Placed s
-sound-placed S = record { counts = S .valid .placed; points = S .points }
 
 -- ---- an emission leaves it so
 last-there : (m : MaybePt) (q : Pt) → isLast m q ≡ true → isThere m ≡ true
@@ -91,7 +89,7 @@ emitted-placed n s (p ∷ ps) out R P =
 -- ---- a fresh state
 pub fresh-sound : (kind : ℕ) (bbox : BBox) (n : ℕ) → isKind kind ≡ true → isGood bbox ≡ true → Sound (fresh kind bbox) n
 fresh-sound kind bbox n k g = record {
-  valid = record { fits = omega arith; counted = omega arith; placed = λ z. absurd (z refl); kind = k; good = g; end = refl; at0 = refl; at1 = refl };
+  valid = record { fits = omega arith; counted = omega arith; placed = λ z. absurd (z refl); kind = k; good = g; end = refl; at0 = refl; at1 = refl; balanced = omega arith };
   points = λ e. absurd (let z : _≡_ {A = ℕ} 0 1 = cc in omega arith);
 }
 
@@ -115,10 +113,13 @@ end-limit s t p e h c = by (eqb (t .kind) 1)
 pub add-sound : (s : GeomEncoder) (p : Pt) (out : List ℕ) (t : GeomEncoder) (l : List ℕ) → Sound s (length out) → added s p out ≡ kept (done t) l → Sound t (length l) × (length l ≡ length out)
 add-sound s p out t l S e =
     let A = added-accepted s p out t l e in
-    let w = emitted s (emissions s p) out in
+    let c : GeomEncoder = counted 1 (length (boundary s p)) s in
+    let w = emitted c (emissions s p) out in
     let v = S .valid in
-    let W = emitted-run maxWords s (emissions s p) out (valid-ready v) in
-    let P = emitted-placed maxWords s (emissions s p) out (valid-ready v) (sound-placed S) in
+    let W = emitted-run maxWords c (emissions s p) out (counted-ready 1 (length (boundary s p)) (valid-ready v)) in
+    let P = emitted-placed maxWords c (emissions s p) out (counted-ready 1 (length (boundary s p)) (valid-ready v)) (record { counts = v .placed; points = S .points }) in
+    let B = emitted-lost c (emissions s p) out in
+    let n′ : length (emissions s p) ≡ length (boundary s p) + 1 = length-append (boundary s p) (p ∷ []) in
     let u : w .answer .used ≤ room (length out) = A .fits .room in
     let m : length (w .memory) ≡ length out = W .long (omega (arith, room-length (length out))) in
     let n : length l ≡ length out = ap length (A .fits .list) ∙ m in
@@ -132,6 +133,7 @@ add-sound s p out t l S e =
         end = end-limit s (w .answer) p (W .end) (v .end) (A .coord);
         at0 = W .ready .at0;
         at1 = W .ready .at1;
+        balanced = omega (arith, B .lost, B .taken, B .bounds, v .balanced);
       };
       points = P .points;
     } in
@@ -156,7 +158,7 @@ finished-sound s n S u = by (eqb (s .kind) 1) u
     by : (b : Bool) → cond b s (cleared s (placeOf (closing s) s) (s .used + length (closing s))) .used ≤ room n → Sound (cond b s (cleared s (placeOf (closing s) s) (s .used + length (closing s)))) n
     by true h = S
     by false h = record {
-      valid = record { fits = h; counted = omega arith; placed = λ z. absurd (z refl); kind = S .valid .kind; good = S .valid .good; end = refl; at0 = refl; at1 = S .valid .at1 };
+      valid = record { fits = h; counted = omega arith; placed = λ z. absurd (z refl); kind = S .valid .kind; good = S .valid .good; end = refl; at0 = refl; at1 = S .valid .at1; balanced = S .valid .balanced };
       points = closing-place s (S .points);
     }
 
@@ -182,8 +184,9 @@ pub reached-valid : (kind : ℕ) (bbox : BBox) (s t : GeomEncoder) (cs : List Ca
 reached-valid kind bbox s t cs out l e r = valid-is t (length l) (after-sound r (began-sound kind bbox s (length out) e) .valid)
 
 -- ---- why `Sound` and not STATE alone: an odd carried state that is valid, a point that it accepts, and the state after, which is refused
-abbrev odd : ℕ → GeomEncoder
-odd count = record {
+abbrev odd : ℕ → ℕ → GeomEncoder
+odd count n = record {
+  tally = record { taken = n; boundary = 0; skipped = n; «taken_out» = 0 };
   kind = 2;
   bbox = record { «x_min» = pos 0; «x_max» = pos 10; «y_min» = pos 0; «y_max» = pos 10 };
   «xy_end» = Nowhere;
@@ -194,14 +197,14 @@ odd count = record {
   used = 0;
 }
 
-pub odd-valid : valid (odd 0) 0 ≡ true
+pub odd-valid : valid (odd 0 0) 0 ≡ true
 unfolding valid isCoord isGood
 odd-valid = refl
 
-pub odd-accepted : added (odd 0) (pointAt (pos 5) (pos 5)) [] ≡ kept (done (ended (odd 1) (pointAt (pos 5) (pos 5)))) []
+pub odd-accepted : added (odd 0 0) (pointAt (pos 5) (pos 5)) [] ≡ kept (done (ended (odd 1 1) (pointAt (pos 5) (pos 5)))) []
 unfolding added valid isCoord isGood boundary emission
 odd-accepted = refl
 
-pub odd-refused : valid (ended (odd 1) (pointAt (pos 5) (pos 5))) 0 ≡ false
+pub odd-refused : valid (ended (odd 1 1) (pointAt (pos 5) (pos 5))) 0 ≡ false
 unfolding valid isCoord isGood
 odd-refused = refl

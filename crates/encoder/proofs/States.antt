@@ -13,7 +13,12 @@ use Rattle.words.proofs.Rooms.{room-cap}
 use Rattle.encoder.specs.declared.GeomEncoder.{GeomEncoder}
 use Rattle.encoder.specs.Points.{inLimit, inLimits}
 use Rattle.encoder.specs.Figures.{figuresFit}
-use Rattle.encoder.specs.States.{valid, Valid}
+use Rattle.encoder.specs.States.{fresh, valid, Valid}
+use Rattle.encoder.specs.Tallies.{untouched, balanced}
+use Rattle.encoder.specs.declared.tally.Tally.{Tally}
+use Rattle.encoder.specs.declared.points.MaybePt.the-variants.{Nowhere}
+use Rattle.clip.specs.declared.BBox.{BBox}
+use Rattle.encoder.specs.Adding.{counted}
 use Rattle.encoder.specs.Planning.{Ready}
 
 -- what `if !f(..)` tells of a test b that f answers
@@ -34,7 +39,8 @@ valid-facts s n e =
     let fits = leb (s .used) (room n) in
     let counts = leb (s .count) (s .used / 2 + 1) in
     let places = eqb (s .count) 0 || ltb (s .«cmd_offset») (s .used) in
-    let (a, points) = both (fits && counts && places && isKind (s .kind) && isGood (s .bbox)) (inLimit (s .«xy_end») && inLimit (s .pt0) && inLimit (s .pt1)) e in
+    let (x, even) = both (fits && counts && places && isKind (s .kind) && isGood (s .bbox) && inLimits (s .«xy_end») (s .pt0) (s .pt1)) (balanced (s .tally)) e in
+    let (a, points) = both (fits && counts && places && isKind (s .kind) && isGood (s .bbox)) (inLimit (s .«xy_end») && inLimit (s .pt0) && inLimit (s .pt1)) x in
     let (b, good) = both (fits && counts && places && isKind (s .kind)) (isGood (s .bbox)) a in
     let (c, kind) = both (fits && counts && places) (isKind (s .kind)) b in
     let (d, place) = both (fits && counts) places c in
@@ -50,13 +56,24 @@ valid-facts s n e =
       end = end;
       at0 = at0;
       at1 = at1;
+      balanced = leb-true (s .tally .skipped + s .tally .«taken_out») (s .tally .taken + s .tally .boundary) even;
     }
 
 -- the rules joined as the code asks them
-pub rules-joined : (s : GeomEncoder) (n : ℕ) (f k b l : Bool) → f ≡ figuresFit (s .used) (s .count) (s .«cmd_offset») n → k ≡ isKind (s .kind) → b ≡ isGood (s .bbox) → l ≡ inLimits (s .«xy_end») (s .pt0) (s .pt1) → (f && k && b && l) ≡ valid s n
+pub rules-joined : (s : GeomEncoder) (n : ℕ) (f k b l e : Bool) → f ≡ figuresFit (s .used) (s .count) (s .«cmd_offset») n → k ≡ isKind (s .kind) → b ≡ isGood (s .bbox) →
+    l ≡ inLimits (s .«xy_end») (s .pt0) (s .pt1) → e ≡ balanced (s .tally) → (f && k && b && l && e) ≡ valid s n
 unfolding valid
-rules-joined s n f k b l e g h i = rw (e, g, h, i)
+rules-joined s n f k b l e i j g h m = rw (i, j, g, h, m)
 
 -- what planning asks
 pub valid-ready : {s : GeomEncoder} {n : ℕ} → Valid s n → Ready maxWords s
 valid-ready {s} {n} v = record { few = omega (arith, v .fits, room-cap n); counted = v .counted; good = v .good; at0 = v .at0; at1 = v .at1 }
+
+-- a point that is counted changes nothing of it
+pub counted-ready : (n m : ℕ) {k : ℕ} {s : GeomEncoder} → Ready k s → Ready k (counted n m s)
+counted-ready n m R = record { few = R .few; counted = R .counted; good = R .good; at0 = R .at0; at1 = R .at1 }
+
+-- ---- a fresh state, as the code builds it
+pub fresh-is : (kind : ℕ) (bbox : BBox) (t : Tally) → t ≡ untouched →
+    record { tally = t; kind = kind; bbox = bbox; «xy_end» = Nowhere; pt0 = Nowhere; pt1 = Nowhere; «cmd_offset» = 0; count = 0; used = 0 } ≡ fresh kind bbox
+fresh-is kind bbox t e = rw e

@@ -1,4 +1,4 @@
--- Laws of the whole job: what each `return` of `encode` gives; and an answer is known by what it says. `good-ends`, `start-refused` and `start-fresh` are for every job, whatever it writes.
+-- Laws of the whole job: what each `return` of `finish` and of `encode` gives; and an answer is known by what it says. `good-ends`, `start-refused` and `start-fresh` are for every job, whatever it writes.
 use mathlib.Core.Path.{_≡_, refl, sym, _∙_, ap, subst}
 use mathlib.Core.Bool.{Bool, true, false, cond, not}
 use mathlib.Core.List.{List, [], _∷_}
@@ -27,7 +27,7 @@ use Rattle.encoder.specs.declared.whole_job.Encoded.{Encoded}
 use Rattle.encoder.specs.declared.whole_job.Encoded.the-variants.{Words, Refused}
 use Rattle.encoder.specs.declared.whole_job.Course.{Course}
 use Rattle.encoder.specs.declared.whole_job.Course.the-variants.{On, Off}
-use Rattle.encoder.specs.Jobs.{pointsOf, endsAt, isJob, jobCalls, go, outcome, outcomeOf, run, encodedJob, saidEncoded}
+use Rattle.encoder.specs.Jobs.{Outcome, off, pointsOf, endsAt, isJob, jobCalls, outcome, endOf, goAll, run, encodedJob, finishedJob, saidEncoded}
 
 -- ---- one value for each answer
 pub one-encoded : (r r′ : Encoded) → saidEncoded r ≡ saidEncoded r′ → r ≡ r′
@@ -51,14 +51,18 @@ good-ends points ends = by (eqb (length ends) 0) (eqb (length points % 2) 0)
 
 -- KIND and BOX are those of a fresh encoder: b is what `new` answers
 module _ (kind : ℕ) (bbox : BBox) (b : Started) (f : saidStarted b ≡ started kind bbox) where
-  pub start-refused : {M : Type 0} (x : Refusal) → b ≡ NotStarted x → (w : Written (Said ℕ) M) (out : M) → Gives (cond (isKind kind) (cond (isGood bbox) w (kept (refused Box 0) out)) (kept (refused Kind 0) out)) (refused x 0) out
-  start-refused x g w out = by (isKind kind) (isGood bbox) (sym (ap saidStarted g) ∙ f)
+  -- f is what an answer is made of what is said
+  pub start-turned : {A M : Type 0} (f : Said ℕ → A) (x : Refusal) → b ≡ NotStarted x → (w : Written A M) (out : M) → Gives (cond (isKind kind) (cond (isGood bbox) w (kept (f (refused Box 0)) out)) (kept (f (refused Kind 0)) out)) (f (refused x 0)) out
+  start-turned f′ x g w out = by (isKind kind) (isGood bbox) (sym (ap saidStarted g) ∙ f)
     where
       by : (k h : Bool) → refused x [] ≡ cond k (cond h (accepted (fresh kind bbox ∷ [])) (refused Box [])) (refused Kind []) →
-          Gives (cond k (cond h w (kept (refused Box 0) out)) (kept (refused Kind 0) out)) (refused x 0) out
+          Gives (cond k (cond h w (kept (f′ (refused Box 0)) out)) (kept (f′ (refused Kind 0)) out)) (f′ (refused x 0)) out
       by true true e = absurd (never-both x (sym e))
-      by true false e = record { answer = ap (λ (r : Refusal). refused r 0) (one-refusal x Box e); memory = refl }
-      by false h e = record { answer = ap (λ (r : Refusal). refused r 0) (one-refusal x Kind e); memory = refl }
+      by true false e = record { answer = ap (λ (r : Refusal). f′ (refused r 0)) (one-refusal x Box e); memory = refl }
+      by false h e = record { answer = ap (λ (r : Refusal). f′ (refused r 0)) (one-refusal x Kind e); memory = refl }
+
+  pub start-refused : {M : Type 0} (x : Refusal) → b ≡ NotStarted x → (w : Written (Said ℕ) M) (out : M) → Gives (cond (isKind kind) (cond (isGood bbox) w (kept (refused Box 0) out)) (kept (refused Kind 0) out)) (refused x 0) out
+  start-refused x g w out = start-turned (λ a. a) x g w out
 
   pub start-fresh : (s : GeomEncoder) → b ≡ Fresh s → (isKind kind ≡ true) × ((isGood bbox ≡ true) × (s ≡ fresh kind bbox))
   start-fresh s g = by (isKind kind) (isGood bbox) refl refl (sym (ap saidStarted g) ∙ f)
@@ -69,11 +73,11 @@ module _ (kind : ℕ) (bbox : BBox) (b : Started) (f : saidStarted b ≡ started
       by true false i j e = absurd (never-both Box e)
       by false h i j e = absurd (never-both Kind e)
 
--- ---- the returns of `encode`
+-- ---- the returns of `finish`
 module _ (kind : ℕ) (bbox : BBox) (points : List ℤ) (ends out : List ℕ) (v : Bool) (e : v ≡ isJob points ends) where
-  pub job-none : not v ≡ true → Gives (encodedJob kind bbox points ends out) (refused Job 0) out
-  unfolding encodedJob
-  job-none h = rw (no-of v (isJob points ends) e h) (gives-kept (refused Job 0) out)
+  pub job-none : not v ≡ true → Gives (finishedJob kind bbox points ends out) (endOf points (Off Job 0)) out
+  unfolding finishedJob
+  job-none h = rw (no-of v (isJob points ends) e h) (gives-kept (off (refused Job 0)) out)
 
   module _ (h : not v ≡ false) where
     job-ends : endsAt 0 ends (length points / 2) ≡ true
@@ -85,22 +89,40 @@ module _ (kind : ℕ) (bbox : BBox) (points : List ℤ) (ends out : List ℕ) (v
           let (i, (j, q)) = start-fresh kind bbox b f s g in
           (job-ends, rw q (fresh-sound kind bbox (length out) i j))
 
-      pub job-start : (x : Refusal) → b ≡ NotStarted x → Gives (encodedJob kind bbox points ends out) (refused x 0) out
-      unfolding encodedJob
-      job-start x g = rw (yes-of v (isJob points ends) e h) (start-refused kind bbox b f x g (run (jobCalls (pointsOf points) 0 ends) (fresh kind bbox) out) out)
+      pub job-start : (x : Refusal) → b ≡ NotStarted x → Gives (finishedJob kind bbox points ends out) (endOf points (Off x 0)) out
+      unfolding finishedJob
+      job-start x g = rw (yes-of v (isJob points ends) e h) (start-turned kind bbox b f off x g (goAll points ends (fresh kind bbox) out) out)
 
-      module _ (s : GeomEncoder) (g : b ≡ Fresh s) (r : Course) (o : List ℕ) (k : Gives (go (jobCalls (pointsOf points) 0 ends) 0 s out) (outcomeOf (length points / 2) r) o) where
-        ran : Gives (encodedJob kind bbox points ends out) (outcome (outcomeOf (length points / 2) r)) o
-        unfolding encodedJob
-        ran =
-            let (i, (j, q)) = start-fresh kind bbox b f s g in
-            rw (yes-of v (isJob points ends) e h, i, j) (record {
-              answer = ap outcome (k .answer ∙ ap (λ (x : GeomEncoder). go (jobCalls (pointsOf points) 0 ends) 0 x out .answer) q);
-              memory = k .memory ∙ ap (λ (x : GeomEncoder). go (jobCalls (pointsOf points) 0 ends) 0 x out .memory) q;
-            })
+      pub job-ran : (s : GeomEncoder) → b ≡ Fresh s → (r : Course) (o : List ℕ) → Gives (goAll points ends s out) (endOf points r) o → Gives (finishedJob kind bbox points ends out) (endOf points r) o
+      unfolding finishedJob
+      job-ran s g r o k =
+          let (i, (j, q)) = start-fresh kind bbox b f s g in
+          rw (yes-of v (isJob points ends) e h, i, j) (subst (λ (x : GeomEncoder). Gives (goAll points ends x out) (endOf points r) o) q k)
 
-        pub job-words : (t : GeomEncoder) → r ≡ On t → Gives (encodedJob kind bbox points ends out) (accepted (t .used)) o
-        job-words t i = subst (λ (x : Course). Gives (encodedJob kind bbox points ends out) (outcome (outcomeOf (length points / 2) x)) o) i ran
+-- ---- the words of a job are those of the state behind it
+module _ (kind : ℕ) (bbox : BBox) (points : List ℤ) (ends out : List ℕ) where
+  pub encoded-finished : encodedJob kind bbox points ends out ≡ record { answer = outcome (finishedJob kind bbox points ends out .answer); memory = finishedJob kind bbox points ends out .memory }
+  unfolding encodedJob finishedJob
+  encoded-finished = by (isJob points ends) (isKind kind) (isGood bbox)
+    where
+      words : Written Outcome (List ℕ) → Written (Said ℕ) (List ℕ)
+      words w = record { answer = outcome (w .answer); memory = w .memory }
 
-        pub job-stop : (x : Refusal) (n : ℕ) → r ≡ Off x n → Gives (encodedJob kind bbox points ends out) (refused x n) o
-        job-stop x n i = subst (λ (y : Course). Gives (encodedJob kind bbox points ends out) (outcome (outcomeOf (length points / 2) y)) o) i ran
+      by : (a b c : Bool) →
+          cond a (cond b (cond c (run (jobCalls (pointsOf points) 0 ends) (fresh kind bbox) out) (kept (refused Box 0) out)) (kept (refused Kind 0) out)) (kept (refused Job 0) out) ≡
+          words (cond a (cond b (cond c (goAll points ends (fresh kind bbox) out) (kept (off (refused Box 0)) out)) (kept (off (refused Kind 0)) out)) (kept (off (refused Job 0)) out))
+      by true true true = refl
+      by true true false = refl
+      by true false c = refl
+      by false b c = refl
+
+  -- the returns of `encode`
+  module _ (r : Course) (o : List ℕ) (g : Gives (finishedJob kind bbox points ends out) (endOf points r) o) where
+    told : Gives (encodedJob kind bbox points ends out) (outcome (endOf points r)) o
+    told = rw encoded-finished (record { answer = ap outcome (g .answer); memory = g .memory })
+
+    pub job-words : (t : GeomEncoder) → r ≡ On t → Gives (encodedJob kind bbox points ends out) (accepted (t .used)) o
+    job-words t i = subst (λ (x : Course). Gives (encodedJob kind bbox points ends out) (outcome (endOf points x)) o) i told
+
+    pub job-stop : (x : Refusal) (n : ℕ) → r ≡ Off x n → Gives (encodedJob kind bbox points ends out) (refused x n) o
+    job-stop x n i = subst (λ (y : Course). Gives (encodedJob kind bbox points ends out) (outcome (endOf points y)) o) i told

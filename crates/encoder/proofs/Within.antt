@@ -18,7 +18,8 @@ use Rattle.clip.specs.Domain.{isCoord, isGood}
 use Rattle.words.specs.Geometries.{isKind, room}
 use Rattle.encoder.specs.declared.GeomEncoder.{GeomEncoder}
 use Rattle.encoder.specs.States.{fresh, valid, Sound}
-use Rattle.encoder.specs.Answers.{Counted, done, turned, fitting}
+use Rattle.encoder.specs.Answers.{Counted, done, turned, fitting, roomy}
+use Rattle.encoder.specs.Tallies.{countsFit}
 use Rattle.encoder.specs.Adding.{drawn, added}
 use Rattle.encoder.specs.Completing.{isEmpty, closed, completed}
 use Rattle.encoder.specs.Calls.{Call, add, complete, call}
@@ -41,13 +42,20 @@ fitting-done s out w = by (leb (w .answer .used) (room (length out)))
     by true e = refl
     by false e = absurd (omega arith)
 
+roomy-done : (s : GeomEncoder) (out : List ℕ) (w : Written GeomEncoder (List ℕ)) → roomy s out w .answer .number ≡ 0 → IsDone (roomy s out w)
+roomy-done s out w = by (countsFit (w .answer .tally))
+  where
+    by : (b : Bool) → cond b (fitting s out w) (kept (turned Room s) out) .answer .number ≡ 0 → IsDone (cond b (fitting s out w) (kept (turned Room s) out))
+    by true e = fitting-done s out w e
+    by false e = absurd (omega arith)
+
 added-done : (s : GeomEncoder) (p : Pt) (out : List ℕ) → added s p out .answer .number ≡ 0 → IsDone (added s p out)
 unfolding added
 added-done s p out = by (valid s (length out)) (isCoord p)
   where
-    by : (b c : Bool) → cond b (cond c (fitting s out (drawn s p out)) (kept (turned Coord s) out)) (kept (turned State s) out) .answer .number ≡ 0
-        → IsDone (cond b (cond c (fitting s out (drawn s p out)) (kept (turned Coord s) out)) (kept (turned State s) out))
-    by true true e = fitting-done s out (drawn s p out) e
+    by : (b c : Bool) → cond b (cond c (roomy s out (drawn s p out)) (kept (turned Coord s) out)) (kept (turned State s) out) .answer .number ≡ 0
+        → IsDone (cond b (cond c (roomy s out (drawn s p out)) (kept (turned Coord s) out)) (kept (turned State s) out))
+    by true true e = roomy-done s out (drawn s p out) e
     by true false e = absurd (omega arith)
     by false c e = absurd (omega arith)
 

@@ -18,9 +18,10 @@ use Rattle.encoder.specs.declared.points.MaybePt.the-variants.{Nowhere, 
 use Rattle.encoder.specs.Boundary.{movedEnds, namedBy}
 use Rattle.encoder.specs.declared.GeomEncoder.{GeomEncoder}
 use Rattle.encoder.specs.States.{valid}
-use Rattle.encoder.specs.Answers.{Counted, turned, fitting, none}
+use Rattle.encoder.specs.Answers.{Counted, turned, roomy, none}
 use Rattle.encoder.specs.declared.Edges.{Edges}
 use Rattle.encoder.specs.Emitting.{emission}
+use Rattle.encoder.specs.Tallies.{tookPoints}
 
 -- ---- "clip the raw segment. Emit the first end if it moved, then the second if it moved."
 abbrev pub cutFrom : BBox → MaybePt → Pt → List Pt
@@ -51,6 +52,7 @@ emitted s (p ∷ ps) out = emitted (emission s p .next) ps (lay (emission s p .a
 -- the raw end of this part, for lines and polygons
 abbrev pub ended : GeomEncoder → Pt → GeomEncoder
 ended s p = record {
+  tally = s .tally;
   kind = s .kind;
   bbox = s .bbox;
   «xy_end» = cond (eqb (s .kind) 1) (s .«xy_end») (At p);
@@ -61,12 +63,28 @@ ended s p = record {
   used = s .used;
 }
 
+-- document 02, request (ix): n raw points and m boundary points are counted, whatever becomes of them
+abbrev pub counted : ℕ → ℕ → GeomEncoder → GeomEncoder
+counted n m s = record {
+  tally = tookPoints n m (s .tally);
+  kind = s .kind;
+  bbox = s .bbox;
+  «xy_end» = s .«xy_end»;
+  pt0 = s .pt0;
+  pt1 = s .pt1;
+  «cmd_offset» = s .«cmd_offset»;
+  count = s .count;
+  used = s .used;
+}
+
 abbrev pub drawn : GeomEncoder → Pt → List ℕ → Written GeomEncoder (List ℕ)
-drawn s p out = record { answer = ended (emitted s (emissions s p) out .answer) p; memory = emitted s (emissions s p) out .memory }
+drawn s p out =
+    let w : Written GeomEncoder (List ℕ) = emitted (counted 1 (length (boundary s p)) s) (emissions s p) out in
+    record { answer = ended (w .answer) p; memory = w .memory }
 
 abbrev pub pointAt : ℤ → ℤ → Pt
 pointAt x y = record { x = x; y = y }
 
 -- ---- the call: STATE, COORD, ROOM
 unfoldable pub added : GeomEncoder → Pt → List ℕ → Written (Said Counted) (List ℕ)
-added s p out = cond (valid s (length out)) (cond (isCoord p) (fitting s out (drawn s p out)) (kept (turned Coord s) out)) (kept (turned State s) out)
+added s p out = cond (valid s (length out)) (cond (isCoord p) (roomy s out (drawn s p out)) (kept (turned Coord s) out)) (kept (turned State s) out)

@@ -21,6 +21,7 @@ use Rattle.encoder.specs.declared.Edges.{Edges}
 use Rattle.encoder.specs.declared.Drawn.{Drawn}
 use Rattle.encoder.specs.declared.Drawn.the-variants.{Done, Refused as NotDrawn}
 use Rattle.encoder.specs.States.{fresh}
+use Rattle.encoder.specs.Tallies.{countsFit}
 
 pub record Counted : Type 0 where
   pub count : ℕ
@@ -50,6 +51,10 @@ passed a e = cond (eqb (a .number) 0) e none
 -- ROOM, the last check: w is the result reckoned without a limit on room
 abbrev pub fitting : GeomEncoder → List ℕ → Written GeomEncoder (List ℕ) → Written (Said Counted) (List ℕ)
 fitting s out w = cond (leb (w .answer .used) (room (length out))) (record { answer = done (w .answer); memory = w .memory }) (kept (turned Room s) out)
+
+-- and of a point: its counts too (completing changes none)
+abbrev pub roomy : GeomEncoder → List ℕ → Written GeomEncoder (List ℕ) → Written (Said Counted) (List ℕ)
+roomy s out w = cond (countsFit (w .answer .tally)) (fitting s out w) (kept (turned Room s) out)
 
 -- ---- a fresh encoder: KIND, BOX
 abbrev pub saidStarted : Started → Said (List GeomEncoder)

@@ -23,9 +23,9 @@ counting s = countWord (s .kind) (s .count)
 abbrev pub closing : GeomEncoder → List ℕ
 closing s = closeWord (s .kind) (s .count)
 
--- "Count, raw end and the point before last are cleared; the last point stays."
+-- "Count, raw end and the point before last are cleared; the last point stays." The counts of request (ix) stay too.
 abbrev pub cleared : GeomEncoder → ℕ → ℕ → GeomEncoder
-cleared s place used = record { kind = s .kind; bbox = s .bbox; «xy_end» = Nowhere; pt0 = Nowhere; pt1 = s .pt1; «cmd_offset» = place; count = 0; used = used }
+cleared s place used = record { tally = s .tally; kind = s .kind; bbox = s .bbox; «xy_end» = Nowhere; pt0 = Nowhere; pt1 = s .pt1; «cmd_offset» = place; count = 0; used = used }
 
 -- points "reset nothing"
 unfoldable pub finished : GeomEncoder → GeomEncoder

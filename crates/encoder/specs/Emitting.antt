@@ -11,6 +11,7 @@ use Rattle.words.specs.Params.{param}
 use Rattle.encoder.specs.declared.points.MaybePt.the-variants.{At}
 use Rattle.encoder.specs.Points.{clamped, isLast, outBefore, lastOf}
 use Rattle.encoder.specs.Pushed.{command}
+use Rattle.encoder.specs.Tallies.{skippedOne, outOne}
 use Rattle.encoder.specs.declared.GeomEncoder.{GeomEncoder}
 
 -- ---- taking out: "Polygons with count ≥ 2", the last point "strictly between the one before and the new one on one horizontal or vertical"
@@ -19,6 +20,7 @@ takenOut s p = outBefore (s .kind) (s .count) (s .pt0) (s .pt1) p
 
 abbrev pub popped : GeomEncoder → GeomEncoder
 popped s = record {
+  tally = outOne (s .tally);
   kind = s .kind;
   bbox = s .bbox;
   «xy_end» = s .«xy_end»;
@@ -45,6 +47,7 @@ placeOf (w ∷ ws) s = s .used
 
 abbrev pub advanced : GeomEncoder → Pt → ℕ → ℕ → GeomEncoder
 advanced s p place used = record {
+  tally = s .tally;
   kind = s .kind;
   bbox = s .bbox;
   «xy_end» = s .«xy_end»;
@@ -60,13 +63,14 @@ pushed cmd s p =
     let run : List ℕ = cmd ++ steps (lastOf (s .pt1)) p in
     record { next = advanced s p (placeOf cmd s) (s .used + length run); at = s .used; run = run }
 
--- ---- "a count of 0 becomes 1, nothing else happens"
+-- ---- "a count of 0 becomes 1, nothing else happens", but that it is counted
 abbrev pub begun : ℕ → ℕ
 begun count = cond (eqb count 0) 1 count
 
 abbrev pub skipped : GeomEncoder → Emission
 skipped s = record {
   next = record {
+    tally = skippedOne (s .tally);
     kind = s .kind;
     bbox = s .bbox;
     «xy_end» = s .«xy_end»;

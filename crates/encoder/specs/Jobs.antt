@@ -85,6 +85,17 @@ encodedJob kind bbox points ends out =
     (kept (refused Kind 0) out))
     (kept (refused Job 0) out)
 
+-- the same with the state behind the last call, its counts among it (document 02, request (ix)); `encoded-finished` of proofs/Whole
+unfoldable pub finishedJob : ℕ → BBox → List ℤ → List ℕ → List ℕ → Written Outcome (List ℕ)
+finishedJob kind bbox points ends out =
+    cond (isJob points ends)
+    (cond (isKind kind)
+    (cond (isGood bbox)
+    (go (jobCalls (pointsOf points) 0 ends) 0 (fresh kind bbox) out)
+    (kept (off (refused Box 0)) out))
+    (kept (off (refused Kind 0)) out))
+    (kept (off (refused Job 0)) out)
+
 -- document 01's number and values for each answer: the words used, or the refusal with the count of accepted points
 abbrev pub saidEncoded : Encoded → Said ℕ
 saidEncoded (Words n) = accepted n

@@ -1,3 +1,4 @@
+pub mod Tallies
 pub mod States
 pub mod Answers
 pub mod Emitting

@@ -15,16 +15,18 @@ use Rattle.encoder.specs.declared.points.MaybePt.the-variants.{At}
 use Rattle.encoder.specs.declared.GeomEncoder.{GeomEncoder}
 use Rattle.encoder.specs.Points.{clamped, samePt, between, lastOf}
 use Rattle.encoder.specs.Emitting.{steps}
+use Rattle.encoder.specs.Tallies.{maxTally}
 use Rattle.encoder.specs.Boundary.{movedEnds}
 use Rattle.encoder.specs.declared.pen.Pen.{Pen}
 use Rattle.encoder.specs.declared.boundary.Ends.{Ends}
 
 abbrev pub penOf : GeomEncoder → Pen
-penOf s = record { raw = lastOf (s .«xy_end»); pt0 = lastOf (s .pt0); pt1 = lastOf (s .pt1); count = s .count; used = s .used }
+penOf s = record { raw = lastOf (s .«xy_end»); pt0 = lastOf (s .pt0); pt1 = lastOf (s .pt1); count = s .count; used = s .used; skipped = s .tally .skipped; «taken_out» = s .tally .«taken_out» }
 
 abbrev pub stateOf : GeomEncoder → Pen → GeomEncoder
 stateOf s pen =
     record {
+      tally = record { taken = s .tally .taken; boundary = s .tally .boundary; skipped = pen .skipped; «taken_out» = pen .«taken_out» };
       kind = s .kind;
       bbox = s .bbox;
       «xy_end» = At (pen .raw);
@@ -36,7 +38,7 @@ stateOf s pen =
     }
 
 abbrev pub withRaw : Pen → Pt → Pen
-withRaw pen p = record { raw = p; pt0 = pen .pt0; pt1 = pen .pt1; count = pen .count; used = pen .used }
+withRaw pen p = record { raw = p; pt0 = pen .pt0; pt1 = pen .pt1; count = pen .count; used = pen .used; skipped = pen .skipped; «taken_out» = pen .«taken_out» }
 
 -- ---- one emission: the pen after it, and a run of words laid at a place
 pub record Mark : Type 0 where
@@ -44,21 +46,24 @@ pub record Mark : Type 0 where
   pub at : ℕ
   pub run : List ℕ
 
--- the point is the last one again
+-- the point is the last one again: it is counted, and nothing else changes
+abbrev pub again : Pen → Pen
+again pen = record { raw = pen .raw; pt0 = pen .pt0; pt1 = pen .pt1; count = pen .count; used = pen .used; skipped = pen .skipped + 1; «taken_out» = pen .«taken_out» }
+
 abbrev pub still : Pen → Mark
-still pen = record { pen = pen; at = pen .used; run = [] }
+still pen = record { pen = again pen; at = pen .used; run = [] }
 
 -- it follows the last one
 abbrev pub onward : Pen → Pt → Mark
 onward pen q = record {
-  pen = record { raw = pen .raw; pt0 = pen .pt1; pt1 = q; count = pen .count + 1; used = pen .used + 2 };
+  pen = record { raw = pen .raw; pt0 = pen .pt1; pt1 = q; count = pen .count + 1; used = pen .used + 2; skipped = pen .skipped; «taken_out» = pen .«taken_out» };
   at = pen .used;
   run = steps (pen .pt1) q;
 }
 
 -- the last one taken out, if it is one of a ring and strictly between its neighbours
 abbrev pub taken : Pen → Pen
-taken pen = record { raw = pen .raw; pt0 = pen .pt0; pt1 = pen .pt0; count = pen .count - 1; used = pen .used - 2 }
+taken pen = record { raw = pen .raw; pt0 = pen .pt0; pt1 = pen .pt0; count = pen .count - 1; used = pen .used - 2; skipped = pen .skipped; «taken_out» = pen .«taken_out» + 1 }
 
 abbrev pub beforePush : Bool → Pen → Pt → Pen
 beforePush ring pen q = cond (ring && between (pen .pt0) (pen .pt1) q) (taken pen) pen
@@ -107,6 +112,7 @@ pub record Able (more : ℕ) (pen : Pen) (n : ℕ) : Type 0 where
   pub few : pen .used + more ≤ maxWords
   pub two : 2 ≤ pen .count
   pub counted : pen .count ≤ pen .used / 2 + 1
+  pub lost : pen .skipped + pen .«taken_out» + more ≤ maxTally + 6
   pub at0 : Coord (pen .pt0)
   pub at1 : Coord (pen .pt1)
 

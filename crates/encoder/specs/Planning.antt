@@ -10,6 +10,7 @@ use Rattle.encoder.specs.declared.points.MaybePt.the-variants.{Nowhere, 
 use Rattle.encoder.specs.Points.{inLimit}
 use Rattle.encoder.specs.declared.GeomEncoder.{GeomEncoder}
 use Rattle.encoder.specs.Emitting.{Emission, emission}
+use Rattle.encoder.specs.Tallies.{maxTally}
 
 -- a point that may be there, emitted
 abbrev pub emissionIf : GeomEncoder → MaybePt → Emission
@@ -19,6 +20,11 @@ emissionIf s (At p) = emission s p
 -- the words used before the third of a call's emissions are at most these
 abbrev pub planLimit : ℕ
 planLimit = maxWords + 6
+
+-- so few points are lost that those of n emissions more can be counted
+pub record Few (n : ℕ) (s : GeomEncoder) : Type 0 where
+  pub skips : s .tally .skipped + n ≤ maxTally + 3
+  pub outs : s .tally .«taken_out» + n ≤ maxTally + 3
 
 -- a state that one more emission can be planned from, at most n words used
 pub record Ready (n : ℕ) (s : GeomEncoder) : Type 0 where

@@ -9,16 +9,19 @@ use Rattle.encoder.specs.declared.points.MaybePt.{MaybePt}
 use Rattle.encoder.specs.declared.points.MaybePt.the-variants.{Nowhere, At}
 use Rattle.encoder.specs.Points.{inLimit, inLimits}
 use Rattle.encoder.specs.Figures.{figuresFit}
+use Rattle.encoder.specs.Tallies.{untouched, balanced}
 use Rattle.encoder.specs.declared.GeomEncoder.{GeomEncoder}
 
 abbrev pub fresh : ℕ → BBox → GeomEncoder
-fresh kind bbox = record { kind = kind; bbox = bbox; «xy_end» = Nowhere; pt0 = Nowhere; pt1 = Nowhere; «cmd_offset» = 0; count = 0; used = 0 }
+fresh kind bbox = record { tally = untouched; kind = kind; bbox = bbox; «xy_end» = Nowhere; pt0 = Nowhere; pt1 = Nowhere; «cmd_offset» = 0; count = 0; used = 0 }
 
 -- STATE is refused exactly where this is false: "used words exceed the room; count exceeds used / 2 + 1 (rounded down); count is not zero and the last
 -- command's place is not below used;
--- or its kind is not 1, 2 or 3, or its box or a stored point would be refused as BOX or COORD"
+-- or its kind is not 1, 2 or 3, or its box or a stored point would be refused as BOX or COORD"; and document 02 (ix): more points are lost than were given
 unfoldable pub valid : GeomEncoder → ℕ → Bool
-valid s length = figuresFit (s .used) (s .count) (s .«cmd_offset») length && isKind (s .kind) && isGood (s .bbox) && inLimits (s .«xy_end») (s .pt0) (s .pt1)
+valid s length =
+    figuresFit (s .used) (s .count) (s .«cmd_offset») length && isKind (s .kind) && isGood (s .bbox) && inLimits (s .«xy_end») (s .pt0) (s .pt1) &&
+    balanced (s .tally)
 
 -- the rules of STATE, each by itself
 pub record Valid (s : GeomEncoder) (n : ℕ) : Type 0 where
@@ -30,6 +33,7 @@ pub record Valid (s : GeomEncoder) (n : ℕ) : Type 0 where
   pub end : inLimit (s .«xy_end») ≡ true
   pub at0 : inLimit (s .pt0) ≡ true
   pub at1 : inLimit (s .pt1) ≡ true
+  pub balanced : s .tally .skipped + s .tally .«taken_out» ≤ s .tally .taken + s .tally .boundary
 
 -- and the rule that is missing among them: what accepted calls keep of a fresh state
 abbrev pub isThere : MaybePt → Bool

@@ -1,24 +1,29 @@
 // A state in plain numbers, and the draft after one emission, of any state (document 01, "Adding a point"): made of the steps of `pen`, but here a
 // command may be due, and a point may be missing.
 ghost use mathlib.Core.Path.{_≡_};
+ghost use mathlib.Core.Bool.{true};
 ghost use Prim.Native.Nat.{_+_, _≤_};
 ghost use Rattle.encoder.specs.Adding.{ended};
-ghost use Rattle.encoder.specs.Emitting.{skipped, emittedAt};
-ghost use Rattle.encoder.specs.Planning.{planLimit, Ready};
+ghost use Rattle.encoder.specs.Emitting.{begun, skipped, emittedAt};
+ghost use Rattle.encoder.specs.Planning.{planLimit, Ready, Few};
 ghost use Rattle.encoder.specs.Points.{isLast};
 ghost use Rattle.encoder.specs.Boundary.{maybe};
-ghost use Rattle.encoder.specs.Drafts.{draftOf, stateIn, withPen, ringing, pushedTo, pushedBy};
+ghost use Rattle.encoder.specs.Drafts.{draftOf, stateIn, withPen, ringing, pushedTo, pushedBy, oneIf, takenBy};
+ghost use Rattle.encoder.specs.Tallies.{maxTally, countsFit};
 use crate::GeomEncoder;
+use crate::boundary::Ends;
 use crate::commands::MaybeWord;
 use crate::commands::push_command;
 use crate::pen::Pen;
 use crate::pen::advance;
 use crate::pen::before_push;
+use crate::pen::pass_point;
 use crate::pen::set_raw;
 use crate::points::MaybePt;
 use crate::points::is_missing;
 use crate::points::is_same;
 use crate::points::last_of;
+use crate::tally::Tally;
 use clip::BBox;
 use clip::Pt;
 use words::geometry::Geometry;
@@ -32,6 +37,8 @@ pub(crate) struct Draft {
     pub has0: bool, // whether there is a point before the last
     pub has1: bool, // whether there is a last point
     pub place: usize,
+    pub taken: usize,
+    pub boundary: usize,
 }
 
 // ---- states
@@ -49,6 +56,11 @@ pub(crate) fn draft_of(s: GeomEncoder) -> Draft
     let no_before = is_missing(pt0);
     let no_last = is_missing(pt1);
     let count = s.count as usize;
+    let tally = s.tally;
+    let skipped = tally.skipped as usize;
+    let taken_out = tally.taken_out as usize;
+    let taken = tally.taken as usize;
+    let boundary = tally.boundary as usize;
     Draft {
         kind: s.kind,
         bbox: bbox,
@@ -58,11 +70,15 @@ pub(crate) fn draft_of(s: GeomEncoder) -> Draft
             pt1: last,
             count: count,
             used: s.used,
+            skipped: skipped,
+            taken_out: taken_out,
         },
         joins: !no_raw,
         has0: !no_before,
         has1: !no_last,
         place: s.cmd_offset,
+        taken: taken,
+        boundary: boundary,
     }
 }
 
@@ -77,6 +93,7 @@ pub(crate) fn point_if(there: bool, p: Pt) -> MaybePt
 
 pub(crate) fn state_of(d: Draft) -> GeomEncoder
     requires { ⌜ d .pen .count ≤ planLimit + 4 ⌝ }
+    requires { ⌜ countsFit (stateIn d .tally) ≡ true ⌝ }
     ensures { λ r. ⌜ r ≡ stateIn d ⌝ }
 {
     let bbox = d.bbox;
@@ -85,6 +102,10 @@ pub(crate) fn state_of(d: Draft) -> GeomEncoder
     let before = point_if(d.has0, pen.pt0);
     let last = point_if(d.has1, pen.pt1);
     let count = pen.count as u32;
+    let taken = d.taken as u32;
+    let boundary = d.boundary as u32;
+    let skipped = pen.skipped as u32;
+    let taken_out = pen.taken_out as u32;
     GeomEncoder {
         kind: d.kind,
         bbox: bbox,
@@ -94,6 +115,12 @@ pub(crate) fn state_of(d: Draft) -> GeomEncoder
         cmd_offset: d.place,
         count: count,
         used: pen.used,
+        tally: Tally {
+            taken: taken,
+            boundary: boundary,
+            skipped: skipped,
+            taken_out: taken_out,
+        },
     }
 }
 
@@ -109,6 +136,41 @@ fn with_pen(d: Draft, pen: Pen) -> Draft
         has0: d.has0,
         has1: d.has1,
         place: d.place,
+        taken: d.taken,
+        boundary: d.boundary,
+    }
+}
+
+// ---- a point taken
+fn one_if(b: bool) -> usize
+    ensures { λ r. ⌜ r ≡ oneIf b ⌝ }
+{
+    if b {
+        return 1;
+    }
+    0
+}
+
+// One more point, and the boundary points that it brings.
+pub(crate) fn take_point(d: Draft, ends: Ends) -> Draft
+    requires { ⌜ d .taken ≤ maxTally ⌝ }
+    requires { ⌜ d .boundary ≤ maxTally ⌝ }
+    ensures { λ r. ⌜ r ≡ takenBy d ends ⌝ }
+{
+    let bbox = d.bbox;
+    let pen = d.pen;
+    let first = one_if(ends.moved0);
+    let second = one_if(ends.moved1);
+    Draft {
+        kind: d.kind,
+        bbox: bbox,
+        pen: pen,
+        joins: d.joins,
+        has0: d.has0,
+        has1: d.has1,
+        place: d.place,
+        taken: d.taken + 1,
+        boundary: d.boundary + (first + second),
     }
 }
 
@@ -123,16 +185,23 @@ pub(crate) fn is_again(d: Draft, q: Pt) -> bool
     d.has1 & same
 }
 
-// A point equal to the last one: a count of 0 becomes 1, nothing else.
+fn begin(count: usize) -> usize
+    ensures { λ r. ⌜ r ≡ begun count ⌝ }
+{
+    if count == 0 {
+        return 1;
+    }
+    count
+}
+
+// A point equal to the last one is counted; a count of 0 becomes 1, nothing else.
 fn skip_point(d: Draft) -> Draft
+    requires { ⌜ Few 1 (stateIn d) ⌝ }
     ensures { λ r. ⌜ stateIn r ≡ skipped (stateIn d) .next ⌝ }
 {
-    let mut pen = d.pen;
-    if pen.count == 0 {
-        pen.count = 1;
-        return with_pen(d, pen);
-    }
-    d
+    let mut pen = pass_point(d.pen);
+    pen.count = begin(pen.count);
+    with_pen(d, pen)
 }
 
 // Whether the last point may be taken out.
@@ -159,6 +228,8 @@ fn push_to(d: Draft, base: Pen, q: Pt, place: usize) -> Draft
         has0: d.has1,
         has1: true,
         place: place,
+        taken: d.taken,
+        boundary: d.boundary,
     }
 }
 
@@ -182,6 +253,7 @@ fn push_point(word: MaybeWord, d: Draft, base: Pen, q: Pt) -> Draft
 // The draft after a point of the box is emitted.
 pub(crate) fn emit_point(d: Draft, q: Pt) -> Draft
     requires { ⌜ Ready planLimit (stateIn d) ⌝ }
+    requires { ⌜ Few 1 (stateIn d) ⌝ }
     ensures { λ r. ⌜ stateIn r ≡ emittedAt (stateIn d) q .next ⌝ }
 {
     if is_again(d, q) {
@@ -211,5 +283,7 @@ pub(crate) fn set_end(d: Draft, p: Pt) -> Draft
         has0: d.has0,
         has1: d.has1,
         place: d.place,
+        taken: d.taken,
+        boundary: d.boundary,
     }
 }

@@ -10,7 +10,7 @@ ghost use Rattle.promise.specs.Answers.{Gives};
 ghost use Rattle.clip.specs.Domain.{isCoord};
 ghost use Rattle.words.specs.Geometries.{maxWords};
 ghost use Rattle.encoder.specs.States.{valid};
-ghost use Rattle.encoder.specs.Answers.{saidStarted, started, saidDrawn, fitting, none, edgesOf, passed};
+ghost use Rattle.encoder.specs.Answers.{saidStarted, started, saidDrawn, roomy, none, edgesOf, passed};
 ghost use Rattle.encoder.specs.Boundary.{namedBy};
 ghost use Rattle.encoder.specs.Adding.{drawn, pointAt, added, edges};
 ghost use Rattle.encoder.specs.Completing.{cleared, finished, completed};
@@ -21,11 +21,14 @@ use crate::commands::write_end;
 use crate::draft::draft_of;
 use crate::draft::set_end;
 use crate::draft::state_of;
+use crate::draft::take_point;
 use crate::plan::plan_point;
 use crate::plan::write_plan;
 use crate::points::MaybePt;
 use crate::points::are_in_limit;
 use crate::points::make_point;
+use crate::tally::Tally;
+use crate::tally::are_counts;
 use clip::BBox;
 use clip::ClippedSeg;
 use clip::Edge;
@@ -40,10 +43,12 @@ mod pen;
 mod plan;
 pub mod points;
 mod stretch;
+pub mod tally;
 pub mod whole_job;
 
 // The state between calls; a carried one may be bad.
 pub struct GeomEncoder {
+    pub tally: Tally, // what became of the points
     pub kind: u32,
     pub bbox: BBox,
     pub xy_end: MaybePt, // the last raw point of this part
@@ -83,8 +88,10 @@ pub fn is_valid(s: GeomEncoder, length: usize) -> bool
     let fits = figures_fit(s.used, s.count, s.cmd_offset, length);
     let kinds = kind.is_good();
     let boxes = BBox::is_good(bbox);
+    let tally = s.tally;
     let limits = are_in_limit(xy_end, pt0, pt1);
-    fits & kinds & boxes & limits
+    let balances = tally.is_balanced();
+    fits & kinds & boxes & limits & balances
 }
 
 // ---- completing
@@ -94,6 +101,7 @@ fn clear(s: GeomEncoder, place: usize, used: usize) -> GeomEncoder
 {
     let bbox = s.bbox;
     let pt1 = s.pt1;
+    let tally = s.tally;
     GeomEncoder {
         kind: s.kind,
         bbox: bbox,
@@ -103,6 +111,7 @@ fn clear(s: GeomEncoder, place: usize, used: usize) -> GeomEncoder
         cmd_offset: place,
         count: 0,
         used: used,
+        tally: tally,
     }
 }
 
@@ -149,21 +158,26 @@ fn no_edges() -> Edges
 fn draw(s: GeomEncoder, p: Pt, words: &mut [u32]) -> Drawn
     requires { ⌜ valid s (length (now words)) ≡ true ⌝ }
     requires { ⌜ isCoord p ≡ true ⌝ }
-    ensures answer { λ r. ⌜ Gives (fitting s (now (words .entry)) (drawn s p (now (words .entry)))) (saidDrawn r) (now (words .exit)) ⌝ }
-    ensures edges { λ r. ⌜ edgesOf r ≡ passed (fitting s (now (words .entry)) (drawn s p (now (words .entry))) .answer) (edges s p) ⌝ }
+    ensures answer { λ r. ⌜ Gives (roomy s (now (words .entry)) (drawn s p (now (words .entry)))) (saidDrawn r) (now (words .exit)) ⌝ }
+    ensures edges { λ r. ⌜ edgesOf r ≡ passed (roomy s (now (words .entry)) (drawn s p (now (words .entry))) .answer) (edges s p) ⌝ }
 {
     let d = draft_of(s);
     let bbox = d.bbox;
     let cut = add_boundary_points(d, p);
     let ends = ends_of(cut);
     let q = make_point(p, bbox);
-    let plan = plan_point(d, ends, q);
+    let t = take_point(d, ends);
+    let plan = plan_point(t, ends, q);
     let last = plan.last;
-    let room = Geometry::room(words.len());
-    if room < last.pen.used {
+    let pen = last.pen;
+    if !are_counts(last.taken, last.boundary, pen.skipped, pen.taken_out) {
         return Drawn::Refused(Refusal::Room, s);
     }
-    write_plan(d, plan, ends, q, words);
+    let room = Geometry::room(words.len());
+    if room < pen.used {
+        return Drawn::Refused(Refusal::Room, s);
+    }
+    write_plan(t, plan, ends, q, words);
     Drawn::Done(state_of(set_end(last, p)), named(cut))
 }
 
@@ -218,6 +232,7 @@ impl GeomEncoder {
             cmd_offset: 0,
             count: 0,
             used: 0,
+            tally: Tally::none(),
         })
     }
 

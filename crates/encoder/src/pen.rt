@@ -12,19 +12,22 @@ ghost use Rattle.words.specs.Params.{param};
 ghost use Rattle.encoder.specs.Points.{between};
 ghost use Rattle.encoder.specs.Emitting.{steps};
 ghost use Rattle.encoder.specs.Planning.{planLimit};
-ghost use Rattle.encoder.specs.Pens.{withRaw, taken, beforePush, onward, laid, marked, Fit, Able};
+ghost use Rattle.encoder.specs.Tallies.{maxTally};
+ghost use Rattle.encoder.specs.Pens.{withRaw, again, taken, beforePush, onward, laid, marked, Fit, Able};
 use crate::points::is_between;
 use crate::points::is_same;
 use clip::Pt;
 use words::param::ParamInt;
 
-// What an accepted point changes: the last raw point, the emitted one before the last, the last one, and the two figures.
+// What an accepted point changes: the last raw point, the emitted one before the last, the last one, the two figures, and the points that are lost.
 pub(crate) struct Pen {
     pub raw: Pt,
     pub pt0: Pt,
     pub pt1: Pt,
     pub count: usize,
     pub used: usize,
+    pub skipped: usize,
+    pub taken_out: usize,
 }
 
 // ---- writing
@@ -77,6 +80,7 @@ fn is_taken_out(ring: bool, a: Pt, m: Pt, b: Pt) -> bool
 fn pop_point(pen: Pen) -> Pen
     requires { ⌜ 2 ≤ pen .count ⌝ }
     requires { ⌜ 2 ≤ pen .used ⌝ }
+    requires { ⌜ pen .«taken_out» ≤ maxTally + 6 ⌝ }
     ensures { λ r. ⌜ r ≡ taken pen ⌝ }
 {
     let raw = pen.raw;
@@ -87,12 +91,15 @@ fn pop_point(pen: Pen) -> Pen
         pt1: pt0,
         count: pen.count - 1,
         used: pen.used - 2,
+        skipped: pen.skipped,
+        taken_out: pen.taken_out + 1,
     }
 }
 
 // The pen that q is pushed from.
 pub(crate) fn before_push(ring: bool, pen: Pen, q: Pt) -> Pen
     requires { ⌜ (ring ≡ true → (2 ≤ pen .count) × (2 ≤ pen .used)) ⌝ }
+    requires { ⌜ pen .«taken_out» ≤ maxTally + 6 ⌝ }
     ensures { λ r. ⌜ r ≡ beforePush ring pen q ⌝ }
 {
     let pt0 = pen.pt0;
@@ -117,6 +124,8 @@ pub(crate) fn advance(pen: Pen, q: Pt) -> Pen
         pt1: q,
         count: pen.count + 1,
         used: pen.used + 2,
+        skipped: pen.skipped,
+        taken_out: pen.taken_out,
     }
 }
 
@@ -131,6 +140,16 @@ fn push_point(pen: Pen, q: Pt, words: &mut [u32]) -> Pen
     advance(pen, q)
 }
 
+// A point equal to the last one is counted, and nothing else.
+pub(crate) fn pass_point(pen: Pen) -> Pen
+    requires { ⌜ pen .skipped ≤ maxTally + 6 ⌝ }
+    ensures { λ r. ⌜ r ≡ again pen ⌝ }
+{
+    let mut next = pen;
+    next.skipped = pen.skipped + 1;
+    next
+}
+
 // A point of the box.
 pub(crate) fn emit(ring: bool, pen: Pen, q: Pt, words: &mut [u32]) -> Pen
     requires { ⌜ Able 2 pen (length (now words)) ⌝ }
@@ -139,7 +158,7 @@ pub(crate) fn emit(ring: bool, pen: Pen, q: Pt, words: &mut [u32]) -> Pen
 {
     let pt1 = pen.pt1;
     if is_same(pt1, q) {
-        return pen;
+        return pass_point(pen);
     }
     let base = before_push(ring, pen, q);
     push_point(base, q, words)
@@ -156,5 +175,7 @@ pub(crate) fn set_raw(pen: Pen, p: Pt) -> Pen
         pt1: pt1,
         count: pen.count,
         used: pen.used,
+        skipped: pen.skipped,
+        taken_out: pen.taken_out,
     }
 }

@@ -6,7 +6,7 @@ ghost use lib.ListN.{length};
 ghost use Rattle.promise.specs.Laid.{lay};
 ghost use Rattle.words.specs.Geometries.{maxWords};
 ghost use Rattle.encoder.specs.Emitting.{emittedAt};
-ghost use Rattle.encoder.specs.Planning.{planLimit, Ready};
+ghost use Rattle.encoder.specs.Planning.{planLimit, Ready, Few};
 ghost use Rattle.encoder.specs.Pushed.{command};
 ghost use Rattle.encoder.specs.Drafts.{stateIn, emittedIf, Near, Planned, Writable, EndsFit, laidEnds, AllFit, laidAll};
 use crate::boundary::Ends;
@@ -30,6 +30,7 @@ pub(crate) struct Plan {
 // ---- planning
 fn emit_if(moved: bool, d: Draft, q: Pt) -> Draft
     requires { ⌜ Ready planLimit (stateIn d) ⌝ }
+    requires { ⌜ Few 1 (stateIn d) ⌝ }
     ensures { λ r. ⌜ stateIn r ≡ emittedIf moved (stateIn d) q .next ⌝ }
 {
     if !moved {
@@ -41,6 +42,7 @@ fn emit_if(moved: bool, d: Draft, q: Pt) -> Draft
 // The ends that moved, then q.
 pub(crate) fn plan_point(d: Draft, ends: Ends, q: Pt) -> Plan
     requires { ⌜ Ready maxWords (stateIn d) ⌝ }
+    requires { ⌜ Few 3 (stateIn d) ⌝ }
     requires { ⌜ Near ends q ⌝ }
     ensures { λ r. ⌜ Planned r d ends q ⌝ }
 {

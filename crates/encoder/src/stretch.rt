@@ -9,7 +9,8 @@ ghost use Rattle.promise.specs.Answers.{Gives};
 ghost use Rattle.clip.specs.Domain.{isCoord, isGood};
 ghost use Rattle.words.specs.Geometries.{maxWords};
 ghost use Rattle.encoder.specs.Boundary.{outside};
-ghost use Rattle.encoder.specs.Stretches.{isStart, Ongoing, run, lastPoint, stretched};
+ghost use Rattle.encoder.specs.Stretches.{isStart, Ongoing, emissionsBy, reckoned, spareOf, Counting, run, lastPoint, least, stretched};
+ghost use Rattle.encoder.specs.Tallies.{maxTally, countsFit};
 ghost use Rattle.encoder.specs.States.{Sound};
 ghost use Rattle.encoder.specs.Pens.{stateOf, markedIf, markedEnds, drawnBy, Able, Steady};
 use crate::GeomEncoder;
@@ -24,6 +25,7 @@ use crate::pen::Pen;
 use crate::pen::emit;
 use crate::pen::set_raw;
 use crate::points::make_point;
+use crate::tally::Tally;
 use clip::BBox;
 use clip::Pt;
 use clip::Seg;
@@ -98,12 +100,22 @@ fn is_start(d: Draft) -> bool
     (d.kind != Geometry::POINT) & (2 <= pen.count) & d.joins & d.has0 & d.has1
 }
 
-// The state that the pen has come to.
-fn state_with(s: GeomEncoder, pen: Pen) -> GeomEncoder
+// The state that the pen has come to with so many points more. Each emission is a vertex more, a point skipped or one taken out; those that are not
+// points are boundary points.
+fn state_with(s: GeomEncoder, start: Pen, pen: Pen, points: usize) -> GeomEncoder
     requires { ⌜ pen .count ≤ maxWords ⌝ }
-    ensures { λ r. ⌜ r ≡ stateOf s pen ⌝ }
+    requires { ⌜ start .count ≤ maxWords ⌝ }
+    requires { ⌜ countsFit (stateOf s start .tally) ≡ true ⌝ }
+    requires { ⌜ countsFit (reckoned s start pen points .tally) ≡ true ⌝ }
+    requires { ⌜ emissionsBy start + points ≤ emissionsBy pen ⌝ }
+    ensures { λ r. ⌜ r ≡ reckoned s start pen points ⌝ }
 {
     let bbox = s.bbox;
+    let tally = s.tally;
+    let taken = tally.taken as usize;
+    let boundary = tally.boundary as usize;
+    let before = start.count + start.skipped + start.taken_out;
+    let after = pen.count + pen.skipped + pen.taken_out;
     state_of(Draft {
         kind: s.kind,
         bbox: bbox,
@@ -112,6 +124,8 @@ fn state_with(s: GeomEncoder, pen: Pen) -> GeomEncoder
         has0: true,
         has1: true,
         place: s.cmd_offset,
+        taken: taken + points,
+        boundary: boundary + (after - before - points),
     })
 }
 
@@ -141,6 +155,7 @@ fn draw_all(
 ) -> Stretch
     requires { ⌜ end ≤ length (now points) / 2 ⌝ }
     requires { ⌜ Ongoing s start (length (now words)) ⌝ }
+    requires { ⌜ Counting (stateOf s start) (end - from) ⌝ }
     ensures { λ r. ⌜ Gives (run (end - from) (now (points .entry)) from (stateOf s start) (now (words .entry))) r (now (words .exit)) ⌝ }
 {
     let bbox = s.bbox;
@@ -157,7 +172,7 @@ fn draw_all(
         let next = is_outside(p, bbox);
         if !is_plain(pen.used, room, p, next) {
             return Stretch {
-                state: state_with(s, pen),
+                state: state_with(s, start, pen, i - from),
                 reached: i,
             };
         }
@@ -166,7 +181,7 @@ fn draw_all(
         i += 1;
     }
     Stretch {
-        state: state_with(s, pen),
+        state: state_with(s, start, pen, i - from),
         reached: i,
     }
 }
@@ -178,6 +193,30 @@ fn last_point(length: usize, to: usize) -> usize
         return to;
     }
     length / 2
+}
+
+// So many points can be taken before a count could be too large: each brings at most three emissions.
+fn spare(t: Tally) -> usize
+    ensures { λ r. ⌜ r ≡ spareOf t ⌝ }
+{
+    let given = t.taken as usize + t.boundary as usize;
+    if Tally::MAX < given {
+        return 0;
+    }
+    (Tally::MAX - given) / 3
+}
+
+// The end, or so many points from `from` on.
+fn within(from: usize, end: usize, most: usize) -> usize
+    ensures { λ r. ⌜ (r - from ≡ least (end - from) most) × (r ≤ end) ⌝ }
+{
+    if end <= from {
+        return end;
+    }
+    if end - from <= most {
+        return end;
+    }
+    from + most
 }
 
 // Adds the points from `from` on, up to the first that is not plain, or to `to`.
@@ -198,7 +237,8 @@ pub(crate) fn add_stretch(
             reached: from,
         };
     }
-    let end = last_point(points.len(), to);
+    let tally = s.tally;
+    let end = within(from, last_point(points.len(), to), spare(tally));
     let pen = d.pen;
     draw_all(s, pen, points, from, end, words)
 }

@@ -7,7 +7,7 @@ ghost use lib.ListN.{length};
 ghost use Rattle.promise.specs.Answers.{Gives};
 ghost use Rattle.encoder.specs.Calls.{partCalls};
 ghost use Rattle.encoder.specs.States.{Sound};
-ghost use Rattle.encoder.specs.Jobs.{pointsOf, isJob, endsAt, part, go, goAll, endOf, encodedJob, saidEncoded, outcomeOf};
+ghost use Rattle.encoder.specs.Jobs.{pointsOf, isJob, endsAt, part, go, goAll, endOf, encodedJob, finishedJob, saidEncoded, outcomeOf};
 use crate::Drawn;
 use crate::GeomEncoder;
 use crate::Started;
@@ -23,8 +23,8 @@ pub enum Encoded {
     Refused(Refusal, usize), // and the count of accepted points
 }
 
-// The calls go on, or one was refused after so many accepted points.
-enum Course {
+// The calls went on to a state, its counts among it, or one was refused after so many accepted points.
+pub enum Course {
     On(GeomEncoder),
     Off(Refusal, usize),
 }
@@ -104,17 +104,24 @@ fn add_parts(s: GeomEncoder, points: &[i32], ends: &[u32], words: &mut [u32]) ->
 }
 
 // JOB, KIND, BOX, then the calls; at the first refused one its number and the accepted points.
+pub fn finish(kind: u32, bbox: BBox, points: &[i32], ends: &[u32], words: &mut [u32]) -> Course
+    ensures { λ r. ⌜ Gives (finishedJob kind bbox (now (points .entry)) (now (ends .entry)) (now (words .entry))) (endOf (now (points .entry)) r) (now (words .exit)) ⌝ }
+{
+    if !is_job(points, ends) {
+        return Course::Off(Refusal::Job, 0);
+    }
+    match GeomEncoder::new(kind, bbox) {
+        Started::Refused(r) => Course::Off(r, 0),
+        Started::Fresh(s) => add_parts(s, points, ends, words),
+    }
+}
+
+// The words of the same job: how many, or the refusal.
 pub fn encode(kind: u32, bbox: BBox, points: &[i32], ends: &[u32], words: &mut [u32]) -> Encoded
     ensures { λ r. ⌜ Gives (encodedJob kind bbox (now (points .entry)) (now (ends .entry)) (now (words .entry))) (saidEncoded r) (now (words .exit)) ⌝ }
 {
-    if !is_job(points, ends) {
-        return Encoded::Refused(Refusal::Job, 0);
-    }
-    match GeomEncoder::new(kind, bbox) {
-        Started::Refused(r) => Encoded::Refused(r, 0),
-        Started::Fresh(s) => match add_parts(s, points, ends, words) {
-            Course::On(t) => Encoded::Words(t.used),
-            Course::Off(r, n) => Encoded::Refused(r, n),
-        },
+    match finish(kind, bbox, points, ends, words) {
+        Course::On(t) => Encoded::Words(t.used),
+        Course::Off(r, n) => Encoded::Refused(r, n),
     }
 }

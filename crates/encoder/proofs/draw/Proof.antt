@@ -1,6 +1,7 @@
 -- The plan is that of the point; ROOM, or everything that it says.
 use mathlib.Core.Path.{refl, _∙_}
-use Rattle.encoder.proofs.Plans.{edges-drafted, brought-asked, plan-asked, draw-room, write-asked, end-asked, draw-done}
+use Rattle.encoder.proofs.Plans.{edges-drafted, brought-asked, take-asked, plan-asked, draw-uncounted, draw-room, write-asked, end-asked, draw-done}
+use Rattle.encoder.proofs.Tallies.{Counts}
 use Rattle.encoder.proofs.Bounds.{brought-ends}
 use Rattle.encoder.proofs.Said.{passed-none, passed-on}
 use Rattle.refusal.specs.declared.Refusal.the-variants.{Room}
@@ -17,14 +18,19 @@ use Rattle.encoder.proofs.draft.draft_of.Reads as draft-of-reads
 use Rattle.encoder.proofs.plan.plan_point.Reads as plan-point-reads
 use Rattle.encoder.proofs.draft.set_end.Reads as set-end-reads
 use Rattle.encoder.proofs.draft.state_of.Reads as state-of-reads
+use Rattle.encoder.proofs.draft.take_point.Reads as take-point-reads
 use Rattle.encoder.proofs.plan.write_plan.Reads as write-plan-reads
 use Rattle.encoder.proofs.points.make_point.Reads as make-point-reads
 use Rattle.words.proofs.geometry.Geometry.room.Reads as room-reads
 
+-- a state's counts have 32 bits
+small : (s : tie.Start) → Counts (s .args .s .tally)
+small s = record { taken = search needs; bounds = search needs; skips = search needs; outs = search needs }
+
 abbrev at-draft : (c : tie.After-ends-of) → tie.After-draft-of
 at-draft c = c .before .before .before
 
-abbrev at-plan : (c : tie.After-struct-known) → tie.After-plan-point
+abbrev at-plan : (c : tie.After-are-counts) → tie.After-plan-point
 at-plan c = c .before .before .before
 
 -- the ends that the point brings
@@ -43,35 +49,58 @@ ends-of-requires c κs = search needs
 make-point-requires : tie.Need-make-point-requires
 make-point-requires c κs = search needs
 
+take-point-requires : tie.Need-take-point-requires
+take-point-requires c κs = let d = at-draft (c .before) in let s = d .before .before in take-asked (s .args .s) _ (s .pre .0) (s .args .p) (s .pre .1) (d .draft-of .result) (d .draft-of .ensures) (small s)
+
 plan-point-requires : tie.Need-plan-point-requires
 plan-point-requires c κs =
-    let n = c .before in
+    let q = c .before in
+    let n = q .before in
     let d = at-draft n in
     let s = d .before .before in
-    plan-asked (s .args .s) _ (s .pre .0) (s .args .p) (s .pre .1) (d .draft-of .result) (d .draft-of .ensures) (n .ends-of .result) (brought n) _ (c .make-point .ensures)
+    plan-asked (s .args .s) _ (s .pre .0) (s .args .p) (s .pre .1) (d .draft-of .result) (d .draft-of .ensures) (small s) (n .ends-of .result) (brought n) _ (q .make-point .ensures) (c .take-point .result) (c .take-point .ensures)
 
-room-requires : tie.Need-room-requires
-room-requires c κs = search needs
+are-counts-requires : tie.Need-are-counts-requires
+are-counts-requires c κs = search needs
 
 returns : tie.Need-returns
 returns c =
     let k = at-plan (c .before) in
-    let q = k .before in
+    let t = k .before in
+    let q = t .before in
     let n = q .before in
     let d = at-draft n in
     let s = d .before .before in
-    let g = draw-room (s .args .s) _ (s .pre .0) (s .args .p) (s .pre .1) (d .draft-of .result) (d .draft-of .ensures) (n .ends-of .result) (brought n) _ (q .make-point .ensures) (k .plan-point .result) (k .plan-point .ensures) (s .args .words .now) refl _ (c .before .before .room .ensures) (c .if1 .taken) in
+    let g = draw-uncounted (s .args .s) _ (s .pre .0) (s .args .p) (s .pre .1) (d .draft-of .result) (d .draft-of .ensures) (small s) (n .ends-of .result) (brought n) _ (q .make-point .ensures) (t .take-point .result) (t .take-point .ensures) (k .plan-point .result) (k .plan-point .ensures) (s .args .words .now) _ (c .before .are-counts .ensures) (c .if1 .taken) in
+    (g, passed-none _ _ Room (s .args .s) (g .answer))
+
+room-requires : tie.Need-room-requires
+room-requires c κs = search needs
+
+returns-2 : tie.Need-returns-2
+returns-2 c =
+    let e = c in
+    let a = e .before .before .before in
+    let k = at-plan (a .before) in
+    let t = k .before in
+    let q = t .before in
+    let n = q .before in
+    let d = at-draft n in
+    let s = d .before .before in
+    let g = draw-room (s .args .s) _ (s .pre .0) (s .args .p) (s .pre .1) (d .draft-of .result) (d .draft-of .ensures) (small s) (n .ends-of .result) (brought n) _ (q .make-point .ensures) (t .take-point .result) (t .take-point .ensures) (k .plan-point .result) (k .plan-point .ensures) (s .args .words .now) _ (a .before .are-counts .ensures) (a .if1 .left) refl _ (e .before .before .room .ensures) (e .if2 .taken) in
     (g, passed-none _ _ Room (s .args .s) (g .answer))
 
 write-plan-requires : tie.Need-write-plan-requires
 write-plan-requires c κs =
     let e = c .before in
-    let k = at-plan (e .before) in
-    let q = k .before in
+    let a = e .before .before .before in
+    let k = at-plan (a .before) in
+    let t = k .before in
+    let q = t .before in
     let n = q .before in
     let d = at-draft n in
     let s = d .before .before in
-    write-asked (s .args .s) _ (s .pre .0) (s .args .p) (s .pre .1) (d .draft-of .result) (d .draft-of .ensures) (n .ends-of .result) (brought n) _ (q .make-point .ensures) (k .plan-point .result) (k .plan-point .ensures) (s .args .words .now) refl _ (e .before .before .room .ensures) (e .if1 .left)
+    write-asked (s .args .s) _ (s .pre .0) (s .args .p) (s .pre .1) (d .draft-of .result) (d .draft-of .ensures) (small s) (n .ends-of .result) (brought n) _ (q .make-point .ensures) (t .take-point .result) (t .take-point .ensures) (k .plan-point .result) (k .plan-point .ensures) (s .args .words .now) _ (a .before .are-counts .ensures) (a .if1 .left) refl _ (e .before .before .room .ensures) (e .if2 .left)
 
 set-end-requires : tie.Need-set-end-requires
 set-end-requires c κs = search needs
@@ -80,12 +109,14 @@ state-of-requires : tie.Need-state-of-requires
 state-of-requires c κs =
     let w = c .before .before .before in
     let e = w .before .before in
-    let k = at-plan (e .before) in
-    let q = k .before in
+    let a = e .before .before .before in
+    let k = at-plan (a .before) in
+    let t = k .before in
+    let q = t .before in
     let n = q .before in
     let d = at-draft n in
     let s = d .before .before in
-    end-asked (s .args .s) _ (s .pre .0) (s .args .p) (s .pre .1) (d .draft-of .result) (d .draft-of .ensures) (n .ends-of .result) (brought n) _ (q .make-point .ensures) (k .plan-point .result) (k .plan-point .ensures) (s .args .words .now) refl _ (e .before .before .room .ensures) (e .if1 .left) (c .set-end .result) (c .set-end .ensures)
+    end-asked (s .args .s) _ (s .pre .0) (s .args .p) (s .pre .1) (d .draft-of .result) (d .draft-of .ensures) (small s) (n .ends-of .result) (brought n) _ (q .make-point .ensures) (t .take-point .result) (t .take-point .ensures) (k .plan-point .result) (k .plan-point .ensures) (s .args .words .now) _ (a .before .are-counts .ensures) (a .if1 .left) refl _ (e .before .before .room .ensures) (e .if2 .left) (c .set-end .result) (c .set-end .ensures)
 
 named-requires : tie.Need-named-requires
 named-requires c κs = search needs
@@ -93,17 +124,19 @@ named-requires c κs = search needs
 same-length : tie.Need-same-length
 same-length c = search needs
 
-returns-2 : tie.Need-returns-2
-returns-2 c =
-    let t = c .before in
-    let w = t .before .before .before .before in
+returns-3 : tie.Need-returns-3
+returns-3 c =
+    let o = c .before in
+    let w = o .before .before .before .before in
     let e = w .before .before in
-    let k = at-plan (e .before) in
-    let q = k .before in
+    let a = e .before .before .before in
+    let k = at-plan (a .before) in
+    let t = k .before in
+    let q = t .before in
     let n = q .before in
     let d = at-draft n in
     let s = d .before .before in
-    let g = draw-done (s .args .s) _ (s .pre .0) (s .args .p) (s .pre .1) (d .draft-of .result) (d .draft-of .ensures) (n .ends-of .result) (brought n) _ (q .make-point .ensures) (k .plan-point .result) (k .plan-point .ensures) (s .args .words .now) refl _ (e .before .before .room .ensures) (e .if1 .left) _ (w .write-plan .ensures) (t .before .set-end .result) (t .before .set-end .ensures) _ (t .state-of .ensures) in
+    let g = draw-done (s .args .s) _ (s .pre .0) (s .args .p) (s .pre .1) (d .draft-of .result) (d .draft-of .ensures) (small s) (n .ends-of .result) (brought n) _ (q .make-point .ensures) (t .take-point .result) (t .take-point .ensures) (k .plan-point .result) (k .plan-point .ensures) (s .args .words .now) _ (a .before .are-counts .ensures) (a .if1 .left) refl _ (e .before .before .room .ensures) (e .if2 .left) _ (w .write-plan .ensures) (o .before .set-end .result) (o .before .set-end .ensures) _ (o .state-of .ensures) in
     (g, passed-on _ _ _ _ (g .answer) (edges-drafted (s .args .s) _ (s .pre .0) (s .args .p) (s .pre .1) (d .draft-of .result) (d .draft-of .ensures) _ (c .named .ensures ∙ n .before .add-boundary-points .ensures .names)))
 
 pub draw-spec : {M : Type 1} → statement M
@@ -114,12 +147,15 @@ draw-spec =
     add-boundary-points-requires
     ends-of-requires
     make-point-requires
+    take-point-requires
     plan-point-requires
-    room-requires
+    are-counts-requires
     returns
+    room-requires
+    returns-2
     write-plan-requires
     set-end-requires
     state-of-requires
     named-requires
     same-length
-    returns-2)
+    returns-3)

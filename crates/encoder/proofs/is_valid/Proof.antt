@@ -3,6 +3,11 @@ use Rattle.encoder.proofs.States.{rules-joined}
 use borrow.Author.Needs.{needs}
 use Rattle.encoder.proofs.is_valid.Statement.{statement}
 use Rattle.encoder.proofs.is_valid.Tie as tie
+use Rattle.clip.proofs.BBox.is_good.Reads as BBox-is-good-reads
+use Rattle.encoder.proofs.commands.figures_fit.Reads as figures-fit-reads
+use Rattle.encoder.proofs.points.are_in_limit.Reads as are-in-limit-reads
+use Rattle.encoder.proofs.tally.Tally.is_balanced.Reads as is-balanced-reads
+use Rattle.words.proofs.geometry.Geometry.is_good.Reads as geometry-Geometry-is-good-reads
 
 figures-fit-requires : tie.Need-figures-fit-requires
 figures-fit-requires c κs = search needs
@@ -16,6 +21,9 @@ is-good-requires-2 c κs = search needs
 are-in-limit-requires : tie.Need-are-in-limit-requires
 are-in-limit-requires c κs = search needs
 
+is-balanced-requires : tie.Need-is-balanced-requires
+is-balanced-requires c κs = search needs
+
 returns : tie.Need-returns
 returns c = search (needs, rules-joined)
 
@@ -27,4 +35,5 @@ is-valid-spec =
     is-good-requires
     is-good-requires-2
     are-in-limit-requires
+    is-balanced-requires
     returns)

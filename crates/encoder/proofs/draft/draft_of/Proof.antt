@@ -1,4 +1,4 @@
--- Each point by itself, and whether it is there.
+-- Each point by itself, and whether it is there; the counts as they are.
 use Rattle.encoder.proofs.Drafting.{draft-is}
 use borrow.Author.Needs.{needs}
 use Rattle.encoder.proofs.draft.draft_of.Statement.{statement}
@@ -27,6 +27,18 @@ is-missing-requires-3 c κs = search needs
 cast-count : tie.Need-cast-count
 cast-count c = search needs
 
+cast-skipped : tie.Need-cast-skipped
+cast-skipped c = search needs
+
+cast-taken-out : tie.Need-cast-taken-out
+cast-taken-out c = search needs
+
+cast-taken : tie.Need-cast-taken
+cast-taken c = search needs
+
+cast-boundary : tie.Need-cast-boundary
+cast-boundary c = search needs
+
 returns : tie.Need-returns
 returns c = search (needs, draft-is)
 
@@ -40,4 +52,9 @@ draft-of-spec =
     is-missing-requires
     is-missing-requires-2
     is-missing-requires-3
-    cast-count returns)
+    cast-count
+    cast-skipped
+    cast-taken-out
+    cast-taken
+    cast-boundary
+    returns)

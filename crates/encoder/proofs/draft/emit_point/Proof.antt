@@ -1,5 +1,5 @@
 -- The last point again, or a push: taken out, behind a command, and the two steps.
-use Rattle.encoder.proofs.Drafting.{next-skip, next-push, may-pop, base-fits}
+use Rattle.encoder.proofs.Drafting.{next-skip, next-push, push-asked, base-fits}
 use borrow.Author.Needs.{needs}
 use Rattle.encoder.proofs.draft.emit_point.Statement.{statement}
 use Rattle.encoder.proofs.draft.emit_point.Tie as tie
@@ -23,13 +23,13 @@ is-ring-requires : tie.Need-is-ring-requires
 is-ring-requires c κs = search needs
 
 before-push-requires : tie.Need-before-push-requires
-before-push-requires c κs = let s = c .before .before .before .before in may-pop (s .args .d) (s .args .q) (s .pre) _ (c .is-ring .ensures)
+before-push-requires c κs = let s = c .before .before .before .before in push-asked (s .args .d) (s .args .q) (s .pre .0) (s .pre .1) _ (c .is-ring .ensures)
 
 push-command-requires : tie.Need-push-command-requires
 push-command-requires c κs = search needs
 
 push-point-requires : tie.Need-push-point-requires
-push-point-requires c κs = let s = c .before .before .before .before .before .before in base-fits (s .args .d) (s .args .q) (s .pre) (c .before .before .is-ring .result) _ (c .before .before-push .ensures)
+push-point-requires c κs = let s = c .before .before .before .before .before .before in base-fits (s .args .d) (s .args .q) (s .pre .0) (c .before .before .is-ring .result) _ (c .before .before-push .ensures)
 
 returns-2 : tie.Need-returns-2
 returns-2 c = search (needs, next-push)

@@ -10,7 +10,7 @@ is-taken-out-requires : tie.Need-is-taken-out-requires
 is-taken-out-requires c κs = search needs
 
 pop-point-requires : tie.Need-pop-point-requires
-pop-point-requires c κs = let s = c .before .before .before .before in may-pop (s .args .ring) _ (s .args .pen) (s .pre) _ (c .before .is-taken-out .ensures) (c .if1 .taken)
+pop-point-requires c κs = let s = c .before .before .before .before in let m = may-pop (s .args .ring) _ (s .args .pen) (s .pre .0) _ (c .before .is-taken-out .ensures) (c .if1 .taken) in (m .0, (m .1, s .pre .1))
 
 returns : tie.Need-returns
 returns c = search (needs, push-taken)

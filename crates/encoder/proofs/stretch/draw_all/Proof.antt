@@ -2,15 +2,15 @@
 use native.Mathlib.Omega.{arith}
 use Prim.Native.Nat.{_-_}
 use borrow.Author.Needs.{needs}
-use Rattle.encoder.proofs.Drawing.{Drawing, point-is, draw-start, draw-end, plain-asked, draw-stop, draw-asked, draw-turn, few-points}
+use Rattle.encoder.proofs.Drawing.{Drawing, point-is, draw-start, draw-end, plain-asked, draw-stop, draw-asked, draw-turn, few-points, state-asked}
 use Rattle.encoder.proofs.stretch.draw_all.Statement.{statement}
 use Rattle.encoder.proofs.stretch.draw_all.Tie as tie
 
 abbrev Inv-loop : tie.InvT-loop
-Inv-loop s points from end words₀ bbox ring room pen₀ out₀ i₀ words pen out i = Drawing s points from end words₀ bbox ring room pen₀ words pen out i
+Inv-loop s start points from end words₀ bbox ring room pen₀ out₀ i₀ words pen out i = Drawing s points from end words₀ bbox ring room start words pen out i
 
 abbrev μ-loop : tie.MeasureT-loop
-μ-loop s points from end words₀ bbox ring room pen₀ out₀ i₀ words pen out i = end - i
+μ-loop s start points from end words₀ bbox ring room pen₀ out₀ i₀ words pen out i = end - i
 
 abbrev at-turn : (c : tie.After-is-plain Inv-loop μ-loop) → tie.In-loop Inv-loop μ-loop
 at-turn c = c .before .before .before .before
@@ -57,8 +57,14 @@ is-outside-requires-2 c κs = search needs
 is-plain-requires : tie.Need-is-plain-requires Inv-loop μ-loop
 is-plain-requires c κs = plain-asked _ _ _ _ _ _ _ _ _ _ _ _ _ (c .before .before .before .before .loop .inv) _ _ (c .is-outside2 .ensures)
 
+sub-state-with : tie.Need-sub-state-with Inv-loop μ-loop
+sub-state-with c = let I = at-turn (c .before) .before .loop .inv in omega (arith, I .since)
+
 state-with-requires : tie.Need-state-with-requires Inv-loop μ-loop
-state-with-requires c κs = few-points _ _ _ _ _ _ _ _ _ _ _ _ _ (at-turn (c .before) .before .loop .inv)
+state-with-requires c κs =
+    let turn = at-turn (c .before) in
+    let s = at-start (at-raw (turn .before)) in
+    state-asked _ _ _ _ _ _ _ _ _ _ _ _ _ (turn .before .loop .inv) (s .pre .1 .1 .fits) (few-points (s .pre .1 .0))
 
 same-length : tie.Need-same-length Inv-loop μ-loop
 same-length c = search needs
@@ -76,7 +82,7 @@ draw-requires c κs =
     let plain = c .before .before in
     let turn = at-turn plain in
     let o = plain .before in
-    draw-asked _ _ _ _ _ _ _ _ _ _ _ _ _ (turn .before .loop .inv) _ _ (o .is-outside2 .ensures) _ (plain .is-plain .ensures) (c .before .if1 .left)
+    draw-asked _ _ _ _ _ _ _ _ _ _ _ _ _ (turn .before .loop .inv) _ _ (o .is-outside2 .ensures) _ (plain .is-plain .ensures) (c .before .if1 .left) (turn .loop-test .taken)
 
 add-i : tie.Need-add-i Inv-loop μ-loop
 add-i c = let turn = at-turn (c .before .before .before .before .before) in omega (arith, turn .loop-test .taken, at-start (at-raw (turn .before)) .fits .end .fits)
@@ -92,8 +98,11 @@ loop-again c =
     draw-turn _ _ _ _ _ _ _ _ _ _ _ _ _ (turn .before .loop .inv) _ _ (o .is-outside2 .ensures) _ (plain .is-plain .ensures) (turn .loop-test .taken)
     (point-is (at-start (at-raw (turn .before)) .args .points .now) (turn .before .loop .i) (o .before .before .x .given) (o .before .y .given)) (c .before .before .before .before .if1 .left) _ _ (c .before .before .draw .ensures)
 
+sub-state-with-2 : tie.Need-sub-state-with-2 Inv-loop μ-loop
+sub-state-with-2 c = let I = c .before .loop .inv in omega (arith, I .since)
+
 state-with-requires-2 : tie.Need-state-with-requires-2 Inv-loop μ-loop
-state-with-requires-2 c κs = few-points _ _ _ _ _ _ _ _ _ _ _ _ _ (c .before .loop .inv)
+state-with-requires-2 c κs = let s = at-start (at-raw (c .before)) in state-asked _ _ _ _ _ _ _ _ _ _ _ _ _ (c .before .loop .inv) (s .pre .1 .1 .fits) (few-points (s .pre .1 .0))
 
 same-length-2 : tie.Need-same-length-2 Inv-loop μ-loop
 same-length-2 c = search needs
@@ -119,6 +128,7 @@ draw-all-spec =
     shared-slice-copy-out-y
     is-outside-requires-2
     is-plain-requires
+    sub-state-with
     state-with-requires
     same-length
     returns
@@ -126,6 +136,7 @@ draw-all-spec =
     add-i
     loop-less
     loop-again
+    sub-state-with-2
     state-with-requires-2
     same-length-2
     returns-2)

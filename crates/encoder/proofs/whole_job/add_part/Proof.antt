@@ -63,7 +63,7 @@ returns c =
     (point .add-valid .ensures .0) _ _ (c .before .r .given .1)
 
 add-i : tie.Need-add-i Inv-loop μ-loop
-add-i c = search needs
+add-i c = let turn = at-point c .before .before .before .before in omega (arith, turn .loop-test .taken, turn .before .before .before .fits .to .fits)
 
 loop-less : tie.Need-loop-less Inv-loop μ-loop
 loop-less c = search needs

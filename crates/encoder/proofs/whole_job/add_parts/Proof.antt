@@ -13,6 +13,9 @@ Inv-loop points ends words₀ q₀ from₀ j₀ words q from j = Going points en
 abbrev μ-loop : tie.MeasureT-loop
 μ-loop points ends words₀ q₀ from₀ j₀ words q from j = length ends - j
 
+abbrev at-turn : (c : tie.After-known-told Inv-loop μ-loop) → tie.In-loop Inv-loop μ-loop
+at-turn c = let part = c .before .before .before .before .before in part .before .before .before
+
 loop-holds : tie.Need-loop-holds Inv-loop μ-loop
 loop-holds c = search (needs, parts-start)
 
@@ -44,7 +47,7 @@ returns c =
     parts-stop _ _ _ _ _ _ _ _ (turn .before .loop .inv) (turn .loop-test .taken) (added .add-part .result) _ (added .add-part .ensures) _ _ (c .before .r .given .1)
 
 add-j : tie.Need-add-j Inv-loop μ-loop
-add-j c = search needs
+add-j c = let turn = at-turn c in omega (arith, turn .loop-test .taken, turn .before .before .before .before)
 
 loop-less : tie.Need-loop-less Inv-loop μ-loop
 loop-less c = search needs

@@ -1,67 +1,39 @@
--- JOB, then what a fresh encoder answers, then the calls: the definition is the same chain.
-use Rattle.encoder.proofs.Whole.{job-none, job-asked, job-start, job-words, job-stop}
+-- The words used of the state behind the job, or the refusal.
+use Rattle.encoder.proofs.Whole.{job-words, job-stop}
 use borrow.Author.Needs.{needs}
 use Rattle.encoder.proofs.whole_job.encode.Statement.{statement}
 use Rattle.encoder.proofs.whole_job.encode.Tie as tie
+use Rattle.encoder.proofs.whole_job.finish.Reads as finish-reads
 
-is-job-requires : tie.Need-is-job-requires
-is-job-requires c κs = search needs
-
-returns : tie.Need-returns
-returns c = search (needs, job-none)
-
-new-requires : tie.Need-new-requires
-new-requires c κs = search needs
-
-enum-known-r : tie.Need-enum-known-r
-enum-known-r c = search needs
-
-enum-known-s : tie.Need-enum-known-s
-enum-known-s c = search needs
-
-add-parts-requires : tie.Need-add-parts-requires
-add-parts-requires c κs =
-    let fresh = c .before .before in
-    let new = fresh .before .before in
-    let job = new .before .before in
-    let s = job .before .before .before in
-    job-asked (s .args .kind) (s .args .bbox) (s .args .points .now) (s .args .ends .now) (s .args .words .now) _ (job .is-job .ensures) (new .before .if1 .left) (new .new .result) (new .new .ensures) _ (fresh .s .given .1)
+finish-requires : tie.Need-finish-requires
+finish-requires c κs = search needs
 
 enum-known-t : tie.Need-enum-known-t
 enum-known-t c = search needs
 
-enum-known-r-2 : tie.Need-enum-known-r-2
-enum-known-r-2 c = search needs
-
-returns-2 : tie.Need-returns-2
-returns-2 c = search (needs, job-start)
+enum-known-r : tie.Need-enum-known-r
+enum-known-r c = search needs
 
 same-length : tie.Need-same-length
 same-length c = search needs
 
-returns-3 : tie.Need-returns-3
-returns-3 c = search (needs, job-words)
+returns : tie.Need-returns
+returns c = search (needs, job-words)
 
 same-length-2 : tie.Need-same-length-2
 same-length-2 c = search needs
 
-returns-4 : tie.Need-returns-4
-returns-4 c = search (needs, job-stop)
+returns-2 : tie.Need-returns-2
+returns-2 c = search (needs, job-stop)
 
 pub encode-spec : {M : Type 1} → statement M
 encode-spec =
     tie.close
     (tie.spec
-    is-job-requires
-    returns
-    new-requires
-    enum-known-r
-    enum-known-s
-    add-parts-requires
+    finish-requires
     enum-known-t
-    enum-known-r-2
-    returns-2
+    enum-known-r
     same-length
-    returns-3
+    returns
     same-length-2
-    returns-4)
+    returns-2)
