@@ -22,6 +22,7 @@ pub mod Plain
 pub mod Drawing
 pub mod Callers
 pub mod Within
+pub mod Losses
 pub mod Courses
 pub mod Turns
 pub mod Whole
