@@ -27,7 +27,7 @@ use Rattle.encoder.specs.declared.whole_job.Encoded.{Encoded}
 use Rattle.encoder.specs.declared.whole_job.Encoded.the-variants.{Words, Refused}
 use Rattle.encoder.specs.declared.whole_job.Course.{Course}
 use Rattle.encoder.specs.declared.whole_job.Course.the-variants.{On, Off}
-use Rattle.encoder.specs.Jobs.{Outcome, off, pointsOf, endsAt, isJob, jobCalls, outcome, endOf, goAll, run, encodedJob, finishedJob, saidEncoded}
+use Rattle.encoder.specs.Jobs.{Outcome, on, off, pointsOf, endsAt, isJob, jobCalls, outcome, outcomeOf, endOf, goAll, run, encodedJob, finishedJob, saidEncoded}
 
 -- ---- one value for each answer
 pub one-encoded : (r r′ : Encoded) → saidEncoded r ≡ saidEncoded r′ → r ≡ r′
@@ -38,6 +38,25 @@ one-encoded (Refused r n) (Refused r′ m) e =
     let i : r ≡ r′ = one-refusal r r′ e in
     let j : n ≡ m = ap (λ (s : Said ℕ). s .values) e in
     λ k. Refused (i k) (j k)
+
+state-of : GeomEncoder → Outcome → GeomEncoder
+state-of d (on n s) = s
+state-of d (off a) = d
+
+said-of : Said ℕ → Outcome → Said ℕ
+said-of d (on n s) = d
+said-of d (off a) = a
+
+pub one-course : (n : ℕ) (r r′ : Course) → outcomeOf n r ≡ outcomeOf n r′ → r ≡ r′
+unfolding state-of said-of
+one-course n (On s) (On t) e = ap On (ap (state-of s) e)
+one-course n (On s) (Off r k) e = absurd (never-both r (ap (said-of (accepted k)) e))
+one-course n (Off r k) (On s) e = absurd (never-both r (sym (ap (said-of (accepted k)) e)))
+one-course n (Off r k) (Off r′ m) e =
+    let f : refused r k ≡ refused r′ m = ap (said-of (accepted k)) e in
+    let i : r ≡ r′ = one-refusal r r′ f in
+    let j : k ≡ m = ap (λ (s : Said ℕ). s .values) f in
+    λ x. Off (i x) (j x)
 
 -- ---- what the checks tell
 pub good-ends : (points : List ℤ) (ends : List ℕ) → isJob points ends ≡ true → endsAt 0 ends (length points / 2) ≡ true

@@ -25,7 +25,17 @@ closing s = closeWord (s .kind) (s .count)
 
 -- "Count, raw end and the point before last are cleared; the last point stays." The counts of request (ix) stay too.
 abbrev pub cleared : GeomEncoder → ℕ → ℕ → GeomEncoder
-cleared s place used = record { tally = s .tally; kind = s .kind; bbox = s .bbox; «xy_end» = Nowhere; pt0 = Nowhere; pt1 = s .pt1; «cmd_offset» = place; count = 0; used = used }
+cleared s place used = record {
+  tally = s .tally;
+  kind = s .kind;
+  bbox = s .bbox;
+  «xy_end» = Nowhere;
+  pt0 = Nowhere;
+  pt1 = s .pt1;
+  «cmd_offset» = place;
+  count = 0;
+  used = used;
+}
 
 -- points "reset nothing"
 unfoldable pub finished : GeomEncoder → GeomEncoder

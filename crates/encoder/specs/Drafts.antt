@@ -47,7 +47,17 @@ stateIn d = record {
 }
 
 abbrev pub withPen : Draft → Pen → Draft
-withPen d pen = record { kind = d .kind; bbox = d .bbox; pen = pen; joins = d .joins; has0 = d .has0; has1 = d .has1; place = d .place; taken = d .taken; boundary = d .boundary }
+withPen d pen = record {
+  kind = d .kind;
+  bbox = d .bbox;
+  pen = pen;
+  joins = d .joins;
+  has0 = d .has0;
+  has1 = d .has1;
+  place = d .place;
+  taken = d .taken;
+  boundary = d .boundary;
+}
 
 -- the last point may be taken out: "Polygons with count ≥ 2", and two points are there
 abbrev pub ringing : Draft → Bool
@@ -55,10 +65,28 @@ ringing d = eqb (d .kind) 3 && leb 2 (d .pen .count) && d .has0 && d .has1
 
 -- q is pushed from the pen `base`, with the last command at that place; behind a word, or not
 abbrev pub pushedTo : Draft → Pen → Pt → ℕ → Draft
-pushedTo d base q place = record { kind = d .kind; bbox = d .bbox; pen = onward base q .pen; joins = d .joins; has0 = d .has1; has1 = true; place = place; taken = d .taken; boundary = d .boundary }
+pushedTo d base q place = record {
+  kind = d .kind;
+  bbox = d .bbox;
+  pen = onward base q .pen;
+  joins = d .joins;
+  has0 = d .has1;
+  has1 = true;
+  place = place;
+  taken = d .taken;
+  boundary = d .boundary;
+}
 
 abbrev pub behind : Pen → Pen
-behind pen = record { raw = pen .raw; pt0 = pen .pt0; pt1 = pen .pt1; count = pen .count; used = pen .used + 1; skipped = pen .skipped; «taken_out» = pen .«taken_out» }
+behind pen = record {
+  raw = pen .raw;
+  pt0 = pen .pt0;
+  pt1 = pen .pt1;
+  count = pen .count;
+  used = pen .used + 1;
+  skipped = pen .skipped;
+  «taken_out» = pen .«taken_out»;
+}
 
 abbrev pub pushedBy : MaybeWord → Draft → Pen → Pt → Draft
 pushedBy NoWord d base q = pushedTo d base q (d .place)
@@ -70,7 +98,17 @@ oneIf true = 1
 oneIf false = 0
 
 abbrev pub takenBy : Draft → Ends → Draft
-takenBy d e = record { kind = d .kind; bbox = d .bbox; pen = d .pen; joins = d .joins; has0 = d .has0; has1 = d .has1; place = d .place; taken = d .taken + 1; boundary = d .boundary + (oneIf (e .moved0) + oneIf (e .moved1)) }
+takenBy d e = record {
+  kind = d .kind;
+  bbox = d .bbox;
+  pen = d .pen;
+  joins = d .joins;
+  has0 = d .has0;
+  has1 = d .has1;
+  place = d .place;
+  taken = d .taken + 1;
+  boundary = d .boundary + (oneIf (e .moved0) + oneIf (e .moved1));
+}
 
 -- ---- the emissions of a point: the ends that moved, then q
 abbrev pub emittedIf : Bool → GeomEncoder → Pt → Emission

@@ -5,7 +5,7 @@ use mathlib.Core.List.{List, [], _∷_, _++_}
 use lib.Dec.{leb, eqb}
 use lib.IntN.{ℤ}
 use lib.ListN.{length, take, drop}
-use Rattle.promise.specs.Answers.{Written, kept}
+use Rattle.promise.specs.Answers.{Written, Gives, kept}
 use Rattle.refusal.specs.declared.Refusal.the-variants.{Job, Kind, Box}
 use Rattle.refusal.specs.Said.{Said, accepted, refused}
 use Rattle.clip.specs.declared.Pt.{Pt}
@@ -112,3 +112,7 @@ goAll points ends s out = go (jobCalls (pointsOf points) 0 ends) 0 s out
 
 abbrev pub endOf : List ℤ → Course → Outcome
 endOf points r = outcomeOf (length points / 2) r
+
+-- what `finish` promises of its answer and of the list after the call
+abbrev pub Finishes : ℕ → BBox → List ℤ → List ℕ → List ℕ → Course → List ℕ → Type 0
+Finishes kind bbox points ends words r after = Gives (finishedJob kind bbox points ends words) (endOf points r) after

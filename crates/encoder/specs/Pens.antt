@@ -21,7 +21,15 @@ use Rattle.encoder.specs.declared.pen.Pen.{Pen}
 use Rattle.encoder.specs.declared.boundary.Ends.{Ends}
 
 abbrev pub penOf : GeomEncoder → Pen
-penOf s = record { raw = lastOf (s .«xy_end»); pt0 = lastOf (s .pt0); pt1 = lastOf (s .pt1); count = s .count; used = s .used; skipped = s .tally .skipped; «taken_out» = s .tally .«taken_out» }
+penOf s = record {
+  raw = lastOf (s .«xy_end»);
+  pt0 = lastOf (s .pt0);
+  pt1 = lastOf (s .pt1);
+  count = s .count;
+  used = s .used;
+  skipped = s .tally .skipped;
+  «taken_out» = s .tally .«taken_out»;
+}
 
 abbrev pub stateOf : GeomEncoder → Pen → GeomEncoder
 stateOf s pen =
@@ -38,7 +46,15 @@ stateOf s pen =
     }
 
 abbrev pub withRaw : Pen → Pt → Pen
-withRaw pen p = record { raw = p; pt0 = pen .pt0; pt1 = pen .pt1; count = pen .count; used = pen .used; skipped = pen .skipped; «taken_out» = pen .«taken_out» }
+withRaw pen p = record {
+  raw = p;
+  pt0 = pen .pt0;
+  pt1 = pen .pt1;
+  count = pen .count;
+  used = pen .used;
+  skipped = pen .skipped;
+  «taken_out» = pen .«taken_out»;
+}
 
 -- ---- one emission: the pen after it, and a run of words laid at a place
 pub record Mark : Type 0 where
@@ -48,7 +64,15 @@ pub record Mark : Type 0 where
 
 -- the point is the last one again: it is counted, and nothing else changes
 abbrev pub again : Pen → Pen
-again pen = record { raw = pen .raw; pt0 = pen .pt0; pt1 = pen .pt1; count = pen .count; used = pen .used; skipped = pen .skipped + 1; «taken_out» = pen .«taken_out» }
+again pen = record {
+  raw = pen .raw;
+  pt0 = pen .pt0;
+  pt1 = pen .pt1;
+  count = pen .count;
+  used = pen .used;
+  skipped = pen .skipped + 1;
+  «taken_out» = pen .«taken_out»;
+}
 
 abbrev pub still : Pen → Mark
 still pen = record { pen = again pen; at = pen .used; run = [] }
@@ -56,14 +80,30 @@ still pen = record { pen = again pen; at = pen .used; run = [] }
 -- it follows the last one
 abbrev pub onward : Pen → Pt → Mark
 onward pen q = record {
-  pen = record { raw = pen .raw; pt0 = pen .pt1; pt1 = q; count = pen .count + 1; used = pen .used + 2; skipped = pen .skipped; «taken_out» = pen .«taken_out» };
+  pen = record {
+    raw = pen .raw;
+    pt0 = pen .pt1;
+    pt1 = q;
+    count = pen .count + 1;
+    used = pen .used + 2;
+    skipped = pen .skipped;
+    «taken_out» = pen .«taken_out»;
+  };
   at = pen .used;
   run = steps (pen .pt1) q;
 }
 
 -- the last one taken out, if it is one of a ring and strictly between its neighbours
 abbrev pub taken : Pen → Pen
-taken pen = record { raw = pen .raw; pt0 = pen .pt0; pt1 = pen .pt0; count = pen .count - 1; used = pen .used - 2; skipped = pen .skipped; «taken_out» = pen .«taken_out» + 1 }
+taken pen = record {
+  raw = pen .raw;
+  pt0 = pen .pt0;
+  pt1 = pen .pt0;
+  count = pen .count - 1;
+  used = pen .used - 2;
+  skipped = pen .skipped;
+  «taken_out» = pen .«taken_out» + 1;
+}
 
 abbrev pub beforePush : Bool → Pen → Pt → Pen
 beforePush ring pen q = cond (ring && between (pen .pt0) (pen .pt1) q) (taken pen) pen

@@ -13,7 +13,17 @@ use Rattle.encoder.specs.Tallies.{untouched, balanced}
 use Rattle.encoder.specs.declared.GeomEncoder.{GeomEncoder}
 
 abbrev pub fresh : ℕ → BBox → GeomEncoder
-fresh kind bbox = record { tally = untouched; kind = kind; bbox = bbox; «xy_end» = Nowhere; pt0 = Nowhere; pt1 = Nowhere; «cmd_offset» = 0; count = 0; used = 0 }
+fresh kind bbox = record {
+  tally = untouched;
+  kind = kind;
+  bbox = bbox;
+  «xy_end» = Nowhere;
+  pt0 = Nowhere;
+  pt1 = Nowhere;
+  «cmd_offset» = 0;
+  count = 0;
+  used = 0;
+}
 
 -- STATE is refused exactly where this is false: "used words exceed the room; count exceeds used / 2 + 1 (rounded down); count is not zero and the last
 -- command's place is not below used;

@@ -75,4 +75,6 @@ abbrev pub least : ℕ → ℕ → ℕ
 least n m = cond (leb n m) n m
 
 unfoldable pub stretched : GeomEncoder → List ℤ → ℕ → ℕ → List ℕ → Written Stretch (List ℕ)
-stretched s l from to out = cond (isStart (draftOf s)) (run (least (lastPoint (length l) to - from) (spareOf (s .tally))) l from s out) (kept (halted s from) out)
+stretched s l from to out =
+    let most : ℕ = least (lastPoint (length l) to - from) (spareOf (s .tally)) in
+    cond (isStart (draftOf s)) (run most l from s out) (kept (halted s from) out)

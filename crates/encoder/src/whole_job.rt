@@ -7,7 +7,7 @@ ghost use lib.ListN.{length};
 ghost use Rattle.promise.specs.Answers.{Gives};
 ghost use Rattle.encoder.specs.Calls.{partCalls};
 ghost use Rattle.encoder.specs.States.{Sound};
-ghost use Rattle.encoder.specs.Jobs.{pointsOf, isJob, endsAt, part, go, goAll, endOf, encodedJob, finishedJob, saidEncoded, outcomeOf};
+ghost use Rattle.encoder.specs.Jobs.{pointsOf, isJob, endsAt, part, go, goAll, endOf, encodedJob, saidEncoded, outcomeOf, Finishes};
 use crate::Drawn;
 use crate::GeomEncoder;
 use crate::Started;
@@ -105,7 +105,7 @@ fn add_parts(s: GeomEncoder, points: &[i32], ends: &[u32], words: &mut [u32]) ->
 
 // JOB, KIND, BOX, then the calls; at the first refused one its number and the accepted points.
 pub fn finish(kind: u32, bbox: BBox, points: &[i32], ends: &[u32], words: &mut [u32]) -> Course
-    ensures { λ r. ⌜ Gives (finishedJob kind bbox (now (points .entry)) (now (ends .entry)) (now (words .entry))) (endOf (now (points .entry)) r) (now (words .exit)) ⌝ }
+    ensures { λ r. ⌜ Finishes kind bbox (now (points .entry)) (now (ends .entry)) (now (words .entry)) r (now (words .exit)) ⌝ }
 {
     if !is_job(points, ends) {
         return Course::Off(Refusal::Job, 0);
