@@ -10,8 +10,9 @@
  * States. A state goes in and comes back by value, and nothing is kept between calls. Two of them are compared field by field: what stands between the
  *   fields (padding) no promise speaks of. None has to be cleared before a call: what a function answers has every field.
  * Refusals. `refusal` is 0 where a call is accepted, else a number of bp_refusal, and the first check that fails tells it: each function names its checks
- *   in their order. A refused call writes nowhere, says 0 for its counts and edges and gives the state back as it was given. Two differ. A whole job leaves
- *   at its first refused call the words, and the list of edges where it has one, as the accepted calls left them, and says how many points were accepted.
+ *   in their order. A refused call writes nowhere, says 0 for its counts and edges and gives the state back as it was given, with the counts in it. Two differ.
+ *   A whole job leaves at its first refused call the words, and the list of edges where it has one, as the accepted calls left them, and says how many points
+ *   were accepted; a state that it is to answer is all 0.
  *   Many features in one call keep up to the first refused feature what the accepted ones made, say how many these are and give back the layer with them.
  * Threads. No function reads or writes anything but what it is given, so any may be called from any number of threads at once, as long as no list that one
  *   call writes is lent to another call at the same time.
@@ -29,7 +30,7 @@ extern "C" {
 /* The number of this interface. It is raised by one with every change of a declaration below (a struct's fields, a function's parameters, a constant, the
  * refusals) or of what one means; a declaration more leaves it. bp_version and bp_tiles_version answer the number of the archive: where that is not
  * BP_VERSION, header and archive do not belong together. */
-#define BP_VERSION 2
+#define BP_VERSION 3
 uint32_t bp_version(void);       /* of libbrinepost.a */
 uint32_t bp_tiles_version(void); /* of libbrinepost_tiles.a */
 
@@ -38,10 +39,12 @@ enum bp_refusal {
     BP_JOB = 1,      /* no parts, ends that descend, a last end that is not the point count, an odd list of coordinates; no list of tags or of heads */
     BP_KIND = 2,     /* a kind that is not 1 point, 2 line, 3 polygon */
     BP_BOX = 3,      /* x_min >= x_max, y_min >= y_max, or an edge beyond BP_LIMIT */
-    BP_STATE = 4,    /* a carried state that breaks a rule (docs/RULES.md, sections 6, 8 and 10) */
+    BP_STATE = 4,    /* a carried state that breaks a rule (docs/RULES.md, sections 6, 8 and 10), as an encoder's does whose skipped and taken_out together
+                      * exceed its taken and boundary together */
     BP_COORD = 5,    /* x or y beyond BP_LIMIT */
     BP_EMPTY = 6,    /* a geometry of points is completed with none */
-    BP_ROOM = 7,     /* the result, reckoned as if there were room, exceeds a lent list or one of the limits BP_MAX_...; more words than BP_MAX_WORDS read */
+    BP_ROOM = 7,     /* the result, reckoned as if there were room, exceeds a lent list or one of the limits BP_MAX_...; more words than BP_MAX_WORDS read; a
+                      * count of an encoder's state would pass 4,294,967,295 */
     BP_COMMAND = 8,  /* a command id that is not 1, 2 or 7 */
     BP_CUT = 9,      /* fewer than twice the count words follow a MoveTo or LineTo */
     BP_STEP = 10,    /* a decoded position leaves int32_t */
@@ -163,16 +166,23 @@ typedef struct bp_point {
 } bp_point;
 
 /* A state between two calls. A caller may store it and hand it in again with the same words; bp_encoder_add_point and bp_encoder_complete_geom refuse one that
- * breaks a rule (STATE). That the words are those that it was made with they cannot see. */
+ * breaks a rule (STATE). That the words are those that it was made with they cannot see.
+ * Its last four fields count what became of the points since the state was fresh, where all are 0: each accepted point adds to them, a completed part leaves
+ * them as they are. taken + boundary - skipped - taken_out is the number of vertices now in the words, at any moment, within a part too; ClosePath is none.
+ * A stored bp_encoder of interface 2 has another size: it has no counts. */
 typedef struct bp_encoder {
     uint32_t kind;
-    uint32_t count;    /* how many points of this part stand among the words; of points, of the whole geometry */
-    size_t used;       /* words */
-    size_t cmd_offset; /* the last command's place among them */
+    uint32_t count;     /* how many points of this part stand among the words; of points, of the whole geometry */
+    size_t used;        /* words */
+    size_t cmd_offset;  /* the last command's place among them */
     int32_t x_min, x_max, y_min, y_max;
-    bp_point xy_end;   /* the last raw point of this part */
-    bp_point pt0;      /* the emitted point before the last */
-    bp_point pt1;      /* the last emitted point */
+    bp_point xy_end;    /* the last raw point of this part */
+    bp_point pt0;       /* the emitted point before the last */
+    bp_point pt1;       /* the last emitted point */
+    uint32_t taken;     /* raw points taken: the accepted points, of every kind */
+    uint32_t boundary;  /* boundary points emitted: the ends of segments that the cut moved, with those that are skipped */
+    uint32_t skipped;   /* points and boundary points that are the last emitted point again, and so are not written */
+    uint32_t taken_out; /* points taken out of the words, since they lie between their neighbours */
 } bp_encoder;
 
 typedef struct bp_started {
@@ -190,8 +200,8 @@ typedef struct bp_drawn {
 /* A fresh state: KIND, BOX. */
 bp_started bp_encoder_new(uint32_t kind, int32_t x_min, int32_t x_max, int32_t y_min, int32_t y_max);
 
-/* Adds a point to this part: STATE, COORD, ROOM. `words` is the same list at every call of one geometry. The edges are those of bp_clip for
- * the segment that the point ends; a part's first point ends none, and no point of kind 1 does. */
+/* Adds a point to this part: STATE, COORD, ROOM (of the words, and of the counts). `words` is the same list at every call of one geometry. The edges are those
+ * of bp_clip for the segment that the point ends; a part's first point ends none, and no point of kind 1 does. */
 bp_drawn bp_encoder_add_point(bp_encoder state, int32_t x, int32_t y, uint32_t *words, size_t words_len);
 
 /* Completes this part: STATE, EMPTY, ROOM. Its edges are 0. */
@@ -202,6 +212,18 @@ uint32_t bp_encoder_count(bp_encoder state);
 
 /* The state's used words. Nothing is checked. */
 size_t bp_encoder_len(bp_encoder state);
+
+typedef struct bp_finished {
+    uint32_t refusal;
+    size_t points;    /* how many were accepted; all of them where the job is accepted */
+    bp_encoder state; /* behind the last call; all 0 where refused, which is refused as STATE in its turn */
+} bp_finished;
+
+/* The same job as bp_encode_job makes of these arguments, with the state that it ends in: its used words, and the counts over all parts of the job. Refusal,
+ * points and words are those of bp_encode_job. */
+bp_finished bp_encode_job_state(uint32_t kind, int32_t x_min, int32_t x_max, int32_t y_min, int32_t y_max,
+                                const int32_t *points, size_t points_len, const uint32_t *ends, size_t ends_len,
+                                uint32_t *words, size_t words_len);
 
 /* ---- a layer and its open feature */
 
@@ -384,7 +406,7 @@ typedef struct bp_tile_lists {
     size_t bytes_len;
 } bp_tile_lists;
 
-/* A geometry to be encoded, as bp_encode_job and bp_encode_job_edges take it. */
+/* A geometry to be encoded, as bp_encode_job, bp_encode_job_edges and bp_encode_job_state take it. */
 typedef struct bp_geometry {
     uint32_t kind;
     bp_box box;
@@ -456,6 +478,12 @@ static inline bp_job bp_encode_edges_in(const bp_geometry *g, uint32_t *words, s
 {
     return bp_encode_job_edges(g->kind, g->box.x_min, g->box.x_max, g->box.y_min, g->box.y_max, BP_LENT(const int32_t, g->points, g->points_len),
                                BP_WORDS_OF(g->ends, g->ends_len), BP_LENT(uint32_t, words, words_len), BP_LENT(uint32_t, edges, edges_len));
+}
+
+static inline bp_finished bp_encode_state_in(const bp_geometry *g, uint32_t *words, size_t words_len)
+{
+    return bp_encode_job_state(g->kind, g->box.x_min, g->box.x_max, g->box.y_min, g->box.y_max, BP_LENT(const int32_t, g->points, g->points_len),
+                               BP_WORDS_OF(g->ends, g->ends_len), BP_LENT(uint32_t, words, words_len));
 }
 
 static inline bp_reading bp_decode_in(const uint32_t *words, size_t words_len, int32_t *out, size_t out_len)

@@ -1,7 +1,8 @@
 
 // Appended to the second copy of encoder.rs by oracle/setup: windows on what is
 // private there. They read; only `given` makes a value, for words that come
-// from a tile script and not from an encoder.
+// from a tile script and not from an encoder, and `copy` and `emit` take a call
+// apart: an encoder once more, and one emission of those that a call makes.
 
 /// An encoder's state, as it stands between two calls.
 pub struct State<'a> {
@@ -23,6 +24,22 @@ impl GeomEncoder<i32> {
             last: self.pt1,
             words: &self.data,
         }
+    }
+
+    /// The same encoder once more. Neither sees what is done to the other.
+    pub fn copy(&self) -> Self {
+        GeomEncoder {
+            data: self.data.clone(),
+            ..*self
+        }
+    }
+
+    /// One emission alone, as `add_point` makes it of an end that moved and of
+    /// the point itself. Who asks holds the encoder against one that took the
+    /// whole call.
+    pub fn emit(&mut self, x: i32, y: i32) {
+        self.add_tile_point(x, y)
+            .expect("whole coordinates are accepted");
     }
 }
 

@@ -19,7 +19,7 @@ AT(bp_reading, vertices, 8);
 SIZE(bp_point, 12);
 AT(bp_point, x, 4);
 AT(bp_point, y, 8);
-SIZE(bp_encoder, 80);
+SIZE(bp_encoder, 96);
 AT(bp_encoder, count, 4);
 AT(bp_encoder, used, 8);
 AT(bp_encoder, cmd_offset, 16);
@@ -30,13 +30,20 @@ AT(bp_encoder, y_max, 36);
 AT(bp_encoder, xy_end, 40);
 AT(bp_encoder, pt0, 52);
 AT(bp_encoder, pt1, 64);
-SIZE(bp_started, 88);
+AT(bp_encoder, taken, 76);
+AT(bp_encoder, boundary, 80);
+AT(bp_encoder, skipped, 84);
+AT(bp_encoder, taken_out, 88);
+SIZE(bp_started, 104);
 AT(bp_started, state, 8);
-SIZE(bp_drawn, 104);
+SIZE(bp_drawn, 120);
 AT(bp_drawn, words, 8);
 AT(bp_drawn, state, 16);
-AT(bp_drawn, edge0, 96);
-AT(bp_drawn, edge1, 100);
+AT(bp_drawn, edge0, 112);
+AT(bp_drawn, edge1, 116);
+SIZE(bp_finished, 112);
+AT(bp_finished, points, 8);
+AT(bp_finished, state, 16);
 
 /* ---- lists with a guard on both sides; what is not written stays */
 enum { GUARD = 8, ROOM = 64 };
@@ -301,12 +308,19 @@ static void point_is(int at, uint32_t is_set, int32_t x, int32_t y, bp_point p)
 }
 #define POINT(is_set, x, y, p) point_is(__LINE__, is_set, x, y, p)
 
+/* Two states, up to their last field: what stands behind it is padding. */
+static void state_is(int at, bp_encoder s, bp_encoder t)
+{
+    same("the state", at, 0, memcmp(&s, &t, offsetof(bp_encoder, taken_out) + sizeof(uint32_t)));
+}
+#define STATE(s, t) state_is(__LINE__, s, t)
+
 static void given_back(int at, bp_encoder s, bp_drawn d, uint32_t refusal)
 {
     same("refusal", at, refusal, d.refusal);
     same("words", at, 0, d.words);
     edges_are(at, 0, 0, d.edge0, d.edge1);
-    same("the state given back", at, 0, memcmp(&s, &d.state, offsetof(bp_encoder, pt1) + sizeof(bp_point)));
+    state_is(at, s, d.state);
 }
 #define GIVEN_BACK(s, d, refusal) given_back(__LINE__, s, d, refusal)
 
@@ -375,6 +389,315 @@ static void calls(void)
     UNTOUCHED();
 }
 
+/* ---- the counts of what became of the points */
+
+/* How many vertices stand in the words of a state: so many are read of them once its part is completed, without ClosePath. */
+static long long vertices_of(bp_encoder s)
+{
+    static uint32_t copy[ROOM + 1];
+    static int32_t out[BP_READ_NUMBERS(ROOM + 1)];
+    memcpy(copy, words, ROOM * sizeof copy[0]);
+    bp_drawn d = bp_encoder_complete_geom(s, copy, COUNT(copy));
+    bp_reading r = bp_decode(copy, d.words, out, COUNT(out));
+    SAME(0, r.refusal);
+    long long count = 0;
+    for (size_t i = 0; i < r.vertices; i++)
+        count += out[3 * i] != 7;
+    return count;
+}
+
+/* The counts, and that they tell the vertices. */
+static void counts_are(int at, uint32_t taken, uint32_t boundary, uint32_t skipped, uint32_t taken_out, bp_encoder s)
+{
+    same("taken", at, taken, s.taken);
+    same("boundary", at, boundary, s.boundary);
+    same("skipped", at, skipped, s.skipped);
+    same("taken_out", at, taken_out, s.taken_out);
+    same("vertices", at, (long long)s.taken + s.boundary - s.skipped - s.taken_out, vertices_of(s));
+}
+#define COUNTS(taken_is, boundary_is, skipped_is, taken_out_is, s) counts_are(__LINE__, taken_is, boundary_is, skipped_is, taken_out_is, s)
+
+/* The state behind a point that is accepted. */
+static bp_encoder with_point(int at, bp_encoder s, int32_t x, int32_t y)
+{
+    bp_drawn d = bp_encoder_add_point(s, x, y, words, ROOM);
+    same("refusal", at, 0, d.refusal);
+    return d.state;
+}
+#define ADD(x, y) s = with_point(__LINE__, s, x, y)
+
+/* Each count by itself, in the box from 0 to 10; behind every call they tell the vertices. */
+static void counts(void)
+{
+    for (uint32_t kind = BP_POINT; kind <= BP_POLYGON; kind++)
+        COUNTS(0, 0, 0, 0, bp_encoder_new(kind, 0, 10, 0, 10).state);
+
+    fill();
+    bp_encoder s = bp_encoder_new(BP_POLYGON, 0, 10, 0, 10).state;
+    ADD(0, 0), COUNTS(1, 0, 0, 0, s); /* there is no last point yet that it could be again */
+    ADD(0, 0), COUNTS(2, 0, 1, 0, s);
+    ADD(4, 0), COUNTS(3, 0, 1, 0, s);
+    ADD(9, 0), COUNTS(4, 0, 1, 1, s); /* (4, 0) is taken out */
+    ADD(9, 9), COUNTS(5, 0, 1, 1, s);
+    const bp_encoder ring = s;
+    ADD(20, 9), COUNTS(6, 1, 2, 1, s); /* cut at (10, 9), where the point itself is clamped to */
+    ADD(20, 20), COUNTS(7, 1, 2, 1, s);
+    bp_drawn d = bp_encoder_complete_geom(s, words, ROOM);
+    SAME(0, d.refusal), COUNTS(7, 1, 2, 1, d.state);
+    s = d.state;
+    size_t used = s.used;
+    ADD(10, 10), COUNTS(8, 1, 3, 1, s); /* a part that starts on the last point: its count is 1, and no word is written */
+    SAME(1, s.count), SAME(used, s.used);
+    ADD(5, 15), COUNTS(9, 2, 4, 1, s); /* the boundary point is (10, 10) again: it is counted where it is skipped too */
+    d = bp_encoder_complete_geom(s, words, ROOM);
+    SAME(0, d.refusal), COUNTS(9, 2, 4, 1, d.state);
+
+    /* a refused call gives them back */
+    fill();
+    GIVEN_BACK(ring, bp_encoder_add_point(ring, 20, BP_LIMIT + 1, words, ROOM), BP_COORD);
+    GIVEN_BACK(ring, bp_encoder_add_point(ring, 20, 9, words, ring.used), BP_ROOM);
+    GIVEN_BACK(ring, bp_encoder_complete_geom(ring, words, ring.used), BP_ROOM);
+    UNTOUCHED();
+
+    /* a line that crosses the box; an empty part; a line that misses the box */
+    fill();
+    s = bp_encoder_new(BP_LINE, 0, 10, 0, 10).state;
+    ADD(-5, 3), COUNTS(1, 0, 0, 0, s);
+    ADD(15, 8), COUNTS(2, 2, 0, 0, s);
+    s = bp_encoder_complete_geom(s, words, ROOM).state;
+    COUNTS(2, 2, 0, 0, s);
+    s = bp_encoder_complete_geom(s, words, ROOM).state;
+    COUNTS(2, 2, 0, 0, s);
+    ADD(-1, 0), COUNTS(3, 2, 0, 0, s);
+    ADD(1, -1), COUNTS(4, 4, 2, 0, s); /* both ends are cut to (0, 0), where the last point is; the point itself goes to (1, 0) */
+    ADD(5, -1), COUNTS(5, 4, 2, 0, s);
+    ADD(7, -1), COUNTS(6, 4, 2, 0, s); /* of lines no point is taken out */
+
+    /* points are never cut */
+    fill();
+    s = bp_encoder_new(BP_POINT, 0, 10, 0, 10).state;
+    ADD(-1, -1), COUNTS(1, 0, 0, 0, s);
+    ADD(-5, -5), COUNTS(2, 0, 1, 0, s);
+    ADD(11, 5), COUNTS(3, 0, 1, 0, s);
+    d = bp_encoder_complete_geom(s, words, ROOM);
+    SAME(0, d.refusal), COUNTS(3, 0, 1, 0, d.state);
+    s = d.state;
+    ADD(20, 5), COUNTS(4, 0, 2, 0, s);
+}
+
+static bp_encoder counted(bp_encoder s, uint32_t taken, uint32_t boundary, uint32_t skipped, uint32_t taken_out)
+{
+    s.taken = taken, s.boundary = boundary, s.skipped = skipped, s.taken_out = taken_out;
+    return s;
+}
+
+/* The rule of the counts: a carried state with these is STATE for both calls, or it is not; a point's count may have no room. */
+static void balance_is(int at, bp_encoder s, uint32_t point, uint32_t part)
+{
+    fill();
+    bp_drawn d = bp_encoder_add_point(s, 3, 4, words, ROOM);
+    if (point == 0)
+        same("refusal", at, 0, d.refusal);
+    else
+        given_back(at, s, d, point), written(at, "a word", memory, NULL, 0);
+    d = bp_encoder_complete_geom(s, words, ROOM);
+    if (part == 0) {
+        same("refusal", at, 0, d.refusal);
+        state_is(at, s, d.state); /* a fresh line: nothing else of it changes either */
+    } else
+        given_back(at, s, d, part);
+}
+#define BALANCE(point, part, taken, boundary, skipped, taken_out) \
+    balance_is(__LINE__, counted(bp_encoder_new(BP_LINE, 0, 10, 0, 10).state, taken, boundary, skipped, taken_out), point, part)
+
+static void balances(void)
+{
+    const uint32_t max = UINT32_MAX;
+    BALANCE(0, 0, 0, 0, 0, 0);
+    BALANCE(0, 0, 5, 0, 0, 0); /* nothing else of them is asked */
+    BALANCE(0, 0, 3, 2, 4, 1); /* as many lost as were given */
+    BALANCE(BP_STATE, BP_STATE, 2, 2, 4, 1);
+    BALANCE(BP_STATE, BP_STATE, 3, 1, 4, 1);
+    BALANCE(BP_STATE, BP_STATE, 3, 2, 5, 1);
+    BALANCE(BP_STATE, BP_STATE, 3, 2, 4, 2);
+    BALANCE(BP_STATE, BP_STATE, 0, 0, 1, 0);
+    BALANCE(BP_STATE, BP_STATE, 0, 0, 0, 1);
+    /* sums of more than 32 bits */
+    BALANCE(BP_ROOM, 0, max, max, max, max);
+    BALANCE(BP_STATE, BP_STATE, max - 1, max, max, max);
+    BALANCE(BP_STATE, BP_STATE, max, max - 1, max, max);
+    BALANCE(BP_STATE, BP_STATE, 0, max, max, 1);
+    BALANCE(0, 0, 1, max, max, 1);
+    BALANCE(BP_STATE, BP_STATE, 0, 0, max, 1);
+    BALANCE(BP_STATE, BP_STATE, 0, 0, 1, max);
+    BALANCE(0, 0, 1, max, 1, 0);
+    BALANCE(BP_ROOM, 0, max, 1, 0, 1);
+}
+
+/* A point for which a count has room, exactly, and one for which it has none. */
+static void room_is(int at, bp_encoder s, int32_t x, int32_t y, uint32_t taken, uint32_t boundary, uint32_t skipped, uint32_t taken_out)
+{
+    s = with_point(at, s, x, y);
+    same("taken", at, taken, s.taken);
+    same("boundary", at, boundary, s.boundary);
+    same("skipped", at, skipped, s.skipped);
+    same("taken_out", at, taken_out, s.taken_out);
+}
+#define FITS(s, x, y, ...) room_is(__LINE__, s, x, y, __VA_ARGS__)
+#define NO_ROOM(s, x, y) (fill(), given_back(__LINE__, s, bp_encoder_add_point(s, x, y, words, ROOM), BP_ROOM), UNTOUCHED())
+
+static void count_rooms(void)
+{
+    const uint32_t max = UINT32_MAX;
+    bp_encoder s = bp_encoder_new(BP_LINE, 0, 10, 0, 10).state;
+    fill();
+    FITS(counted(s, max - 1, 0, 0, 0), 3, 4, max, 0, 0, 0);
+    NO_ROOM(counted(s, max, 0, 0, 0), 3, 4);
+    GIVEN_BACK(counted(s, max, 0, 0, 0), bp_encoder_add_point(counted(s, max, 0, 0, 0), BP_LIMIT + 1, 4, words, ROOM), BP_COORD);
+    GIVEN_BACK(counted(s, 0, 0, 1, 0), bp_encoder_add_point(counted(s, 0, 0, 1, 0), BP_LIMIT + 1, 4, words, ROOM), BP_STATE);
+
+    /* a line at (-5, 3): to (5, 5) one end moves, to (15, 8) both, to (-5, 8) none */
+    ADD(-5, 3);
+    FITS(counted(s, 1, max - 1, 0, 0), 5, 5, 2, max, 0, 0);
+    NO_ROOM(counted(s, 1, max - 1, 0, 0), 15, 8);
+    FITS(counted(s, 1, max - 2, 0, 0), 15, 8, 2, max, 0, 0);
+    NO_ROOM(counted(s, 1, max, 0, 0), 5, 5);
+    FITS(counted(s, 1, max, 0, 0), -5, 8, 2, max, 0, 0); /* what could come is not asked */
+
+    /* a line at (-1, 0), clamped to (0, 0): to (0, 0) the boundary point and the point are skipped, to (-2, 0) the point, to (5, 0) the boundary point */
+    s = bp_encoder_new(BP_LINE, 0, 10, 0, 10).state;
+    ADD(-1, 0);
+    FITS(counted(s, 1, 9, 8, 0), 0, 0, 2, 10, 10, 0);
+    FITS(counted(s, max - 1, 9, max - 2, 0), 0, 0, max, 10, max, 0);
+    NO_ROOM(counted(s, max - 1, 9, max - 1, 0), 0, 0);
+    FITS(counted(s, max - 1, 9, max - 1, 0), 5, 0, max, 10, max, 0);
+    FITS(counted(s, max - 1, 9, max - 1, 0), -2, 0, max, 9, max, 0);
+    NO_ROOM(counted(s, max - 1, 9, max, 0), -2, 0);
+    FITS(counted(s, max - 1, 9, max, 0), -2, 1, max, 9, max, 0);
+
+    /* a ring at (0, 0), (4, 0): (9, 0) takes the second out, (9, 9) does not */
+    s = bp_encoder_new(BP_POLYGON, 0, 10, 0, 10).state;
+    fill();
+    ADD(0, 0);
+    ADD(4, 0);
+    FITS(counted(s, max - 1, 2, 0, max - 1), 9, 0, max, 2, 0, max);
+    NO_ROOM(counted(s, max - 1, 2, 0, max), 9, 0);
+    FITS(counted(s, max - 1, 2, 0, max), 9, 9, max, 2, 0, max);
+}
+
+/* ---- a whole job with its state */
+
+/* Document 01's sample jobs and those of samples/: the counts behind the last call, or the refusal and the accepted points. */
+static const struct sample {
+    uint32_t kind;
+    bp_box box;
+    size_t points, parts;
+    int32_t at[20];
+    uint32_t ends[2], refusal, taken, boundary, skipped, taken_out;
+} sample_jobs[] = {
+    {BP_POINT, {0, 100, 0, 100}, 2, 1, {5, 7, 3, 2}, {2}, 0, 2, 0, 0, 0},
+    {BP_LINE, {0, 10, 0, 10}, 3, 1, {2, 2, 2, 10, 10, 10}, {3}, 0, 3, 0, 0, 0},
+    {BP_LINE, {0, 10, 0, 10}, 5, 2, {2, 2, 2, 10, 10, 10, 1, 1, 3, 5}, {3, 5}, 0, 5, 0, 0, 0},
+    {BP_POLYGON, {0, 100, 0, 100}, 3, 1, {3, 6, 8, 12, 20, 34}, {3}, 0, 3, 0, 0, 0},
+    {BP_POLYGON, {0, 10, 0, 10}, 4, 1, {0, 0, 4, 0, 9, 0, 9, 9}, {4}, 0, 4, 0, 0, 1},
+    {BP_POLYGON, {0, 10, 0, 10}, 6, 2, {0, 0, 4, 0, 4, 4, 4, 4, 8, 4, 8, 8}, {3, 6}, 0, 6, 0, 1, 0},
+    {BP_LINE, {0, 10, 0, 10}, 2, 1, {-5, 3, 15, 8}, {2}, 0, 2, 2, 0, 0},
+    {BP_LINE, {0, 10, 0, 10}, 2, 1, {-1, -1, 11, 11}, {2}, 0, 2, 2, 2, 0},
+    {BP_POLYGON, {0, 10, 0, 10}, 3, 1, {5, 5, 15, 5, 5, 15}, {3}, 0, 3, 3, 2, 0},
+    {BP_LINE, {0, 10, 0, 10}, 4, 1, {-1, 0, 0, 0, -1, 0, 0, 0}, {4}, 0, 4, 3, 6, 0},
+    {BP_POLYGON, {0, 10, 0, 10}, 8, 1, {0, 0, 3, 0, 6, 0, 6, 0, 9, 0, 9, 4, 9, 15, 0, 15}, {8}, 0, 8, 1, 2, 3},
+    {BP_LINE, {-BP_LIMIT, BP_LIMIT, -BP_LIMIT, BP_LIMIT}, 2, 1, {BP_LIMIT, -BP_LIMIT, 0, 0}, {2}, 0, 2, 0, 0, 0},
+    {BP_LINE, {0, 0, 0, 0}, 1, 1, {1, 1}, {1}, BP_BOX, 0, 0, 0, 0},
+    {BP_LINE, {0, BP_LIMIT + 1, 0, 10}, 1, 1, {1, 1}, {1}, BP_BOX, 0, 0, 0, 0},
+    {BP_LINE, {0, 10, 0, 10}, 2, 1, {1, 1, BP_LIMIT + 1, 1}, {2}, BP_COORD, 1, 0, 0, 0},
+    {BP_POINT, {0, 10, 0, 10}, 0, 1, {0}, {0}, BP_EMPTY, 0, 0, 0, 0},
+    {4, {0, 10, 0, 10}, 1, 1, {1, 1}, {1}, BP_KIND, 0, 0, 0, 0},
+    {BP_LINE, {0, 10, 0, 10}, 3, 2, {1, 1, 2, 2, 3, 3}, {2, 1}, BP_JOB, 0, 0, 0, 0},
+};
+
+/* The state of a job whose calls are made one by one, all of them accepted. */
+static bp_encoder by_calls(const struct sample *j)
+{
+    bp_encoder s = bp_encoder_new_in(j->kind, j->box).state;
+    for (size_t part = 0, i = 0; part < j->parts; part++) {
+        for (; i < j->ends[part]; i++)
+            ADD(j->at[2 * i], j->at[2 * i + 1]);
+        bp_drawn d = bp_encoder_complete_geom(s, words, ROOM);
+        SAME(0, d.refusal);
+        s = d.state;
+    }
+    return s;
+}
+
+/* The same state by the whole job and by its calls, and its counts tell the vertices. */
+static void job_state_is(int at, const struct sample *j, bp_encoder s)
+{
+    static uint32_t expected[COUNT(memory)];
+    memcpy(expected, memory, sizeof memory);
+    counts_are(at, s.taken, s.boundary, s.skipped, s.taken_out, s);
+    fill();
+    state_is(at, by_calls(j), s);
+    same("the words", at, 0, memcmp(expected, memory, sizeof memory));
+}
+
+/* Jobs of up to ten points around a small box, as a generator has them. */
+static void many_states(void)
+{
+    uint32_t seed = 9;
+    for (int i = 0; i < 2000; i++) {
+        struct sample j = {1 + (uint32_t)i % 3, {0, 10, 0, 10}, 1 + (size_t)i % 10, 2, {0}, {0}, 0, 0, 0, 0, 0};
+        for (size_t k = 0; k < 2 * j.points; k++) {
+            seed = seed * 1664525u + 1013904223u;
+            j.at[k] = (int32_t)(seed >> 24) % 7 * 3 - 4;
+        }
+        j.ends[0] = 1 + seed % (uint32_t)j.points, j.ends[1] = (uint32_t)j.points;
+        const bp_geometry g = {j.kind, j.box, j.at, 2 * j.points, j.ends, 2};
+        fill();
+        bp_finished f = bp_encode_state_in(&g, words, ROOM);
+        SAME(0, f.refusal), SAME(j.points, f.points), SAME(j.points, f.state.taken);
+        job_state_is(__LINE__, &j, f.state);
+    }
+}
+
+static void job_states(void)
+{
+    static uint32_t expected[COUNT(memory)];
+    const bp_encoder none = {0};
+    for (size_t i = 0; i < COUNT(sample_jobs); i++) {
+        const struct sample *j = &sample_jobs[i];
+        const bp_geometry g = {j->kind, j->box, j->at, 2 * j->points, j->ends, j->parts};
+        fill();
+        bp_job plain = bp_encode_in(&g, words, ROOM);
+        memcpy(expected, memory, sizeof memory);
+        fill();
+        bp_finished f = bp_encode_job_state(j->kind, j->box.x_min, j->box.x_max, j->box.y_min, j->box.y_max, j->at, 2 * j->points, j->ends, j->parts, words, ROOM);
+        SAME(j->refusal, f.refusal), SAME(plain.refusal, f.refusal);
+        SAME(j->taken, f.points), SAME(plain.points, f.points);
+        SAME(plain.words, f.state.used), SAME(0, memcmp(expected, memory, sizeof memory));
+        if (f.refusal == 0) {
+            COUNTS(j->taken, j->boundary, j->skipped, j->taken_out, f.state);
+            job_state_is(__LINE__, j, f.state);
+        } else
+            STATE(none, f.state);
+    }
+
+    /* four different edges, two parts; then no room for the third point: the words as two points left them, and no state */
+    fill();
+    bp_finished f = bp_encode_job_state(BP_LINE, -3, 40, 5, 17, points, COUNT(points), ends, COUNT(ends), words, ROOM);
+    SAME(0, f.refusal), SAME(5, f.points), SAME(20, f.state.used), WRITTEN(line), COUNTS(5, 3, 0, 0, f.state);
+    SAME(BP_LINE, f.state.kind), SAME(-3, f.state.x_min), SAME(40, f.state.x_max), SAME(5, f.state.y_min), SAME(17, f.state.y_max);
+    SAME(0, f.state.count), SAME(17, f.state.cmd_offset), POINT(0, 0, 0, f.state.xy_end), POINT(0, 0, 0, f.state.pt0), POINT(1, 8, 12, f.state.pt1);
+    const uint32_t two[] = {9, 5, 10, 10, 0, 4, 54, 20, 32, 0};
+    fill();
+    f = bp_encode_job_state(BP_LINE, -3, 40, 5, 17, points, COUNT(points), ends, COUNT(ends), words, 11);
+    SAME(BP_ROOM, f.refusal), SAME(2, f.points), STATE(none, f.state), WRITTEN(two);
+    GIVEN_BACK(f.state, bp_encoder_add_point(f.state, 0, 0, words, ROOM), BP_STATE);
+    GIVEN_BACK(f.state, bp_encoder_complete_geom(f.state, words, ROOM), BP_STATE);
+    fill();
+    f = bp_encode_job_state(BP_LINE, -3, 40, 5, 17, points, COUNT(points) - 1, ends, COUNT(ends), words, ROOM);
+    SAME(BP_JOB, f.refusal), SAME(0, f.points), STATE(none, f.state), UNTOUCHED();
+}
+
 /* What a list needs at most: it is enough, and is taken up. */
 static void sizes(void)
 {
@@ -414,14 +737,20 @@ static void inlines(void)
     SAME(0, j.refusal), SAME(5, j.points), SAME(20, j.words), WRITTEN(line), NAMED(line_edges);
     j = bp_encode_edges_in(&g, words, ROOM, NULL, 0);
     SAME(BP_ROOM, j.refusal), SAME(0, j.points);
+    fill();
+    bp_finished f = bp_encode_state_in(&g, words, ROOM);
+    SAME(0, f.refusal), SAME(5, f.points), SAME(20, f.state.used), SAME(5, f.state.taken), SAME(3, f.state.boundary), WRITTEN(line);
     const uint32_t none[] = {0};
     g = (bp_geometry){BP_LINE, box, NULL, 0, none, 1};
     j = bp_encode_in(&g, NULL, 0);
     SAME(0, j.refusal), SAME(0, j.words);
     j = bp_encode_edges_in(&g, NULL, 0, NULL, 0);
     SAME(0, j.refusal), SAME(0, j.words);
+    f = bp_encode_state_in(&g, NULL, 0);
+    SAME(0, f.refusal), SAME(0, f.points), SAME(BP_LINE, f.state.kind), SAME(5, f.state.y_min);
     g.ends = NULL, g.ends_len = 0;
     SAME(BP_JOB, bp_encode_in(&g, NULL, 0).refusal);
+    SAME(BP_JOB, bp_encode_state_in(&g, NULL, 0).refusal);
     SAME(BP_JOB, bp_encode_edges_in(&g, NULL, 0, NULL, 0).refusal);
     SAME(0, bp_decode_in(NULL, 0, NULL, 0).refusal);
     SAME(BP_ROOM, bp_decode_in(line, COUNT(line), NULL, 0).refusal);
@@ -450,5 +779,10 @@ int main(void)
     edge_jobs();
     readings();
     calls();
+    counts();
+    balances();
+    count_rooms();
+    job_states();
+    many_states();
     return ended("clips, jobs, vertices and the encoder");
 }

@@ -14,7 +14,9 @@ use Rattle.decoder.specs.declared.Reading.the-variants.{Read, Refused as NotRea
 use Rattle.decoder.specs.ReadingWords.{saidReading}
 use Rattle.encoder.specs.declared.whole_job.Encoded.{Encoded}
 use Rattle.encoder.specs.declared.whole_job.Encoded.the-variants.{Words, Refused as NotEncoded}
-use Rattle.encoder.specs.Jobs.{saidEncoded}
+use Rattle.encoder.specs.declared.whole_job.Course.{Course}
+use Rattle.encoder.specs.declared.whole_job.Course.the-variants.{On, Off}
+use Rattle.encoder.specs.Jobs.{saidEncoded, outcomeOf}
 use Rattle.encoder.specs.declared.GeomEncoder.{GeomEncoder}
 use Rattle.encoder.specs.declared.Started.{Started}
 use Rattle.encoder.specs.declared.Started.the-variants.{Fresh, Refused as NotStarted}
@@ -25,10 +27,11 @@ use Rattle.encoder.specs.Answers.{saidStarted, saidDrawn, edgesOf}
 use Rattle.clip.specs.Numbers.{edgeNumber}
 use Rattle.brinepost.specs.declared.vertices.BpReading.{BpReading}
 use Rattle.brinepost.specs.declared.work.BpJob.{BpJob}
+use Rattle.brinepost.specs.declared.finished.BpFinished.{BpFinished}
 use Rattle.brinepost.specs.declared.state.BpEncoder.{BpEncoder}
 use Rattle.brinepost.specs.declared.calls.BpStarted.{BpStarted}
 use Rattle.brinepost.specs.declared.calls.BpDrawn.{BpDrawn}
-use Rattle.brinepost.specs.Works.{flatJob}
+use Rattle.brinepost.specs.Works.{flatJob, flatFinished}
 use Rattle.brinepost.specs.Readings.{flatReading}
 use Rattle.brinepost.specs.Carried.{stateTo, nothing}
 use Rattle.brinepost.specs.Drawing.{flatStarted, flatDrawn, flagged}
@@ -54,6 +57,15 @@ module _ (r : Encoded) (points : ℕ) where
   pub job-not : (k : Refusal) (taken n : ℕ) → r ≡ NotEncoded k taken → n ≡ numberOf k → _≡_ {A = BpJob} (record { refusal = n; points = taken; words = 0 }) (flatJob points (saidEncoded r))
   unfolding flatJob
   job-not k taken n e h = rw (e, h, never-zero k)
+
+module _ (r : Course) (points : ℕ) where
+  pub finish-done : (s : GeomEncoder) (c : BpEncoder) → r ≡ On s → c ≡ stateTo s → _≡_ {A = BpFinished} (record { refusal = 0; points = points; state = c }) (flatFinished points (outcomeOf points r))
+  unfolding flatFinished
+  finish-done s c e h = rw (e, h)
+
+  pub finish-not : (k : Refusal) (taken n : ℕ) (c : BpEncoder) → r ≡ Off k taken → n ≡ numberOf k → c ≡ nothing → _≡_ {A = BpFinished} (record { refusal = n; points = taken; state = c }) (flatFinished points (outcomeOf points r))
+  unfolding flatFinished
+  finish-not k taken n c e h i = rw (e, h, i)
 
 module _ (r : Started) where
   pub start-done : (s : GeomEncoder) (c : BpEncoder) → r ≡ Fresh s → c ≡ stateTo s → _≡_ {A = BpStarted} (record { refusal = 0; state = c }) (flatStarted (saidStarted r))

@@ -23,6 +23,7 @@ areFlags s = leb (s .«xy_end» .«is_set») 1 && leb (s .pt0 .«is_set») 1 && 
 unfoldable pub stateOf : BpEncoder → GeomEncoder
 stateOf s =
     record {
+      tally = record { taken = s .taken; boundary = s .boundary; skipped = s .skipped; «taken_out» = s .«taken_out» };
       kind = s .kind;
       bbox = record { «x_min» = s .«x_min»; «x_max» = s .«x_max»; «y_min» = s .«y_min»; «y_max» = s .«y_max» };
       «xy_end» = pointOf (s .«xy_end»);
@@ -47,6 +48,10 @@ stateTo s =
       «xy_end» = pointTo (s .«xy_end»);
       pt0 = pointTo (s .pt0);
       pt1 = pointTo (s .pt1);
+      taken = s .tally .taken;
+      boundary = s .tally .boundary;
+      skipped = s .tally .skipped;
+      «taken_out» = s .tally .«taken_out»;
     }
 
 -- every number 0: where there is no state to give
@@ -64,4 +69,8 @@ nothing =
       «xy_end» = pointTo Nowhere;
       pt0 = pointTo Nowhere;
       pt1 = pointTo Nowhere;
+      taken = 0;
+      boundary = 0;
+      skipped = 0;
+      «taken_out» = 0;
     }

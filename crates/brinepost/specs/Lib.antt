@@ -1,5 +1,5 @@
 pub mod Segments
+pub mod Carried
 pub mod Works
 pub mod Readings
-pub mod Carried
 pub mod Drawing

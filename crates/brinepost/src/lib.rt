@@ -4,6 +4,7 @@
 pub mod segment; // one segment cut at a box
 pub mod work; // a whole job
 pub mod edged; // a whole job with its edges
+pub mod finished; // a whole job with the state that it ends in
 pub mod vertices; // words to vertices
 pub mod state; // an encoder's state as C carries it
 pub mod calls; // the encoder call by call

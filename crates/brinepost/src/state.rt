@@ -6,6 +6,7 @@ use clip::BBox;
 use clip::Pt;
 use encoder::GeomEncoder;
 use encoder::points::MaybePt;
+use encoder::tally::Tally;
 
 #[repr(C)]
 pub struct BpPoint {
@@ -27,6 +28,10 @@ pub struct BpEncoder {
     pub xy_end: BpPoint,
     pub pt0: BpPoint,
     pub pt1: BpPoint,
+    pub taken: u32, // the counts of the points since the state was fresh
+    pub boundary: u32,
+    pub skipped: u32,
+    pub taken_out: u32,
 }
 
 fn point_of(p: BpPoint) -> MaybePt
@@ -91,7 +96,14 @@ pub(crate) fn state_of(s: BpEncoder) -> GeomEncoder
     let xy_end = point_of(end);
     let pt0 = point_of(before);
     let pt1 = point_of(last);
+    let tally = Tally {
+        taken: s.taken,
+        boundary: s.boundary,
+        skipped: s.skipped,
+        taken_out: s.taken_out,
+    };
     GeomEncoder {
+        tally: tally,
         kind: s.kind,
         bbox: bbox,
         xy_end: xy_end,
@@ -118,6 +130,7 @@ pub(crate) fn state_to(s: GeomEncoder) -> BpEncoder
     let xy_end = point_to(end);
     let pt0 = point_to(before);
     let pt1 = point_to(last);
+    let tally = s.tally;
     BpEncoder {
         kind: s.kind,
         count: s.count,
@@ -130,10 +143,14 @@ pub(crate) fn state_to(s: GeomEncoder) -> BpEncoder
         xy_end: xy_end,
         pt0: pt0,
         pt1: pt1,
+        taken: tally.taken,
+        boundary: tally.boundary,
+        skipped: tally.skipped,
+        taken_out: tally.taken_out,
     }
 }
 
-// What a refused `new` gives in place of a state: every number 0. No call takes it, since 0 is no kind.
+// What a refused `new`, and a refused job, gives in place of a state: every number 0. No call takes it, since 0 is no kind.
 pub(crate) fn no_state() -> BpEncoder
     ensures { λ r. ⌜ r ≡ nothing ⌝ }
 {
@@ -154,5 +171,9 @@ pub(crate) fn no_state() -> BpEncoder
         xy_end: p,
         pt0: p,
         pt1: p,
+        taken: 0,
+        boundary: 0,
+        skipped: 0,
+        taken_out: 0,
     }
 }

@@ -1,5 +1,5 @@
 -- What each way through a file answers, over plain lists.
-use mathlib.Core.Path.{_≡_, refl, sym, _∙_}
+use mathlib.Core.Path.{_≡_, refl, sym, _∙_, ap}
 use mathlib.Core.List.{List, map}
 use Prim.Native.Nat.{ℕ, _+_, _*_, _-_, _/_, _<_, _≤_}
 use native.Mathlib.Omega.{arith}
@@ -9,7 +9,7 @@ use lib.Dec.{leb}
 use lib.IntN.{ℤ}
 use lib.ListN.{length, take, drop, getD, length-map, length-drop}
 use lib.Seq.{take-all}
-use Rattle.promise.specs.Answers.{Gives, kept}
+use Rattle.promise.specs.Answers.{Written, Gives, kept}
 use Rattle.promise.specs.Laid.{lay}
 use Rattle.promise.proofs.Laying.{take-lay}
 use Rattle.promise.proofs.Cases.{gives-kept}
@@ -18,17 +18,21 @@ use Rattle.refusal.specs.Said.{Said, accepted, refused}
 use Rattle.refusal.proofs.Laws.{never-both}
 use Rattle.clip.specs.declared.BBox.{BBox}
 use Rattle.whole.specs.Twos.{signed32}
-use Rattle.encoder.specs.Jobs.{encodedJob}
+use Rattle.encoder.specs.declared.GeomEncoder.{GeomEncoder}
+use Rattle.encoder.specs.declared.whole_job.Course.{Course}
+use Rattle.encoder.specs.Jobs.{Outcome, on, off, outcome, encodedJob, finishedJob, endOf}
 use Rattle.encoder.proofs.Within.{encoded-within}
+use Rattle.encoder.proofs.Whole.{encoded-finished}
+use Rattle.encoder.proofs.Losses.{finished-balanced}
 use Rattle.edge_job.specs.EdgeJobs.{Lists, edgeJob}
 use Rattle.job_file.specs.declared.Body.{Body}
 use Rattle.job_file.specs.declared.Body.the-variants.{At, Cut}
-use Rattle.job_file.specs.JobFile.{kindOf, partsOf, boxOf, endsOf, pointsIn, bodyEncoded, jobFile, bodyOf, countIn, pointCount, bodyEdges, jobFileEdges}
+use Rattle.job_file.specs.JobFile.{kindOf, partsOf, boxOf, endsOf, pointsIn, bodyEncoded, jobFile, bodyOf, countIn, pointCount, bodyEdges, jobFileEdges, bodyFinished, bodyEnd, jobFileFinished, fileEnd}
 
 at-not-cut : {n : ℕ} → At n ≡ Cut → ⊥
 at-not-cut e = let z : _≡_ {A = ℕ} 0 1 = cc in omega arith
 
--- ---- the two bodies: the front of the points' list, once they are laid, is the points
+-- ---- the three bodies: the front of the points' list, once they are laid, is the points
 module _ (file : List ℕ) (points : List ℤ) (body : ℕ) (h : body ≤ length file) (k : length file ≤ length points) where
   body-long : length (map signed32 (drop body file)) ≡ length file - body
   body-long = length-map (drop body file) signed32 ∙ length-drop body file
@@ -52,6 +56,12 @@ module _ (file : List ℕ) (points : List ℤ) (body : ℕ) (h : body ≤ length
       → Gives (encodedJob (getD file 0 0) bbox (take (length file - body) l) (take (body - 6) (drop 6 file)) words) answer ws
       → Gives (bodyEncoded file body words) answer ws
   encoded-body words l g bbox f answer ws w = rw (laid-points l g, f) at w
+
+  pub finished-body : (words : List ℕ) (l : List ℤ) → l ≡ lay 0 (map signed32 (take (length file - body) (drop body file))) points
+      → (bbox : BBox) → bbox ≡ boxOf file → (r : Course) (ws : List ℕ)
+      → Gives (finishedJob (getD file 0 0) bbox (take (length file - body) l) (take (body - 6) (drop 6 file)) words) (endOf (take (length file - body) l) r) ws
+      → Gives (bodyFinished file body words) (bodyEnd file body r) ws
+  finished-body words l g bbox f r ws w = rw (laid-points l g, f) at w
 
 -- ---- where the points begin
 module _ (file : List ℕ) (a : length file ≤ 16384) (b : 6 ≤ length file) (parts : ℕ) (e : parts ≡ getD file 5 0) where
@@ -103,6 +113,10 @@ module _ (file : List ℕ) (r : Body) (e : r ≡ bodyOf file) where
     unfolding jobFileEdges
     cut-edges m = rw (cut-file (edgeJob (kindOf file) (boxOf file) (pointsIn file) (endsOf file) m) (kept (refused Job 0) m)) (gives-kept _ _)
 
+    pub cut-finished : (words : List ℕ) → Gives (jobFileFinished file words) (off (refused Job 0)) words
+    unfolding jobFileFinished
+    cut-finished words = rw (cut-file (finishedJob (kindOf file) (boxOf file) (pointsIn file) (endsOf file) words) (kept (off (refused Job 0)) words)) (gives-kept _ _)
+
     pub cut-count : 0 ≡ pointCount file
     cut-count = rw (← e, h)
 
@@ -128,6 +142,12 @@ module _ (file : List ℕ) (body : ℕ) (w : Whole file body) where
       let n : 6 + partsOf file - 6 ≡ partsOf file = omega arith in
       rw (le-leb (length file) 16384 (w .few), le-leb 6 (length file) (w .table), le-leb (partsOf file) (length file - 6) (w .ends)) (rw (w .at, n) at g)
 
+  pub whole-finished : (words : List ℕ) (r : Course) (ws : List ℕ) → Gives (bodyFinished file body words) (bodyEnd file body r) ws → Gives (jobFileFinished file words) (fileEnd file r) ws
+  unfolding jobFileFinished
+  whole-finished words r ws g =
+      let n : 6 + partsOf file - 6 ≡ partsOf file = omega arith in
+      rw (le-leb (length file) 16384 (w .few), le-leb 6 (length file) (w .table), le-leb (partsOf file) (length file - 6) (w .ends)) (rw (w .at, n) at g)
+
 -- ---- a file's edges are not more than its numbers
 pub count-within : (file : List ℕ) → 2 * pointCount file ≤ length file
 count-within file = by (bodyOf file)
@@ -148,3 +168,41 @@ file-within file words k = by (leb (length file) 16384) (leb 6 (length file)) (l
     by true false c e = absurd (never-both Job (sym e))
     by true true false e = absurd (never-both Job (sym e))
     by true true true e = encoded-within (kindOf file) (boxOf file) (pointsIn file) (endsOf file) words k e
+
+-- ---- the words of a file, and its refusal, are those of the state behind its last call
+pub file-finished : (file words : List ℕ) → jobFile file words ≡ record { answer = outcome (jobFileFinished file words .answer); memory = jobFileFinished file words .memory }
+unfolding jobFile jobFileFinished
+file-finished file words = by (leb (length file) 16384) (leb 6 (length file)) (leb (partsOf file) (length file - 6))
+  where
+    said : Written Outcome (List ℕ) → Written (Said ℕ) (List ℕ)
+    said w = record { answer = outcome (w .answer); memory = w .memory }
+
+    by : (a b c : Bool)
+        → cond a (cond b (cond c (encodedJob (kindOf file) (boxOf file) (pointsIn file) (endsOf file) words) (kept (refused Job 0) words)) (kept (refused Job 0) words)) (kept (refused Job 0) words)
+        ≡ said (cond a (cond b (cond c (finishedJob (kindOf file) (boxOf file) (pointsIn file) (endsOf file) words) (kept (off (refused Job 0)) words)) (kept (off (refused Job 0)) words)) (kept (off (refused Job 0)) words))
+    by false b c = refl
+    by true false c = refl
+    by true true false = refl
+    by true true true = encoded-finished (kindOf file) (boxOf file) (pointsIn file) (endsOf file) words
+
+-- ---- of an accepted file no more points are lost than were given
+is-on : Outcome → ℕ
+is-on (on n s) = 1
+is-on (off a) = 0
+
+never-on : {a : Said ℕ} {n : ℕ} {s : GeomEncoder} → off a ≡ on n s → ⊥
+unfolding is-on
+never-on e = let z : _≡_ {A = ℕ} 0 1 = ap is-on e in omega arith
+
+pub file-balanced : (file words : List ℕ) (n : ℕ) (s : GeomEncoder) → jobFileFinished file words .answer ≡ on n s
+    → s .tally .skipped + s .tally .«taken_out» ≤ s .tally .taken + s .tally .boundary
+unfolding jobFileFinished
+file-balanced file words n s = by (leb (length file) 16384) (leb 6 (length file)) (leb (partsOf file) (length file - 6))
+  where
+    by : (a b c : Bool)
+        → cond a (cond b (cond c (finishedJob (kindOf file) (boxOf file) (pointsIn file) (endsOf file) words) (kept (off (refused Job 0)) words)) (kept (off (refused Job 0)) words)) (kept (off (refused Job 0)) words) .answer ≡ on n s
+        → s .tally .skipped + s .tally .«taken_out» ≤ s .tally .taken + s .tally .boundary
+    by false b c e = absurd (never-on e)
+    by true false c e = absurd (never-on e)
+    by true true false e = absurd (never-on e)
+    by true true true e = finished-balanced (kindOf file) (boxOf file) (pointsIn file) (endsOf file) words n s e

@@ -12,7 +12,8 @@ use Rattle.refusal.specs.Said.{Said, refused}
 use Rattle.clip.specs.declared.BBox.{BBox}
 use Rattle.number_file.specs.Numbers.{maxBytes}
 use Rattle.whole.specs.Twos.{signed32}
-use Rattle.encoder.specs.Jobs.{encodedJob}
+use Rattle.encoder.specs.declared.whole_job.Course.{Course}
+use Rattle.encoder.specs.Jobs.{Outcome, off, encodedJob, finishedJob, endOf}
 use Rattle.edge_job.specs.EdgeJobs.{Lists, edgeJob}
 use Rattle.job_file.specs.declared.Body.{Body}
 use Rattle.job_file.specs.declared.Body.the-variants.{At, Cut}
@@ -66,6 +67,26 @@ jobFileEdges file m =
 
 abbrev pub bodyEdges : List ℕ → ℕ → Lists → Written (Said ℕ) Lists
 bodyEdges file body m = edgeJob (kindOf file) (boxOf file) (map signed32 (drop body file)) (take (body - 6) (drop 6 file)) m
+
+-- ---- the same file, with the state behind its last call (document 02, request (ix)), and what the code's course stands for there
+unfoldable pub jobFileFinished : List ℕ → List ℕ → Written Outcome (List ℕ)
+jobFileFinished file words =
+    cond (leb (length file) (maxBytes / 4))
+    (cond (leb 6 (length file))
+    (cond (leb (partsOf file) (length file - 6))
+    (finishedJob (kindOf file) (boxOf file) (pointsIn file) (endsOf file) words)
+    (kept (off (refused Job 0)) words))
+    (kept (off (refused Job 0)) words))
+    (kept (off (refused Job 0)) words)
+
+abbrev pub fileEnd : List ℕ → Course → Outcome
+fileEnd file r = endOf (pointsIn file) r
+
+abbrev pub bodyFinished : List ℕ → ℕ → List ℕ → Written Outcome (List ℕ)
+bodyFinished file body words = finishedJob (kindOf file) (boxOf file) (map signed32 (drop body file)) (take (body - 6) (drop 6 file)) words
+
+abbrev pub bodyEnd : List ℕ → ℕ → Course → Outcome
+bodyEnd file body r = endOf (map signed32 (drop body file)) r
 
 -- ---- where the points begin, by the same tests, and how many there are; a file that is refused for its table has none
 unfoldable pub bodyOf : List ℕ → Body

@@ -1,4 +1,4 @@
-// A job file's numbers to words (RULES 11), or to words and edges: the contents table is taken apart, and the job encoded.
+// A job file's numbers to words (RULES 11), to words and edges, or to the state behind the last call: the contents table is taken apart, and the job encoded.
 ghost use mathlib.Core.Path.{_≡_};
 ghost use mathlib.Core.List.{map};
 ghost use Prim.Native.Nat.{_≤_};
@@ -8,8 +8,9 @@ ghost use Rattle.promise.specs.Laid.{lay};
 ghost use Rattle.whole.specs.Twos.{signed32};
 ghost use Rattle.encoder.specs.Jobs.{saidEncoded};
 ghost use Rattle.edge_job.specs.EdgeJobs.{Writes};
-ghost use Rattle.job_file.specs.JobFile.{boxOf, bodyEncoded, jobFile, bodyOf, pointCount, bodyEdges, jobFileEdges};
+ghost use Rattle.job_file.specs.JobFile.{boxOf, bodyEncoded, jobFile, bodyOf, pointCount, bodyEdges, jobFileEdges, bodyFinished, bodyEnd, jobFileFinished, fileEnd};
 use clip::BBox;
+use encoder::whole_job::Course;
 use encoder::whole_job::Encoded;
 use number::signed32;
 use number::wide;
@@ -135,6 +136,31 @@ pub fn encode_file_edges(file: &[u32], words: &mut [u32], edges: &mut [u32]) -> 
         Body::At(body) => {
             let mut points = [0i32; 16384];
             encode_body_edges(file, body, &mut points, words, edges)
+        }
+    }
+}
+
+// As `encode_body`, with the state behind the last call, its counts among it.
+fn finish_body(file: &[u32], body: usize, points: &mut [i32], words: &mut [u32]) -> Course
+    requires { ⌜ 6 ≤ body ⌝ }
+    requires { ⌜ body ≤ length (now file) ⌝ }
+    requires { ⌜ length (now file) ≤ length (now points) ⌝ }
+    ensures { λ r. ⌜ Gives (bodyFinished (now (file .entry)) body (now (words .entry))) (bodyEnd (now (file .entry)) body r) (now (words .exit)) ⌝ }
+{
+    let n = file.len() - body;
+    lay_signed(&file[body..], points);
+    encoder::whole_job::finish(file[0], box_of(file), &points[..n], &file[6..body], words)
+}
+
+// As `encode_file`, with the state behind the last call, its counts among it.
+pub fn finish_file(file: &[u32], words: &mut [u32]) -> Course
+    ensures { λ r. ⌜ Gives (jobFileFinished (now (file .entry)) (now (words .entry))) (fileEnd (now (file .entry)) r) (now (words .exit)) ⌝ }
+{
+    match body_of(file) {
+        Body::Cut => Course::Off(Refusal::Job, 0),
+        Body::At(body) => {
+            let mut points = [0i32; 16384];
+            finish_body(file, body, &mut points, words)
         }
     }
 }

@@ -1,5 +1,5 @@
-// What the programs print, laid out in lent bytes: lines of numbers in decimal, one or two to a line, rows of them, lines of a tile's outcomes,
-// and of bytes in hexadecimal; and how much of a list, and of a text, is printed.
+// What the programs print, laid out in lent bytes: lines of numbers in decimal, one or two to a line, rows of them, the counts of what was lost,
+// lines of a tile's outcomes, and of bytes in hexadecimal; and how much of a list, and of a text, is printed.
 ghost use mathlib.Core.Path.{_≡_};
 ghost use Prim.Native.Nat.{_+_, _*_, _<_, _≤_};
 ghost use lib.ListN.{length, take};
@@ -8,6 +8,7 @@ ghost use Rattle.printed.specs.Decimal.{ended};
 ghost use Rattle.printed.specs.Lending.{Appends, Shows};
 ghost use Rattle.printed.specs.Printed.{column, wordsText, wordsRoom, refusedText, refusedRoom};
 ghost use Rattle.printed.specs.Pairs.{pairLine, pairLines, edgesText, edgesRoom};
+ghost use Rattle.printed.specs.Losses.{headed, lossesText, lossesRoom};
 ghost use Rattle.printed.specs.Row.{signedEnded, behind, rowRoom, rowText};
 ghost use Rattle.printed.specs.Tiles.{outcomeLine, outcomeLines, hexDigit, hexByte, endsLine, hexLines, tileText, tileRoom};
 use number::long;
@@ -19,6 +20,9 @@ pub struct Text {}
 impl Text {
     // For `words N` and the words of any job, or `edges N` and its edges: 27 bytes, and 21 for each of 16,384 numbers.
     pub const WORDS: usize = 27 + 21 * 16_384;
+
+    // For the five lines of what was lost: 42 bytes of names, and 21 for each number.
+    pub const LOSSES: usize = 42 + 21 * 5;
 
     // For a tile's answer. The checker does not go through a larger list.
     pub const TILE: usize = 450_000;
@@ -154,6 +158,37 @@ pub fn show_edges(edges: &[u32], text: &mut [u8]) -> usize
     append(b"edges ", 0, text);
     let at = append_number((edges.len() / 2) as u64, b'\n', 6, text);
     append_pairs(edges, at, text)
+}
+
+// Lays a line with a name, a blank behind it, and a number at a place of the text: the place after it.
+fn append_line(name: &[u8], n: u64, at: usize, text: &mut [u8]) -> usize
+    requires { ⌜ at + length (now name) + 21 ≤ length (now text) ⌝ }
+    ensures { λ r. ⌜ Appends (headed (now (name .entry)) n) at r text ⌝ }
+{
+    append(name, at, text);
+    append_number(n, b'\n', at + name.len(), text)
+}
+
+// The four counts of a job and its vertices, each on a line with its name: how many bytes it is. A text of fewer than 147 bytes stays as it is, and
+// the answer is 0.
+pub fn show_losses(
+    taken: u64,
+    boundary: u64,
+    skipped: u64,
+    out: u64,
+    vertices: u64,
+    text: &mut [u8],
+) -> usize
+    ensures { λ r. ⌜ Shows lossesRoom (lossesText taken boundary skipped out vertices) r text ⌝ }
+{
+    if text.len() < 147 {
+        return 0;
+    }
+    let one = append_line(b"taken ", taken, 0, text);
+    let two = append_line(b"boundary ", boundary, one, text);
+    let three = append_line(b"skipped ", skipped, two, text);
+    let four = append_line(b"taken out ", out, three, text);
+    append_line(b"vertices ", vertices, four, text)
 }
 
 // Lays a number in decimal, `-` before a negative one, and then `end` at a place of the text: the place after them.

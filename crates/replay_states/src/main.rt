@@ -5,6 +5,7 @@ use encoder::Drawn;
 use encoder::GeomEncoder;
 use encoder::Started;
 use encoder::points::MaybePt;
+use encoder::tally::Tally;
 use number::signed_long;
 use replay::number;
 use replay::signed_at;
@@ -41,9 +42,10 @@ fn box_of(case: &[u32]) -> BBox {
     }
 }
 
-// The state that a case carries; one of zeros where it has no numbers.
+// The state that a case carries; one of zeros where it has no numbers. The Rust has no counts, so it has taken no points.
 fn carried(case: &[u32]) -> GeomEncoder {
     GeomEncoder {
+        tally: Tally::none(),
         kind: number(case, 2),
         bbox: box_of(case),
         xy_end: stored(case, 7, 8, 9),

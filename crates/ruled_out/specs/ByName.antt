@@ -2,7 +2,7 @@
 -- it is named. A law says: if the definition gave that program's answer for all inputs, the absurd would follow. One input at which the two differ proves it.
 use Prim.Native.Nat.{ℕ, zero, suc, _/_, _%_}
 use mathlib.Core.Path.{_≡_, refl, ap}
-use mathlib.Core.Bool.{false, cond, not}
+use mathlib.Core.Bool.{false, cond, not, _&&_}
 use mathlib.Core.List.{List, [], _∷_, map}
 use lib.Dec.{leb, ltb, eqb}
 use lib.IntN.{ℤ, pos, negsuc, negℤ}
@@ -26,6 +26,7 @@ use Rattle.clip.specs.Cutting.{crossAtX, crossAtY, given, replace, cuts, overla
 use Rattle.clip.specs.Answer.{clipped}
 use Rattle.clip.specs.Numbers.{segAt}
 use Rattle.encoder.specs.declared.GeomEncoder.{GeomEncoder}
+use Rattle.encoder.specs.Tallies.{countsFit}
 use Rattle.encoder.specs.States.{fresh, valid}
 use Rattle.encoder.specs.Answers.{Counted, done, turned, fitting}
 use Rattle.encoder.specs.Emitting.{emission}
@@ -169,7 +170,7 @@ cursor-reset-at-close h =
 -- ---- ROOM asked before COORD
 pub room-before-coord : ((s : GeomEncoder) (p : Pt) (out : List ℕ)
     → added s p out ≡ cond (valid s (length out))
-    (cond (leb (drawn s p out .answer .used) (room (length out)))
+    (cond (countsFit (drawn s p out .answer .tally) && leb (drawn s p out .answer .used) (room (length out)))
     (cond (isCoord p) (kept (done (drawn s p out .answer)) (drawn s p out .memory)) (kept (turned Coord s) out))
     (kept (turned Room s) out))
     (kept (turned State s) out)) → ⊥

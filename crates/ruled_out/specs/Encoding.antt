@@ -25,8 +25,9 @@ use Rattle.encoder.specs.Pushed.{moveTo, lineTo, closePath, command}
 use Rattle.encoder.specs.Figures.{figuresFit}
 use Rattle.encoder.specs.declared.GeomEncoder.{GeomEncoder}
 use Rattle.encoder.specs.declared.Edges.{Edges}
+use Rattle.encoder.specs.Tallies.{untouched, balanced}
 use Rattle.encoder.specs.States.{fresh, valid}
-use Rattle.encoder.specs.Answers.{Counted, done, turned, none, passed, fitting, started}
+use Rattle.encoder.specs.Answers.{Counted, done, turned, none, passed, fitting, roomy, started}
 use Rattle.encoder.specs.Emitting.{Emission, takenOut, popped, steps, placeOf, pushed, emittedAt, emission}
 use Rattle.encoder.specs.Adding.{boundary, edgesFrom, edges, drawn, pointAt, added}
 use Rattle.encoder.specs.Completing.{counting, closing, cleared, finished, closed, completed}
@@ -35,7 +36,7 @@ use Rattle.ruled_out.specs.Inputs.{bit, item, firstUsed, isThere, ten, h
 -- ---- GeomEncoder::new
 -- a word is used at the start
 pub fresh-used : ((kind : ℕ) (b : BBox) → started kind b ≡ cond (isKind kind) (cond (isGood b)
-    (accepted (record { kind = kind; bbox = b; «xy_end» = Nowhere; pt0 = Nowhere; pt1 = Nowhere; «cmd_offset» = 0; count = 0; used = 1 } ∷ []))
+    (accepted (record { tally = untouched; kind = kind; bbox = b; «xy_end» = Nowhere; pt0 = Nowhere; pt1 = Nowhere; «cmd_offset» = 0; count = 0; used = 1 } ∷ []))
     (refused Box [])) (refused Kind [])) → ⊥
 unfolding isGood
 fresh-used h = let e : _≡_ {A = ℕ} 0 1 = ap (λ (a : Said (List GeomEncoder)). firstUsed (a .values)) (h 1 ten) in omega arith
@@ -63,7 +64,7 @@ place-rule-left-out h = let e : _≡_ {A = ℕ} 0 1 = ap bit (h 3 1 3 8) in omeg
 
 -- the stored points are not asked
 pub stored-points-unasked : ((s : GeomEncoder) (n : ℕ)
-    → valid s n ≡ (figuresFit (s .used) (s .count) (s .«cmd_offset») n && isKind (s .kind) && isGood (s .bbox))) → ⊥
+    → valid s n ≡ (figuresFit (s .used) (s .count) (s .«cmd_offset») n && isKind (s .kind) && isGood (s .bbox) && balanced (s .tally))) → ⊥
 unfolding valid isGood isCoord
 stored-points-unasked h = let e : _≡_ {A = ℕ} 0 1 = ap bit (h (state 2 Nowhere Nowhere (point (pos 1073741824) (pos 0)) 0 1 3) 8) in omega arith
 
@@ -128,6 +129,7 @@ refused-names-edges h =
 abbrev forgetting : GeomEncoder → GeomEncoder
 forgetting s =
     record {
+      tally = s .tally;
       kind = s .kind;
       bbox = s .bbox;
       «xy_end» = s .«xy_end»;
@@ -150,7 +152,7 @@ x-and-y-exchanged h = let e : _≡_ {A = ℕ} 10 14 = ap (λ w. item 1 (w .memor
 
 -- STATE is not asked
 pub state-unasked : ((s : GeomEncoder) (p : Pt) (out : List ℕ)
-    → added s p out ≡ cond (isCoord p) (fitting s out (drawn s p out)) (kept (turned Coord s) out)) → ⊥
+    → added s p out ≡ cond (isCoord p) (roomy s out (drawn s p out)) (kept (turned Coord s) out)) → ⊥
 unfolding added valid isGood isCoord boundary emission param
 state-unasked h =
     let e : _≡_ {A = ℕ} 4 0 = ap (λ w. w .answer .number) (h (state 1 Nowhere Nowhere Nowhere 3 1 3) (pointAt (pos 5) (pos 7)) (replicate 8 0)) in omega arith

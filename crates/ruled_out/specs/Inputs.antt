@@ -13,7 +13,9 @@ use Rattle.clip.specs.declared.ClippedSeg.{ClippedSeg}
 use Rattle.clip.specs.Numbers.{boxAt}
 use Rattle.encoder.specs.declared.points.MaybePt.{MaybePt}
 use Rattle.encoder.specs.declared.points.MaybePt.the-variants.{Nowhere, At}
+use Rattle.encoder.specs.declared.tally.Tally.{Tally}
 use Rattle.encoder.specs.declared.GeomEncoder.{GeomEncoder}
+use Rattle.encoder.specs.Tallies.{untouched}
 use Rattle.table.specs.declared.Found.{Found}
 use Rattle.table.specs.declared.Found.the-variants.{At as FoundAt, Nothing}
 use Rattle.table.specs.declared.Text.{Text}
@@ -143,7 +145,7 @@ flat = boxAt (pos 0) (pos 0) (pos 0) (pos 10)
 -- ---- states of the encoder in the box 0..100: the raw end, the last point but one, the last point; the last command's place, the count, the words used
 abbrev pub state : ℕ → MaybePt → MaybePt → MaybePt → ℕ → ℕ → ℕ → GeomEncoder
 state kind raw before last place count used =
-    record { kind = kind; bbox = hundred; «xy_end» = raw; pt0 = before; pt1 = last; «cmd_offset» = place; count = count; used = used }
+    record { tally = untouched; kind = kind; bbox = hundred; «xy_end» = raw; pt0 = before; pt1 = last; «cmd_offset» = place; count = count; used = used }
 
 abbrev pub point : ℤ → ℤ → MaybePt
 point x y = At (record { x = x; y = y })
@@ -154,6 +156,24 @@ afterOne kind = state kind (point (pos 5) (pos 7)) Nowhere (point (pos 5) (pos 7
 
 abbrev pub afterTwo : ℕ → GeomEncoder
 afterTwo kind = state kind (point (pos 3) (pos 2)) (point (pos 5) (pos 7)) (point (pos 3) (pos 2)) 3 2 6
+
+-- a state with these counts: points taken, boundary points, points skipped, points taken out
+abbrev pub tallyOf : ℕ → ℕ → ℕ → ℕ → Tally
+tallyOf taken boundary skipped out = record { taken = taken; boundary = boundary; skipped = skipped; «taken_out» = out }
+
+abbrev pub tallied : Tally → GeomEncoder → GeomEncoder
+tallied t s =
+    record {
+      tally = t;
+      kind = s .kind;
+      bbox = s .bbox;
+      «xy_end» = s .«xy_end»;
+      pt0 = s .pt0;
+      pt1 = s .pt1;
+      «cmd_offset» = s .«cmd_offset»;
+      count = s .count;
+      used = s .used;
+    }
 
 -- ---- a layer "a" of extent 4096 with one point, (2,2), of id 7 and with the tag "k" = "v", in lists that have room for more
 abbrev pub lent : Memory

@@ -6,6 +6,7 @@ pub mod Clips
 pub mod ClipLaws
 pub mod Points
 pub mod Encoding
+pub mod Counts
 pub mod Jobs
 pub mod Reading
 pub mod Tables

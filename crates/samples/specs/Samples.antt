@@ -20,7 +20,7 @@ use Rattle.encoder.specs.States.{valid}
 use Rattle.encoder.specs.Emitting.{emission}
 use Rattle.encoder.specs.Adding.{boundary, added}
 use Rattle.encoder.specs.Completing.{finished, completed}
-use Rattle.encoder.specs.Jobs.{isJob, encodedJob}
+use Rattle.encoder.specs.Jobs.{isJob, Outcome, on, off, encodedJob, finishedJob}
 use Rattle.decoder.specs.Vertices.{Trace, traced, faulty, numbers}
 use Rattle.decoder.specs.ReadingWords.{drawn, commands, traceFrom, trace}
 use Rattle.wire.specs.Varints.{varint}
@@ -173,3 +173,22 @@ to-the-corner = refl
 pub one-of-two-edges : edgesOf (clipped (from (pos 0) (negsuc 0) (negsuc 0) (pos 1)) (box 10) .values) ≡ YMin ∷ Stayed ∷ []
 unfolding clipped isGood isCoord clip overlap cuts crossAtX
 one-of-two-edges = refl
+
+-- ---- what became of the points of the P jobs, behind the last call: taken, boundary, skipped, taken out (document 02, request (ix))
+abbrev pub countsOf : Outcome → List ℕ
+countsOf (on n s) = s .tally .taken ∷ s .tally .boundary ∷ s .tally .skipped ∷ s .tally .«taken_out» ∷ []
+countsOf (off a) = []
+
+abbrev pub countsGiven : Asked → List ℕ
+countsGiven (job kind box points ends) = countsOf (finishedJob kind box points ends (replicate 32 0) .answer)
+countsGiven (cut box s) = []
+countsGiven (tile extent name) = []
+
+pub counts-hold : map (λ (s : Sample). countsGiven (s .asked)) samples ≡
+    (2 ∷ 0 ∷ 0 ∷ 0 ∷ []) ∷ (3 ∷ 0 ∷ 0 ∷ 0 ∷ []) ∷ (5 ∷ 0 ∷ 0 ∷ 0 ∷ []) ∷ (3 ∷ 0 ∷ 0 ∷ 0 ∷ []) ∷
+    (4 ∷ 0 ∷ 0 ∷ 1 ∷ []) ∷  -- a point taken out
+    (6 ∷ 0 ∷ 1 ∷ 0 ∷ []) ∷  -- the second part starts on the last point, which is skipped
+    (2 ∷ 2 ∷ 0 ∷ 0 ∷ []) ∷  -- a line that crosses the box
+    [] ∷ [] ∷ [] ∷ [] ∷ []
+unfolding finishedJob isJob valid isCoord isGood emission boundary added finished completed clip overlap cuts crossAtX param
+counts-hold = refl

@@ -1,9 +1,12 @@
-//! Arbitrary states, lists and job files through our library: no crash, only answers of the table, every guard unharmed. Clips, readings and the edges of an added point are held to
-//! their exact answers.
+//! Arbitrary states, lists and job files through our library: no crash, only answers of the table, every guard unharmed. Clips, readings and the calls on a state are held to
+//! their exact answers, those on a state by the rules written out in `drawing`.
 
 use crate::cases;
 use crate::clips;
-use crate::judge::{self, Job, LIMIT};
+use crate::counts::random_counts;
+use crate::drawing::{self, Counts, MOST};
+use crate::held::STATE;
+use crate::judge::{Call, Job, LIMIT, ROOM};
 use crate::lent::Lent;
 use crate::random::Random;
 use crate::readings;
@@ -88,7 +91,8 @@ fn point(random: &mut Random) -> Point {
     }
 }
 
-fn state(random: &mut Random, room: usize) -> Encoder {
+/// A state whose every figure is arbitrary.
+fn any_state(random: &mut Random, room: usize) -> Encoder {
     let near = random.below(room + 1);
     let used = figure(random, near);
     let last = used.min(1 << 20).saturating_sub(random.below(5));
@@ -109,6 +113,50 @@ fn state(random: &mut Random, room: usize) -> Encoder {
         xy_end: point(random),
         pt0: point(random),
         pt1: point(random),
+        ..Encoder::default()
+    }
+}
+
+/// A state that breaks no rule but, it may be, that of the counts: a small box, the points in it and around it.
+fn tame_state(random: &mut Random, room: usize) -> Encoder {
+    let used = random.below(room + 1);
+    let count = random.below(used / 2 + 2) as u32 * u32::from(used > 0);
+    let x_max = random.between(1, 4) as i32;
+    let y_max = random.between(1, 4) as i32;
+    let mut point = |around: i64| Point {
+        is_set: u32::from(!random.chance(5)),
+        x: random.between(-around, i64::from(x_max) + around) as i32,
+        y: random.between(-around, i64::from(y_max) + around) as i32,
+    };
+    let (xy_end, mut pt0, mut pt1) = (point(3), point(0), point(0));
+    // Now and then both on an edge, where the next point may take out the last.
+    if random.chance(3) {
+        (pt0.y, pt1.y) = (y_max, y_max);
+    }
+    Encoder {
+        xy_end,
+        pt0,
+        pt1,
+        kind: random.between(1, 3) as u32,
+        count,
+        used,
+        cmd_offset: random.below(used.max(1)),
+        x_max,
+        y_max,
+        ..Encoder::default()
+    }
+}
+
+fn state(random: &mut Random, room: usize) -> Encoder {
+    let state = if random.chance(2) {
+        any_state(random, room)
+    } else {
+        tame_state(random, room)
+    };
+    if random.chance(8) {
+        state
+    } else {
+        random_counts(random).put(state)
     }
 }
 
@@ -166,46 +214,71 @@ fn start(random: &mut Random) -> Said {
     }
 }
 
-/// The edges of the segment that an accepted point ends: of lines and polygons with an earlier raw point.
-fn moved(state: Encoder, x: i32, y: i32) -> [u32; 2] {
-    if state.kind == 1 || state.xy_end.is_set == 0 {
-        return [0; 2];
+/// The state without what means nothing: where a point that is not set would be.
+fn meant(state: Encoder) -> Encoder {
+    let point = |point: Point| match point.is_set {
+        0 => Point::default(),
+        _ => point,
+    };
+    Encoder {
+        xy_end: point(state.xy_end),
+        pt0: point(state.pt0),
+        pt1: point(state.pt1),
+        ..state
     }
-    let segment = [state.xy_end.x, state.xy_end.y, x, y];
-    let edges = [state.x_min, state.x_max, state.y_min, state.y_max];
-    judge::named_clip(segment, edges).1
 }
 
-fn draw(random: &mut Random) -> Said {
+/// A call on a state: by the rules written out, its answer and every word. A refused one gives the state back in every field.
+fn draw(random: &mut Random, spoil: bool, tally: &mut Tally) -> Said {
     let room = random.below(24);
     let mut words = Lent::new(room);
     let state = state(random, room);
-    let add = random.chance(2);
-    let (x, y) = (signed(random), signed(random));
-    let given = if add {
-        state.add_point(x, y, words.words())
-    } else {
-        state.complete_geom(words.words())
+    let coordinate = |random: &mut Random| match random.below(3) {
+        0 => signed(random),
+        _ => random.between(-4, 8) as i32,
     };
-    let edges = if add && given.refusal == 0 {
-        moved(state, x, y)
+    let (call, name, allowed) = if random.chance(4) {
+        (Call::Complete, "states completed", COMPLETE)
     } else {
-        [0; 2]
+        let (x, y) = (coordinate(random), coordinate(random));
+        (Call::Add(x, y), "points added to states", ADD)
     };
-    let untouched = words.differs(std::iter::empty::<u32>()).is_none();
-    let sound = if given.refusal == 0 {
-        given.words == given.state.used && given.words <= room
+    let (wanted, front) = drawing::drawn(state, call, words.words());
+    let (free, _) = drawing::drawn(Counts::default().put(state), call, words.words());
+    let mut given = match call {
+        Call::Add(x, y) => state.add_point(x, y, words.words()),
+        Call::Complete => state.complete_geom(words.words()),
+    };
+    if spoil && given.refusal == 0 {
+        given.state.taken_out = given.state.taken_out.wrapping_add(1);
+    }
+    let same = if wanted.refusal == 0 {
+        meant(given.state) == meant(wanted.state)
     } else {
-        given.words == 0 && given.state == state && untouched
+        given.state == state
     };
-    let sound = sound && [given.edge0, given.edge1] == edges;
-    let (call, allowed) = if add {
-        ("points added to states", ADD)
-    } else {
-        ("states completed", COMPLETE)
-    };
+    let answer = (given.refusal, given.words, given.edge0, given.edge1);
+    let expected = (wanted.refusal, wanted.words, wanted.edge0, wanted.edge1);
+    let sound = same && answer == expected && words.differs(front.into_iter()).is_none();
+    match wanted.refusal {
+        STATE if free.refusal != STATE => tally.add("refused as STATE for the counts alone", 1),
+        ROOM if free.refusal == 0 => tally.add("refused as ROOM for a count alone", 1),
+        0 if Counts::of(&wanted.state).all().contains(&MOST) => {
+            tally.add("accepted with a count at the most", 1)
+        }
+        _ => (),
+    }
+    let Counts {
+        taken,
+        boundary,
+        skipped,
+        taken_out,
+    } = Counts::of(&state);
+    if wanted.refusal != STATE && skipped + taken_out == taken + boundary {
+        tally.add("good states with all thrown away", 1);
+    }
     Said {
-        call,
+        call: name,
         refusal: given.refusal,
         allowed,
         sound,
@@ -236,20 +309,37 @@ fn whole(random: &mut Random) -> Said {
     });
     let room = random.below(40);
     let mut words = Lent::new(room);
-    let named = random.chance(2);
+    let way = random.below(3);
+    let named = way == 0;
     let entries = random.below(16);
     let mut moved = Lent::new(entries);
+    let mut state_sound = true;
     let (call, given) = if named {
         let (words, moved) = (words.words(), moved.words());
         let given =
             ours::encode_job_edges(job.kind, job.edges, &job.points, &job.ends, words, moved);
         ("whole jobs with edges", given)
+    } else if way == 1 {
+        let given =
+            ours::encode_job_state(job.kind, job.edges, &job.points, &job.ends, words.words());
+        let counts = Counts::of(&given.state);
+        state_sound = match given.refusal {
+            0 => counts.good() && counts.taken == given.points as u64,
+            _ => given.state == Encoder::default(),
+        };
+        let given = ours::Job {
+            refusal: given.refusal,
+            points: given.points,
+            words: given.state.used,
+        };
+        ("whole jobs with their state", given)
     } else {
         let given = ours::encode_job(job.kind, job.edges, &job.points, &job.ends, words.words());
         ("whole jobs", given)
     };
     let written = if named { 2 * given.points } else { 0 };
-    let sound = given.words <= room
+    let sound = state_sound
+        && given.words <= room
         && given.points <= job.points.len() / 2
         && (given.refusal == 0 || given.words == 0)
         && written <= entries
@@ -282,7 +372,8 @@ fn read(random: &mut Random) -> Said {
     }
 }
 
-pub fn run(seed: u64, count: usize, tally: &mut Tally) -> Option<Difference> {
+/// Spoiled, taken out is one more in an accepted call on a state.
+pub fn run(seed: u64, count: usize, spoil: bool, tally: &mut Tally) -> Option<Difference> {
     for at in 0..count {
         let mut random = Random::new(
             seed.wrapping_add(at as u64)
@@ -291,7 +382,7 @@ pub fn run(seed: u64, count: usize, tally: &mut Tally) -> Option<Difference> {
         let said = match at % 8 {
             0 => clip(&mut random),
             1 => start(&mut random),
-            2..=4 => draw(&mut random),
+            2..=4 => draw(&mut random, spoil, tally),
             5 | 6 => whole(&mut random),
             _ => read(&mut random),
         };

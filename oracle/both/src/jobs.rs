@@ -1,6 +1,8 @@
-//! Jobs through both: the whole job, without and with its edges, and call by call with the state and the edges after every call.
+//! Jobs through both: the whole job, without and with its edges, and call by call.
 
+use crate::calls;
 use crate::cases::{self, FILE_LIMIT};
+use crate::drawing::Counts;
 use crate::edges;
 use crate::judge::{self, Call, Job, Judge, Verdict, EMPTY};
 use crate::lent::Lent;
@@ -8,7 +10,6 @@ use crate::random::Random;
 use crate::readings;
 use crate::report::{Difference, Tally};
 use crate::shrink;
-use ours::{Encoder, Point};
 use std::panic::{catch_unwind, AssertUnwindSafe};
 
 /// What is changed of ours before it is compared, to show that it is found.
@@ -121,86 +122,6 @@ fn read_back(expected: &Expected) -> Option<String> {
         .map(|what| format!("reading the words: {what}"))
 }
 
-fn point(at: Option<(i32, i32)>) -> Point {
-    at.map_or(Point::default(), |(x, y)| Point { is_set: 1, x, y })
-}
-
-/// The Rust's state as our library carries it.
-fn carried(judge: &Judge, job: &Job) -> Encoder {
-    let state = judge.state();
-    let [x_min, x_max, y_min, y_max] = job.edges;
-    Encoder {
-        kind: job.kind,
-        count: state.count,
-        used: state.words.len(),
-        cmd_offset: state.command_place,
-        x_min,
-        x_max,
-        y_min,
-        y_max,
-        xy_end: point(state.raw_end),
-        pt0: point(state.before_last),
-        pt1: point(state.last),
-    }
-}
-
-/// The calls one by one; after each one the state, the edges and every word.
-fn by_calls(job: &Job, spoil: Spoil) -> Option<String> {
-    let started = ours::encoder(job.kind, job.edges);
-    let refusal = match job.refused_at_once() {
-        judge::JOB => return None,
-        refusal => refusal,
-    };
-    if started.refusal != refusal {
-        return Some(format!(
-            "new: refusal {}, expected {refusal}",
-            started.refusal
-        ));
-    }
-    if refusal != 0 {
-        return (started.state != Encoder::default()).then(|| "a refused new gives a state".into());
-    }
-    let mut judge = Judge::new(job.kind, job.edges, job.room);
-    let mut list = Lent::new(job.room);
-    let mut state = started.state;
-    for (number, call) in job.calls().into_iter().enumerate() {
-        let mut drawn = match call {
-            Call::Add(x, y) => state.add_point(x, y, list.words()),
-            Call::Complete => state.complete_geom(list.words()),
-        };
-        if spoil == Spoil::Call {
-            other_edge(&mut drawn.edge1);
-        }
-        let edges = [drawn.edge0, drawn.edge1];
-        let said = (drawn.refusal, drawn.words, drawn.state, edges);
-        let moved = judge.moved(call);
-        let (wanted, words) = match judge.call(call) {
-            Verdict::Accepted => {
-                let next = carried(&judge, job);
-                ((0, next.used, next, moved), judge.state().words.to_vec())
-            }
-            Verdict::Refused(refusal, words) => ((refusal, 0, state, [0; 2]), words),
-        };
-        if said != wanted {
-            return Some(format!(
-                "call {} {call:?}: ours {said:?}, expected {wanted:?}",
-                number + 1
-            ));
-        }
-        if let Some(what) = list.differs(words.into_iter()) {
-            return Some(format!("after call {} {call:?}: {what}", number + 1));
-        }
-        if wanted.0 != 0 {
-            return None;
-        }
-        state = drawn.state;
-        if (state.count(), state.len()) != (judge.state().count, judge.state().words.len()) {
-            return Some(format!("count or len after call {}", number + 1));
-        }
-    }
-    None
-}
-
 /// How a job is looked at: call by call too or not, and which lists of edges it is lent.
 #[derive(Clone, Copy)]
 struct Look {
@@ -211,15 +132,25 @@ struct Look {
 
 fn differs(job: &Job, look: Look, tally: &mut Tally) -> Option<String> {
     let Look { calls, turn, spoil } = look;
-    let tried = catch_unwind(AssertUnwindSafe(|| match whole(job, spoil) {
-        Err(what) => Some(what),
-        Ok(plain) => edges::differs(job, plain, turn, spoil == Spoil::Edge, tally)
-            .or_else(|| calls.then(|| by_calls(job, spoil)).flatten()),
+    let by_calls = match spoil {
+        Spoil::Call => calls::Spoil::Edge,
+        _ => calls::Spoil::Nothing,
+    };
+    let tried = catch_unwind(AssertUnwindSafe(|| {
+        let found = match whole(job, spoil) {
+            Err(what) => Some(what),
+            Ok(plain) => edges::differs(job, plain, turn, spoil == Spoil::Edge, tally),
+        };
+        if found.is_some() || !calls {
+            return found;
+        }
+        calls::differs(job, Counts::default(), by_calls, &mut Tally::default())
     }));
     tried.unwrap_or_else(|panic| Some(judge::panicked(panic)))
 }
 
-fn simpler(job: &Job) -> Vec<Job> {
+/// The same job with less of something.
+pub fn simpler(job: &Job) -> Vec<Job> {
     let mut found = Vec::new();
     let mut push = |change: &dyn Fn(&mut Job)| {
         let mut next = job.clone();
@@ -258,7 +189,7 @@ fn simpler(job: &Job) -> Vec<Job> {
 }
 
 /// How a job's room is chosen, by turns: more than enough, just enough, less.
-fn with_room(mut job: Job, random: &mut Random, at: usize) -> (Job, bool) {
+pub fn with_room(mut job: Job, random: &mut Random, at: usize) -> (Job, bool) {
     job.room = usize::MAX;
     let needed = match job.refused_at_once() {
         0 => {
@@ -326,10 +257,7 @@ fn one(
     tally.add("words compared", expected.words.len());
     if calls && job.refused_at_once() == 0 {
         tally.add("jobs call by call", 1);
-        tally.add(
-            "calls",
-            (expected.points + job.ends.len()).min(job.calls().len()),
-        );
+        tally.add("calls", job.calls().len());
     }
     if expected.refusal == EMPTY {
         tally.add("panics of the Rust", 1);

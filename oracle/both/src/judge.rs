@@ -27,7 +27,7 @@ pub struct Job {
 }
 
 /// A call of the encoder.
-#[derive(Clone, Copy, Debug)]
+#[derive(Clone, Copy, Debug, PartialEq)]
 pub enum Call {
     Add(i32, i32),
     Complete,
@@ -128,6 +128,19 @@ impl Judge {
         self.encoder.state()
     }
 
+    /// The same judge once more. Neither sees what is done to the other.
+    pub fn copy(&self) -> Self {
+        Judge {
+            encoder: self.encoder.copy(),
+            ..*self
+        }
+    }
+
+    /// Whether a call may be refused as ROOM: it writes seven words at most.
+    pub fn near_the_end(&self) -> bool {
+        self.state().words.len() + 10 > self.room
+    }
+
     /// The edges that move the ends of the raw segment which this call ends; none where the Rust has no raw end to cut from, or completes.
     pub fn moved(&self, call: Call) -> [u32; 2] {
         match (call, self.state().raw_end) {
@@ -138,11 +151,32 @@ impl Judge {
         }
     }
 
+    /// The points that a call emits, one after the other and not clamped yet: the ends of the raw segment that moved, then the point itself. None where it completes, or has
+    /// a coordinate beyond the limit.
+    pub fn emissions(&self, call: Call) -> Vec<(i32, i32)> {
+        let mut points = Vec::new();
+        let (x, y) = match call {
+            Call::Add(x, y) if within(x) && within(y) => (x, y),
+            _ => return points,
+        };
+        if let Some((from_x, from_y)) = self.state().raw_end {
+            let ([x0, y0, x1, y1], edges) = named_clip([from_x, from_y, x, y], self.edges);
+            let ends = [(x0, y0), (x1, y1)].into_iter().zip(edges);
+            points.extend(ends.filter(|(_, edge)| *edge != 0).map(|(end, _)| end));
+        }
+        points.push((x, y));
+        points
+    }
+
+    /// One emission of a call, alone.
+    pub fn emit(&mut self, (x, y): (i32, i32)) {
+        self.encoder.emit(x, y);
+    }
+
     pub fn call(&mut self, call: Call) -> Verdict {
         let state = self.encoder.state();
-        // A call writes seven words at most, so only near the end is there anything to keep.
-        let near = state.words.len() + 10 > self.room;
-        let before = if near {
+        // Only near the end is there anything to keep.
+        let before = if self.near_the_end() {
             state.words.to_vec()
         } else {
             Vec::new()

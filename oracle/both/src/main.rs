@@ -3,9 +3,12 @@
 
 mod arbitrary;
 mod arbitrary_tiles;
+mod calls;
 mod caps;
 mod cases;
 mod clips;
+mod counts;
+mod drawing;
 mod edges;
 mod held;
 mod jobs;
@@ -16,6 +19,7 @@ mod many;
 mod near;
 mod random;
 mod readings;
+mod recount;
 mod report;
 mod scripts;
 mod shrink;
@@ -28,7 +32,7 @@ use jobs::Spoil;
 use report::{Difference, Tally};
 use std::process::exit;
 
-const USAGE: &str = "usage: both jobs|clips|laws|readings|tiles|varints|arbitrary|arbitrary-tiles|spoiled-jobs|spoiled-clips|spoiled-turned|spoiled-moved|spoiled-edges|spoiled-calls|spoiled-readings|spoiled-tiles|spoiled-varints SEED COUNT, or both cases jobs|large_jobs|clips|tiles|large_tiles SEED COUNT";
+const USAGE: &str = "usage: both jobs|clips|counts|laws|readings|tiles|varints|arbitrary|arbitrary-tiles|spoiled-jobs|spoiled-clips|spoiled-turned|spoiled-moved|spoiled-edges|spoiled-calls|spoiled-taken|spoiled-boundary|spoiled-skipped|spoiled-taken-out|spoiled-refused|spoiled-most|spoiled-vertices|spoiled-finished|spoiled-readings|spoiled-tiles|spoiled-varints|spoiled-arbitrary SEED COUNT, or both cases jobs|large_jobs|clips|tiles|large_tiles SEED COUNT";
 
 fn run(kind: &str, seed: u64, count: usize, tally: &mut Tally) -> Option<Difference> {
     match kind {
@@ -41,6 +45,18 @@ fn run(kind: &str, seed: u64, count: usize, tally: &mut Tally) -> Option<Differe
         "clips" => clips::compare(seed, count, false, tally),
         // The same: another edge of a clip.
         "spoiled-clips" => clips::compare(seed, count, true, tally),
+        "counts" => counts::compare(seed, count, calls::Spoil::Nothing, tally),
+        // The same: a count that a call raised is as it was.
+        "spoiled-taken" => counts::compare(seed, count, calls::Spoil::Taken, tally),
+        "spoiled-boundary" => counts::compare(seed, count, calls::Spoil::Boundary, tally),
+        "spoiled-skipped" => counts::compare(seed, count, calls::Spoil::Skipped, tally),
+        "spoiled-taken-out" => counts::compare(seed, count, calls::Spoil::TakenOut, tally),
+        // The same: a refused point is counted, and a count is refused that just fits.
+        "spoiled-refused" => counts::compare(seed, count, calls::Spoil::Refused, tally),
+        "spoiled-most" => counts::compare(seed, count, calls::Spoil::Most, tally),
+        // The same: ClosePath among the vertices of the equation, and another count in the state after a whole job.
+        "spoiled-vertices" => counts::compare(seed, count, calls::Spoil::Vertices, tally),
+        "spoiled-finished" => counts::compare(seed, count, calls::Spoil::Finished, tally),
         "laws" => laws::compare(seed, count, laws::Spoil::Nothing, tally),
         // The same: another edge of a clip from the other end, and of a clip that is moved.
         "spoiled-turned" => laws::compare(seed, count, laws::Spoil::Turned, tally),
@@ -54,7 +70,9 @@ fn run(kind: &str, seed: u64, count: usize, tally: &mut Tally) -> Option<Differe
         "varints" => varints::compare(seed, count, false, tally),
         // The same: our size is one more.
         "spoiled-varints" => varints::compare(seed, count, true, tally),
-        "arbitrary" => arbitrary::run(seed, count, tally),
+        "arbitrary" => arbitrary::run(seed, count, false, tally),
+        // The same: a count that a call on a state answers is one more.
+        "spoiled-arbitrary" => arbitrary::run(seed, count, true, tally),
         "arbitrary-tiles" => arbitrary_tiles::run(seed, count, tally),
         _ => {
             eprintln!("{USAGE}");
@@ -76,6 +94,14 @@ fn main() {
     };
     if words.first().is_some_and(|word| word == "cases") {
         return cases::print(&words[1], number(2) as u64, number(3));
+    }
+    if ours::versions() != [ours::VERSION; 2] {
+        eprintln!(
+            "both: the archives are of the interfaces {:?}, not of {}",
+            ours::versions(),
+            ours::VERSION
+        );
+        exit(2);
     }
     // A panic of the Rust is an answer; nothing is printed about it. Where only ours is called one would be a fault of this program.
     if !words[0].starts_with("arbitrary") {

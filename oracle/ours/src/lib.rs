@@ -2,6 +2,9 @@
 
 pub mod tiles;
 
+/// The number of the interface that is written down here; the archives have to be of it.
+pub const VERSION: u32 = 3;
+
 #[repr(C)]
 #[derive(Clone, Copy, Debug, Default, PartialEq)]
 pub struct Clipped {
@@ -51,6 +54,10 @@ pub struct Encoder {
     pub xy_end: Point,
     pub pt0: Point,
     pub pt1: Point,
+    pub taken: u32,
+    pub boundary: u32,
+    pub skipped: u32,
+    pub taken_out: u32,
 }
 
 #[repr(C)]
@@ -70,10 +77,20 @@ pub struct Drawn {
     pub edge1: u32,
 }
 
+#[repr(C)]
+#[derive(Clone, Copy, Debug, Default, PartialEq)]
+pub struct Finished {
+    pub refusal: u32,
+    pub points: usize,
+    pub state: Encoder,
+}
+
 mod c {
     use super::*;
 
     extern "C" {
+        pub fn bp_version() -> u32;
+        pub fn bp_tiles_version() -> u32;
         pub fn bp_clip(
             x0: i32,
             y0: i32,
@@ -112,6 +129,19 @@ mod c {
             edges: *mut u32,
             edges_len: usize,
         ) -> Job;
+        pub fn bp_encode_job_state(
+            kind: u32,
+            x_min: i32,
+            x_max: i32,
+            y_min: i32,
+            y_max: i32,
+            points: *const i32,
+            points_len: usize,
+            ends: *const u32,
+            ends_len: usize,
+            words: *mut u32,
+            words_len: usize,
+        ) -> Finished;
         pub fn bp_decode(
             words: *const u32,
             words_len: usize,
@@ -132,6 +162,11 @@ mod c {
         pub fn bp_encoder_count(state: Encoder) -> u32;
         pub fn bp_encoder_len(state: Encoder) -> usize;
     }
+}
+
+/// The numbers of the interface that the two archives answer.
+pub fn versions() -> [u32; 2] {
+    unsafe { [c::bp_version(), c::bp_tiles_version()] }
 }
 
 /// A segment as x0, y0, x1, y1; box edges as x_min, x_max, y_min, y_max, here and below. Inlined, as a C compiler would call it.
@@ -191,6 +226,32 @@ pub fn encode_job_edges(
             words.len(),
             moved.as_mut_ptr(),
             moved.len(),
+        )
+    }
+}
+
+/// With the state after its last call, which has the counts.
+pub fn encode_job_state(
+    kind: u32,
+    edges: [i32; 4],
+    points: &[i32],
+    ends: &[u32],
+    words: &mut [u32],
+) -> Finished {
+    let [x_min, x_max, y_min, y_max] = edges;
+    unsafe {
+        c::bp_encode_job_state(
+            kind,
+            x_min,
+            x_max,
+            y_min,
+            y_max,
+            points.as_ptr(),
+            points.len(),
+            ends.as_ptr(),
+            ends.len(),
+            words.as_mut_ptr(),
+            words.len(),
         )
     }
 }

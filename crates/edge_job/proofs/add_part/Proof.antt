@@ -68,7 +68,9 @@ returns c =
     add-stop _ _ _ _ _ _ _ _ (turn .before .loop .inv) (turn .loop-test .taken) (turn .before .before .before .before .pre .1) (point .add-point .result) _ (x .x .given) (y .y .given) (point .add-point .ensures) _ _ (c .before .r .given .1)
 
 add-i : tie.Need-add-i Inv-loop μ-loop
-add-i c = search needs
+add-i c =
+    let turn = at-point (c .before .before .before) .before .before .before .before .before in
+    search (needs, turn .loop-test .taken, turn .before .before .before .before .fits .to)
 
 loop-less : tie.Need-loop-less Inv-loop μ-loop
 loop-less c = search needs

@@ -49,7 +49,10 @@ returns c =
     parts-stop _ _ _ _ _ _ _ _ (turn .before .loop .inv) (turn .loop-test .taken) (added .add-part .result) _ (added .add-part .ensures) _ _ (c .before .r .given .1)
 
 add-j : tie.Need-add-j Inv-loop μ-loop
-add-j c = search needs
+add-j c =
+    let added = c .before .before .before .before .before .before .before in
+    let turn = added .before .before .before .before in
+    search (needs, turn .loop-test .taken, turn .before .before .before .before .before .good)
 
 loop-less : tie.Need-loop-less Inv-loop μ-loop
 loop-less c = search needs
