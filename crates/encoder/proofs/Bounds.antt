@@ -21,7 +21,10 @@ use Rattle.encoder.specs.Answers.{none}
 use Rattle.encoder.specs.Adding.{cutFrom, boundary, edgesFrom, edges}
 use Rattle.encoder.specs.Drafts.{stateIn}
 use Rattle.encoder.proofs.Boundaries.{moved-is, inside-same, stays}
-use Rattle.encoder.proofs.Tests.{fixed0, fixed1}
+use Rattle.encoder.proofs.Tests.{fixed0, fixed1, neither}
+use Rattle.clip.specs.declared.Edge.{Edge}
+use Rattle.clip.specs.declared.Edge.the-variants.{Stayed, XMin, XMax, YMin, YMax}
+use Rattle.clip.specs.Numbers.{isMoved}
 
 -- what the code's test tells: no points, a raw point, and an end outside
 told : (k j u : Bool) → (not k && j && u) ≡ true → (k ≡ false) × ((j ≡ true) × (u ≡ true))
@@ -66,6 +69,18 @@ module _ (d : Draft) (p : Pt) (s : Seg) (i : s ≡ record { p0 = d .pen .raw; p1
       let (k, (j, x)) = told (eqb (d .kind) 1) (d .joins) u h in
       let m : endsIn (clip (d .bbox) s) ≡ movedBy (d .pen .raw) p (clip (d .bbox) s .seg) = subst (λ (t : Seg). endsIn (clip (d .bbox) t) ≡ movedBy (d .pen .raw) p (clip (d .bbox) t .seg)) (sym i) (moved-is (d .bbox) (record { p0 = d .pen .raw; p1 = p }) g) in
       record { points = points-cut g u h (endsIn c) (ap endsIn e ∙ m); names = rw (e, i, k, j) refl }
+
+unmoved : (e : Edge) → isMoved e ≡ false → e ≡ Stayed
+unmoved Stayed h = refl
+unmoved XMin h = absurd (let z : _≡_ {A = ℕ} 0 1 = cc in omega arith)
+unmoved XMax h = absurd (let z : _≡_ {A = ℕ} 0 1 = cc in omega arith)
+unmoved YMin h = absurd (let z : _≡_ {A = ℕ} 0 1 = cc in omega arith)
+unmoved YMax h = absurd (let z : _≡_ {A = ℕ} 0 1 = cc in omega arith)
+
+pub none-named : (c : ClippedSeg) (e : Ends) → e ≡ endsIn c → (e .moved0 || e .moved1) ≡ false → (n : Edges) → namedBy c ≡ n → n ≡ none
+none-named c e f h n g =
+    let (m0, m1) = neither (isMoved (c .first)) (isMoved (c .second)) (subst (λ (x : Ends). (x .moved0 || x .moved1) ≡ false) f h) in
+    sym g ∙ (λ i. record { first = unmoved (c .first) m0 i; second = unmoved (c .second) m1 i })
 
 pub brought-ends : {b : BBox} {l : List Pt} {n : Edges} {c : ClippedSeg} → BroughtBy b l n c → (e : Ends) → e ≡ endsIn c → Brought b l e
 brought-ends {b} {l} B e f = subst (Brought b l) (sym f) (B .points)

@@ -1,6 +1,6 @@
 -- Laws of a call's plan: what planning and writing ask, and that the plan's drafts and words are those of the point's emissions.
 use mathlib.Core.Path.{_≡_, refl, sym, _∙_, ap, subst}
-use mathlib.Core.Bool.{Bool, true, false, cond, not}
+use mathlib.Core.Bool.{Bool, true, false, cond, not, _||_}
 use mathlib.Core.List.{List, [], _∷_, _++_}
 use Prim.Native.Nat.{ℕ, _+_, _≤_, _<_}
 use native.Mathlib.Omega.{arith}
@@ -8,6 +8,7 @@ use borrow.Author.Tests.{le-leb, lt-leb}
 use lib.Dec.{leb}
 use lib.ListN.{length}
 use Rattle.promise.specs.Answers.{Gives, kept}
+use Rattle.promise.specs.Laid.{lay}
 use Rattle.promise.proofs.Cases.{gives-kept}
 use Rattle.refusal.specs.declared.Refusal.the-variants.{Room}
 use Rattle.clip.specs.declared.Pt.{Pt}
@@ -28,11 +29,12 @@ use Rattle.encoder.specs.Adding.{boundary, emitted, emissions, counted, 
 use Rattle.encoder.specs.declared.Edges.{Edges}
 use Rattle.encoder.specs.Planning.{emissionIf, planLimit, Ready, Few}
 use Rattle.encoder.specs.Tallies.{maxTally, countsFit}
-use Rattle.encoder.specs.Drafts.{draftOf, stateIn, takenBy, emittedIf, Near, Planned, AllFit, laidAll}
+use Rattle.encoder.specs.Drafts.{draftOf, stateIn, takenBy, emittedIf, Near, Planned, Writable, AllFit, laidAll, Alone}
 use Rattle.words.proofs.Rooms.{room-length}
 use Rattle.encoder.proofs.Tallies.{Counts}
 use Rattle.encoder.proofs.States.{yes-of, no-of, valid-facts, valid-ready, counted-ready}
 use Rattle.encoder.proofs.Coords.{clamped-coord}
+use Rattle.encoder.proofs.Tests.{neither}
 use Rattle.encoder.proofs.Drafting.{whole, taken-state}
 use Rattle.encoder.proofs.Steps.{Step, emitted-cases, at-step, if-step, same-box, emitted-three}
 
@@ -195,6 +197,20 @@ module _ (s : GeomEncoder) (n : ℕ) (v : valid s n ≡ true) (p : Pt) (x : isCo
       taken-few : Few 3 (stateIn t)
       taken-few = rw taken-is (record { skips = omega (arith, k .skips); outs = omega (arith, k .outs) })
 
+      -- where no end moved, the point stands alone, and passes on no edge
+      pub stands-alone : (e .moved0 || e .moved1) ≡ false → Alone s t p q
+      stands-alone h =
+          let (m0, m1) = neither (e .moved0) (e .moved1) h in
+          let l : boundary (stateIn d) p ≡ [] = sym (B .list) ∙ rw (m0, m1) in
+          record {
+            taken = taken-is;
+            none = ap (λ (x : GeomEncoder). boundary x p) (sym drafted) ∙ l;
+            ready = taken-ready;
+            few = fewer (omega arith) taken-few;
+            at = subst (λ (x : Draft). q ≡ clamped (x .bbox) p) (sym f) c;
+            coord = near .last;
+          }
+
       pub plan-asked : Ready maxWords (stateIn t) × (Few 3 (stateIn t) × Near e q)
       plan-asked = (taken-ready, (taken-few, near))
 
@@ -233,3 +249,48 @@ module _ (s : GeomEncoder) (n : ℕ) (v : valid s n ≡ true) (p : Pt) (x : isCo
               draw-done o w u j r i =
                   let b : leb (plan .last .pen .used) (room (length out)) ≡ true = le-leb (plan .last .pen .used) (room (length out)) (rw (← l) (omega arith)) in
                   rw (planned, counts, b) (record { answer = ap done (i ∙ j); memory = w })
+
+-- ---- a point without boundary points: the one emission
+module _ (s : GeomEncoder) (d : Draft) (p q : Pt) (A : Alone s d p q) where
+  pub alone-asked : Ready planLimit (stateIn d) × Few 1 (stateIn d)
+  alone-asked = (more (omega arith) (A .ready), A .few)
+
+  module _ (last : Draft) (P : stateIn last ≡ emittedAt (stateIn d) q .next) (out : List ℕ) where
+    abbrev laid : List ℕ
+    laid = lay (emittedAt (stateIn d) q .at) (emittedAt (stateIn d) q .run) out
+
+    alone : emitted (counted 1 (length (boundary s p)) s) (emissions s p) out ≡ kept (stateIn last) laid
+    unfolding emission
+    alone =
+        (λ i. emitted (sym (A .taken) i) (A .none i ++ (p ∷ [])) out) ∙
+        ap (λ (r : Pt). kept (emittedAt (stateIn d) r .next) (lay (emittedAt (stateIn d) r .at) (emittedAt (stateIn d) r .run) out)) (sym (A .at)) ∙
+        ap (λ (t : GeomEncoder). kept t laid) (sym P)
+
+    module _ (a : Bool) (fit : a ≡ countsFit (stateIn last .tally)) where
+      pub alone-uncounted : not a ≡ true → Gives (roomy s out (drawn s p out)) (turned Room s) out
+      alone-uncounted z = rw (alone, no-of a (countsFit (stateIn last .tally)) fit z) (gives-kept (turned Room s) out)
+
+      module _ (z : not a ≡ false) (m : ℕ) (y : m ≡ room (length out)) where
+        alone-counts : countsFit (stateIn last .tally) ≡ true
+        alone-counts = yes-of a (countsFit (stateIn last .tally)) fit z
+
+        pub alone-room : m < last .pen .used → Gives (roomy s out (drawn s p out)) (turned Room s) out
+        alone-room g =
+            let b : leb (last .pen .used) (room (length out)) ≡ false = lt-leb (last .pen .used) (room (length out)) (omega arith) in
+            rw (alone, alone-counts, b) (gives-kept (turned Room s) out)
+
+        module _ (g : last .pen .used ≤ m) where
+          pub alone-writable : Writable d last q (length out)
+          alone-writable = record { after = P; fits = omega (arith, room-length (length out)); ready = alone-asked .0; coord = A .coord }
+
+          pub alone-ended : (o : Draft) → stateIn o ≡ ended (stateIn last) p → (o .pen .count ≤ planLimit + 4) × (countsFit (stateIn o .tally) ≡ true)
+          alone-ended o j =
+              let u : o .pen .count ≡ last .pen .count = ap (λ (x : GeomEncoder). x .count) j in
+              let w : last .pen .count ≡ emittedAt (stateIn d) q .next .count = ap (λ (x : GeomEncoder). x .count) P in
+              let R = at-step maxWords (stateIn d) (A .ready) q (A .coord) .ready in
+              (omega (arith, R .counted, R .few), ap (λ (x : GeomEncoder). countsFit (x .tally)) j ∙ alone-counts)
+
+          pub alone-done : (o : List ℕ) → o ≡ laid → (u : Draft) → stateIn u ≡ ended (stateIn last) p → (r : GeomEncoder) → r ≡ stateIn u → Gives (roomy s out (drawn s p out)) (done r) o
+          alone-done o w u j r i =
+              let b : leb (last .pen .used) (room (length out)) ≡ true = le-leb (last .pen .used) (room (length out)) (omega arith) in
+              rw (alone, alone-counts, b) (record { answer = ap done (i ∙ j); memory = w })

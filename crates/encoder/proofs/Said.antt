@@ -1,5 +1,5 @@
 -- An answer is known by what it says: one value for each answer enum.
-use mathlib.Core.Path.{_≡_, refl, sym, ap}
+use mathlib.Core.Path.{_≡_, refl, sym, _∙_, ap}
 use mathlib.Core.List.{List, [], _∷_}
 use Rattle.refusal.specs.Said.{Said}
 use Rattle.refusal.proofs.Laws.{one-refusal, never-both, numbered}
@@ -12,6 +12,8 @@ use Rattle.encoder.specs.Answers.{Counted, done, turned, saidDrawn, said
 use Rattle.encoder.specs.declared.Edges.{Edges}
 use Rattle.refusal.specs.declared.Refusal.{Refusal}
 use Rattle.refusal.specs.Refusals.{numberOf}
+use mathlib.Core.Bool.{Bool, true, false, cond}
+use lib.Dec.{eqb}
 use borrow.Author.Tests.{eq-eqb, ne-eqb}
 use native.Mathlib.Omega.{arith}
 
@@ -41,3 +43,11 @@ module _ (a : Said Counted) (n : Edges) where
   passed-on s m e f =
       let z : 0 ≡ a .number = ap (λ (x : Said Counted). x .number) e in
       rw (eq-eqb (a .number) 0 (sym z)) f
+
+  -- edges that are none are passed on as none
+  pub passed-nothing : (m : Edges) → m ≡ none → n ≡ none → m ≡ passed a n
+  passed-nothing m e f = e ∙ by (eqb (a .number) 0)
+    where
+      by : (t : Bool) → none ≡ cond t n none
+      by true = sym f
+      by false = refl

@@ -135,13 +135,25 @@ module _ (kind : ℕ) (bbox : BBox) (points : List ℤ) (ends out : List ℕ) wh
       by true false c = refl
       by false b c = refl
 
-  -- the returns of `encode`
   module _ (r : Course) (o : List ℕ) (g : Gives (finishedJob kind bbox points ends out) (endOf points r) o) where
     told : Gives (encodedJob kind bbox points ends out) (outcome (endOf points r)) o
     told = rw encoded-finished (record { answer = ap outcome (g .answer); memory = g .memory })
 
-    pub job-words : (t : GeomEncoder) → r ≡ On t → Gives (encodedJob kind bbox points ends out) (accepted (t .used)) o
-    job-words t i = subst (λ (x : Course). Gives (encodedJob kind bbox points ends out) (outcome (endOf points x)) o) i told
+-- ---- the returns of `encode`
+module _ (kind : ℕ) (bbox : BBox) (points : List ℤ) (ends out : List ℕ) (v : Bool) (e : v ≡ isJob points ends) where
+  pub words-none : not v ≡ true → Gives (encodedJob kind bbox points ends out) (refused Job 0) out
+  words-none h = told kind bbox points ends out (Off Job 0) out (job-none kind bbox points ends out v e h)
 
-    pub job-stop : (x : Refusal) (n : ℕ) → r ≡ Off x n → Gives (encodedJob kind bbox points ends out) (refused x n) o
-    job-stop x n i = subst (λ (y : Course). Gives (encodedJob kind bbox points ends out) (outcome (endOf points y)) o) i told
+  module _ (h : not v ≡ false) (b : Started) (f : saidStarted b ≡ started kind bbox) where
+    pub words-start : (x : Refusal) → b ≡ NotStarted x → Gives (encodedJob kind bbox points ends out) (refused x 0) out
+    words-start x g = told kind bbox points ends out (Off x 0) out (job-start kind bbox points ends out v e h b f x g)
+
+    module _ (s : GeomEncoder) (g : b ≡ Fresh s) (r : Course) (o : List ℕ) (k : Gives (goAll points ends s out) (endOf points r) o) where
+      ran : Gives (encodedJob kind bbox points ends out) (outcome (endOf points r)) o
+      ran = told kind bbox points ends out r o (job-ran kind bbox points ends out v e h b f s g r o k)
+
+      pub words-all : (t : GeomEncoder) → r ≡ On t → Gives (encodedJob kind bbox points ends out) (accepted (t .used)) o
+      words-all t i = subst (λ (x : Course). Gives (encodedJob kind bbox points ends out) (outcome (endOf points x)) o) i ran
+
+      pub words-stop : (x : Refusal) (n : ℕ) → r ≡ Off x n → Gives (encodedJob kind bbox points ends out) (refused x n) o
+      words-stop x n i = subst (λ (y : Course). Gives (encodedJob kind bbox points ends out) (outcome (endOf points y)) o) i ran

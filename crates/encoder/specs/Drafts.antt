@@ -4,6 +4,7 @@ use mathlib.Core.Path.{_≡_}
 use mathlib.Core.Bool.{Bool, true, false, not, _&&_}
 use mathlib.Core.List.{List, []}
 use lib.Dec.{leb, eqb}
+use lib.ListN.{length}
 use Rattle.promise.specs.Laid.{lay}
 use Rattle.clip.specs.declared.Pt.{Pt}
 use Rattle.clip.specs.Domain.{isCoord}
@@ -14,10 +15,12 @@ use Rattle.encoder.specs.declared.commands.MaybeWord.the-variants.{NoWor
 use Rattle.encoder.specs.declared.draft.Draft.{Draft}
 use Rattle.encoder.specs.declared.plan.Plan.{Plan}
 use Rattle.encoder.specs.declared.pen.Pen.{Pen}
-use Rattle.encoder.specs.Points.{missing}
+use Rattle.words.specs.Geometries.{maxWords}
+use Rattle.encoder.specs.Adding.{boundary, counted}
+use Rattle.encoder.specs.Points.{missing, clamped}
 use Rattle.encoder.specs.Boundary.{maybe}
 use Rattle.encoder.specs.Emitting.{Emission, emittedAt}
-use Rattle.encoder.specs.Planning.{planLimit, Ready}
+use Rattle.encoder.specs.Planning.{planLimit, Ready, Few}
 use Rattle.encoder.specs.Pens.{penOf, onward}
 
 abbrev pub draftOf : GeomEncoder → Draft
@@ -149,3 +152,12 @@ laidEnds d plan e out = layOf (emittedIf (e .moved1) (stateIn (plan .first)) (e 
 
 abbrev pub laidAll : Draft → Plan → Ends → Pt → List ℕ → List ℕ
 laidAll d plan e q out = layOf (emittedAt (stateIn (plan .second)) q) (laidEnds d plan e out)
+
+-- ---- what drawing a point without boundary points asks: the draft is the state with the point counted, q is the point in the box
+pub record Alone (s : GeomEncoder) (d : Draft) (p q : Pt) : Type 0 where
+  pub taken : stateIn d ≡ counted 1 (length (boundary s p)) s
+  pub none : boundary s p ≡ []
+  pub ready : Ready maxWords (stateIn d)
+  pub few : Few 1 (stateIn d)
+  pub at : q ≡ clamped (d .bbox) p
+  pub coord : isCoord q ≡ true

@@ -14,16 +14,20 @@ ghost use Rattle.encoder.specs.Answers.{saidStarted, started, saidDrawn,
 ghost use Rattle.encoder.specs.Boundary.{namedBy};
 ghost use Rattle.encoder.specs.Adding.{drawn, pointAt, added, edges};
 ghost use Rattle.encoder.specs.Completing.{cleared, finished, completed};
+ghost use Rattle.encoder.specs.Drafts.{Alone};
 use crate::boundary::add_boundary_points;
 use crate::boundary::ends_of;
 use crate::commands::figures_fit;
 use crate::commands::write_end;
+use crate::draft::Draft;
 use crate::draft::draft_of;
+use crate::draft::emit_point;
 use crate::draft::set_end;
 use crate::draft::state_of;
 use crate::draft::take_point;
 use crate::plan::plan_point;
 use crate::plan::write_plan;
+use crate::plan::write_point;
 use crate::points::MaybePt;
 use crate::points::are_in_limit;
 use crate::points::make_point;
@@ -154,6 +158,25 @@ fn no_edges() -> Edges
 }
 
 // ---- the calls
+// A point that brings no boundary points, counted in the draft: ROOM; then what is written. Most points are such, and need no plan of three emissions.
+fn draw_alone(s: GeomEncoder, d: Draft, p: Pt, q: Pt, words: &mut [u32]) -> Drawn
+    requires { ⌜ Alone s d p q ⌝ }
+    ensures answer { λ r. ⌜ Gives (roomy s (now (words .entry)) (drawn s p (now (words .entry)))) (saidDrawn r) (now (words .exit)) ⌝ }
+    ensures edges { λ r. ⌜ edgesOf r ≡ none ⌝ }
+{
+    let last = emit_point(d, q);
+    let pen = last.pen;
+    if !are_counts(last.taken, last.boundary, pen.skipped, pen.taken_out) {
+        return Drawn::Refused(Refusal::Room, s);
+    }
+    let room = Geometry::room(words.len());
+    if room < pen.used {
+        return Drawn::Refused(Refusal::Room, s);
+    }
+    write_point(d, last, q, words);
+    Drawn::Done(state_of(set_end(last, p)), no_edges())
+}
+
 // A coordinate added to a state that breaks no rule: ROOM; then everything that is written.
 fn draw(s: GeomEncoder, p: Pt, words: &mut [u32]) -> Drawn
     requires { ⌜ valid s (length (now words)) ≡ true ⌝ }
@@ -167,6 +190,9 @@ fn draw(s: GeomEncoder, p: Pt, words: &mut [u32]) -> Drawn
     let ends = ends_of(cut);
     let q = make_point(p, bbox);
     let t = take_point(d, ends);
+    if !(ends.moved0 | ends.moved1) {
+        return draw_alone(s, t, p, q, words);
+    }
     let plan = plan_point(t, ends, q);
     let last = plan.last;
     let pen = last.pen;

@@ -70,7 +70,7 @@ fn write_command(kind: u32, count: usize, at: usize, words: &mut [u32])
 }
 
 // The words between a draft and the next: a command where one is due, then the steps from the point before the last.
-fn write_point(d: Draft, next: Draft, q: Pt, words: &mut [u32])
+pub(crate) fn write_point(d: Draft, next: Draft, q: Pt, words: &mut [u32])
     requires { ⌜ Writable d next q (length (now words)) ⌝ }
     ensures { λ r. ⌜ now (words .exit) ≡ lay (emittedAt (stateIn d) q .at) (emittedAt (stateIn d) q .run) (now (words .entry)) ⌝ }
 {

@@ -116,12 +116,18 @@ pub fn finish(kind: u32, bbox: BBox, points: &[i32], ends: &[u32], words: &mut [
     }
 }
 
-// The words of the same job: how many, or the refusal.
+// The same job: how many words, or the refusal. It does not ask `finish`: with a caller of its own the compiler puts the calls into this one.
 pub fn encode(kind: u32, bbox: BBox, points: &[i32], ends: &[u32], words: &mut [u32]) -> Encoded
     ensures { λ r. ⌜ Gives (encodedJob kind bbox (now (points .entry)) (now (ends .entry)) (now (words .entry))) (saidEncoded r) (now (words .exit)) ⌝ }
 {
-    match finish(kind, bbox, points, ends, words) {
-        Course::On(t) => Encoded::Words(t.used),
-        Course::Off(r, n) => Encoded::Refused(r, n),
+    if !is_job(points, ends) {
+        return Encoded::Refused(Refusal::Job, 0);
+    }
+    match GeomEncoder::new(kind, bbox) {
+        Started::Refused(r) => Encoded::Refused(r, 0),
+        Started::Fresh(s) => match add_parts(s, points, ends, words) {
+            Course::On(t) => Encoded::Words(t.used),
+            Course::Off(r, n) => Encoded::Refused(r, n),
+        },
     }
 }
