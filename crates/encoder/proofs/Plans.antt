@@ -4,7 +4,7 @@ use mathlib.Core.Bool.{Bool, true, false, cond, not, _||_}
 use mathlib.Core.List.{List, [], _∷_, _++_}
 use Prim.Native.Nat.{ℕ, _+_, _≤_, _<_}
 use native.Mathlib.Omega.{arith}
-use borrow.Author.Tests.{le-leb, lt-leb}
+use borrow.Author.Tests.{le-leb, lt-leb, not-true, not-false}
 use lib.Dec.{leb}
 use lib.ListN.{length}
 use Rattle.promise.specs.Answers.{Gives, kept}
@@ -62,6 +62,13 @@ module _ (d : Draft) (e : Ends) (q : Pt) (R : Ready maxWords (stateIn d)) (F : F
 
   step1 : Step maxWords (stateIn d) (emittedIf (e .moved0) (stateIn d) (e .end0))
   step1 = if-step maxWords (stateIn d) R (e .moved0) (e .end0) (N .end0)
+
+  -- the second end, where it stayed and where it moved
+  pub second-stays : (first : Draft) → not (e .moved1) ≡ true → stateIn first ≡ emittedIf (e .moved1) (stateIn first) (e .end1) .next
+  second-stays first h = rw (not-true (e .moved1) h)
+
+  pub second-moves : (first second : Draft) → not (e .moved1) ≡ false → stateIn second ≡ emittedAt (stateIn first) (e .end1) .next → stateIn second ≡ emittedIf (e .moved1) (stateIn first) (e .end1) .next
+  second-moves first second h k = rw (not-false (e .moved1) h) k
 
   module _ (first : Draft) (i : stateIn first ≡ emittedIf (e .moved0) (stateIn d) (e .end0) .next) where
     ready1′ : Ready (maxWords + 3) (stateIn first)

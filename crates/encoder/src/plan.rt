@@ -49,7 +49,15 @@ pub(crate) fn plan_point(d: Draft, ends: Ends, q: Pt) -> Plan
     let c0 = ends.end0;
     let c1 = ends.end1;
     let first = emit_if(ends.moved0, d, c0);
-    let second = emit_if(ends.moved1, first, c1);
+    if !ends.moved1 {
+        let only = emit_point(first, q);
+        return Plan {
+            first: first,
+            second: first,
+            last: only,
+        };
+    }
+    let second = emit_point(first, c1);
     let last = emit_point(second, q);
     Plan {
         first: first,

@@ -16,7 +16,7 @@ use Rattle.encoder.specs.declared.whole_job.Course.the-variants.{On, Off}
 use Rattle.printed.specs.Printed.{Told, shown, refusedText, refusedRoom}
 use Rattle.printed.specs.Losses.{lossesRoom}
 use Rattle.printed.proofs.Columns.{refused-short, told}
-use Rattle.printed.proofs.Losses.{losses-short}
+use Rattle.printed.proofs.Lines.{losses-short}
 use Rattle.job_file.specs.JobFile.{jobFileFinished, fileEnd}
 use Rattle.job_file.proofs.Taking.{file-balanced}
 use Rattle.losses.specs.Program.{verticesOf, tallyText, fileText}

@@ -28,7 +28,9 @@ outcomeText (off a) = refusedText (a .number) (a .values)
 
 -- the file's numbers are read, and where that is accepted they are taken for a job; a file that is refused has no accepted points
 abbrev pub fileText : Written (Said ℕ) (List ℕ) → List ℕ → List ℕ
-fileText n words = cond (eqb (n .answer .number) 0) (outcomeText (jobFileFinished (take (n .answer .values) (n .memory)) words .answer)) (refusedText (n .answer .number) 0)
+fileText n words =
+    cond (eqb (n .answer .number) 0) (outcomeText (jobFileFinished (take (n .answer .values) (n .memory)) words .answer))
+    (refusedText (n .answer .number) 0)
 
 unfoldable pub printed : List ℕ → List ℕ → List ℕ → List ℕ
 printed file numbers words = fileText (reading file numbers) words

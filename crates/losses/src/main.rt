@@ -19,7 +19,7 @@ fn show_tally(t: Tally, text: &mut [u8]) -> usize
     let skipped = t.skipped as u64;
     let out = t.taken_out as u64;
     let vertices = taken + boundary - skipped - out;
-    printed::show_losses(taken, boundary, skipped, out, vertices, text)
+    printed::losses::show_losses(taken, boundary, skipped, out, vertices, text)
 }
 
 // What the program prints for a file, at the front of `text`: how many bytes it is. The lists are the program's own, and large enough.

@@ -2,6 +2,6 @@ pub mod Decimals
 pub mod Pieces
 pub mod Columns
 pub mod Pairs
-pub mod Losses
+pub mod Lines
 pub mod Rows
 pub mod Signs

@@ -1,5 +1,7 @@
-// What the programs print, laid out in lent bytes: lines of numbers in decimal, one or two to a line, rows of them, the counts of what was lost,
-// lines of a tile's outcomes, and of bytes in hexadecimal; and how much of a list, and of a text, is printed.
+// What the programs print, laid out in lent bytes: lines of numbers in decimal, one or two to a line, rows of them, lines of a tile's outcomes, and of
+// bytes in hexadecimal; and how much of a list, and of a text, is printed.
+pub mod losses; // the counts of what was lost
+
 ghost use mathlib.Core.Path.{_≡_};
 ghost use Prim.Native.Nat.{_+_, _*_, _<_, _≤_};
 ghost use lib.ListN.{length, take};
@@ -8,7 +10,6 @@ ghost use Rattle.printed.specs.Decimal.{ended};
 ghost use Rattle.printed.specs.Lending.{Appends, Shows};
 ghost use Rattle.printed.specs.Printed.{column, wordsText, wordsRoom, refusedText, refusedRoom};
 ghost use Rattle.printed.specs.Pairs.{pairLine, pairLines, edgesText, edgesRoom};
-ghost use Rattle.printed.specs.Losses.{headed, lossesText, lossesRoom};
 ghost use Rattle.printed.specs.Row.{signedEnded, behind, rowRoom, rowText};
 ghost use Rattle.printed.specs.Tiles.{outcomeLine, outcomeLines, hexDigit, hexByte, endsLine, hexLines, tileText, tileRoom};
 use number::long;
@@ -20,9 +21,6 @@ pub struct Text {}
 impl Text {
     // For `words N` and the words of any job, or `edges N` and its edges: 27 bytes, and 21 for each of 16,384 numbers.
     pub const WORDS: usize = 27 + 21 * 16_384;
-
-    // For the five lines of what was lost: 42 bytes of names, and 21 for each number.
-    pub const LOSSES: usize = 42 + 21 * 5;
 
     // For a tile's answer. The checker does not go through a larger list.
     pub const TILE: usize = 450_000;
@@ -49,7 +47,7 @@ pub fn first_bytes(bytes: &[u8], n: usize) -> &[u8]
 }
 
 // Lays `bytes` at a place of the text.
-fn append(bytes: &[u8], at: usize, text: &mut [u8])
+pub(crate) fn append(bytes: &[u8], at: usize, text: &mut [u8])
     requires { ⌜ at + length (now bytes) ≤ length (now text) ⌝ }
     ensures { λ _. ⌜ now (text .exit) ≡ lay at (now (bytes .entry)) (now (text .entry)) ⌝ }
 {
@@ -61,7 +59,7 @@ fn append(bytes: &[u8], at: usize, text: &mut [u8])
 }
 
 // Lays a number's digits and then `end` at a place of the text, and answers the place after them. A u64 has at most twenty digits.
-fn append_number(n: u64, end: u8, at: usize, text: &mut [u8]) -> usize
+pub(crate) fn append_number(n: u64, end: u8, at: usize, text: &mut [u8]) -> usize
     requires { ⌜ at + 21 ≤ length (now text) ⌝ }
     ensures { λ r. ⌜ Appends (ended n end) at r text ⌝ }
 {
@@ -87,8 +85,7 @@ fn append_words(words: &[u32], at: usize, text: &mut [u8]) -> usize
     next
 }
 
-// `words N` and then each word on its own line: how many bytes it is. A text of fewer than 27 bytes, and 21 for each word, stays as it is, and
-// the answer is 0.
+// `words N` and then each word on its own line: how many bytes it is. A text of fewer than 27 bytes, and 21 for each word, stays as it is, and the answer is 0.
 pub fn show_words(words: &[u32], text: &mut [u8]) -> usize
     ensures { λ r. ⌜ Shows (wordsRoom (now (words .entry))) (wordsText (now (words .entry))) r text ⌝ }
 {
@@ -160,37 +157,6 @@ pub fn show_edges(edges: &[u32], text: &mut [u8]) -> usize
     append_pairs(edges, at, text)
 }
 
-// Lays a line with a name, a blank behind it, and a number at a place of the text: the place after it.
-fn append_line(name: &[u8], n: u64, at: usize, text: &mut [u8]) -> usize
-    requires { ⌜ at + length (now name) + 21 ≤ length (now text) ⌝ }
-    ensures { λ r. ⌜ Appends (headed (now (name .entry)) n) at r text ⌝ }
-{
-    append(name, at, text);
-    append_number(n, b'\n', at + name.len(), text)
-}
-
-// The four counts of a job and its vertices, each on a line with its name: how many bytes it is. A text of fewer than 147 bytes stays as it is, and
-// the answer is 0.
-pub fn show_losses(
-    taken: u64,
-    boundary: u64,
-    skipped: u64,
-    out: u64,
-    vertices: u64,
-    text: &mut [u8],
-) -> usize
-    ensures { λ r. ⌜ Shows lossesRoom (lossesText taken boundary skipped out vertices) r text ⌝ }
-{
-    if text.len() < 147 {
-        return 0;
-    }
-    let one = append_line(b"taken ", taken, 0, text);
-    let two = append_line(b"boundary ", boundary, one, text);
-    let three = append_line(b"skipped ", skipped, two, text);
-    let four = append_line(b"taken out ", out, three, text);
-    append_line(b"vertices ", vertices, four, text)
-}
-
 // Lays a number in decimal, `-` before a negative one, and then `end` at a place of the text: the place after them.
 fn append_signed(n: i64, end: u8, at: usize, text: &mut [u8]) -> usize
     requires { ⌜ at + 22 ≤ length (now text) ⌝ }
@@ -215,8 +181,7 @@ fn separator(i: usize, n: usize) -> u8
     b' '
 }
 
-// The numbers on one line, a blank between them: how many bytes it is. A text of fewer than 22 bytes for each number stays as it is, and the
-// answer is 0.
+// The numbers on one line, a blank between them: how many bytes it is. A text of fewer than 22 bytes for each number stays as it is, and the answer is 0.
 pub fn show_row(numbers: &[i64], text: &mut [u8]) -> usize
     ensures { λ r. ⌜ Shows (rowRoom (now (numbers .entry))) (rowText (now (numbers .entry))) r text ⌝ }
 {

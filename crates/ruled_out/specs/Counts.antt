@@ -27,7 +27,8 @@ use Rattle.ruled_out.specs.Inputs.{bit, state, point, afterOne, afterTwo
 pub begun-uncounted : ((s : GeomEncoder) (p : Pt)
     → emittedAt s p .next .tally ≡ cond (isLast (s .pt1) p && eqb (s .count) 0) (s .tally) (emittedAt s p .next .tally)) → ⊥
 begun-uncounted h =
-    let e : _≡_ {A = ℕ} 1 0 = ap (λ (t : Tally). t .skipped) (h (state 2 Nowhere Nowhere (point (pos 5) (pos 7)) 0 0 3) (pointAt (pos 5) (pos 7))) in omega arith
+    let e : _≡_ {A = ℕ} 1 0 = ap (λ (t : Tally). t .skipped) (h (state 2 Nowhere Nowhere (point (pos 5) (pos 7)) 0 0 3) (pointAt (pos 5) (pos 7))) in
+    omega arith
 
 -- a point taken out is not counted
 pub taken-out-uncounted : ((s : GeomEncoder) → popped s .tally ≡ s .tally) → ⊥
@@ -103,7 +104,8 @@ room-one-early h = let e : _≡_ {A = ℕ} 1 0 = ap bit (h (tallyOf 0 4294967295
 
 -- one late
 pub room-one-late : ((t : Tally)
-    → countsFit t ≡ (leb (t .taken) (maxTally + 1) && leb (t .boundary) (maxTally + 1) && leb (t .skipped) (maxTally + 1) && leb (t .«taken_out») (maxTally + 1))) → ⊥
+    → countsFit t ≡ (leb (t .taken) (maxTally + 1) && leb (t .boundary) (maxTally + 1)
+    && leb (t .skipped) (maxTally + 1) && leb (t .«taken_out») (maxTally + 1))) → ⊥
 room-one-late h = let e : _≡_ {A = ℕ} 0 1 = ap bit (h (tallyOf 0 4294967296 0 0)) in omega arith
 
 -- a point that could bring too many boundary points is ROOM, whatever it brings

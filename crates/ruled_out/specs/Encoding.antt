@@ -36,7 +36,17 @@ use Rattle.ruled_out.specs.Inputs.{bit, item, firstUsed, isThere, ten, h
 -- ---- GeomEncoder::new
 -- a word is used at the start
 pub fresh-used : ((kind : ℕ) (b : BBox) → started kind b ≡ cond (isKind kind) (cond (isGood b)
-    (accepted (record { tally = untouched; kind = kind; bbox = b; «xy_end» = Nowhere; pt0 = Nowhere; pt1 = Nowhere; «cmd_offset» = 0; count = 0; used = 1 } ∷ []))
+    (accepted (record {
+      tally = untouched;
+      kind = kind;
+      bbox = b;
+      «xy_end» = Nowhere;
+      pt0 = Nowhere;
+      pt1 = Nowhere;
+      «cmd_offset» = 0;
+      count = 0;
+      used = 1;
+    } ∷ []))
     (refused Box [])) (refused Kind [])) → ⊥
 unfolding isGood
 fresh-used h = let e : _≡_ {A = ℕ} 0 1 = ap (λ (a : Said (List GeomEncoder)). firstUsed (a .values)) (h 1 ten) in omega arith

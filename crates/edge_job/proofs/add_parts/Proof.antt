@@ -15,6 +15,9 @@ Inv-loop points ends words₀ edges₀ q₀ from₀ j₀ words edges q from j = 
 abbrev μ-loop : tie.MeasureT-loop
 μ-loop points ends words₀ edges₀ q₀ from₀ j₀ words edges q from j = length ends - j
 
+abbrev at-part : (c : tie.After-slice-known4 Inv-loop μ-loop) → tie.After-add-part Inv-loop μ-loop
+at-part c = c .before .before .before .before
+
 loop-holds : tie.Need-loop-holds Inv-loop μ-loop
 loop-holds c = search (needs, parts-start)
 
@@ -44,13 +47,13 @@ same-length-2 c = search needs
 
 returns : tie.Need-returns Inv-loop μ-loop
 returns c =
-    let added = c .before .before .before .before .before .before .before in
+    let added = at-part (c .before .before .before) in
     let turn = added .before .before .before .before in
     parts-stop _ _ _ _ _ _ _ _ (turn .before .loop .inv) (turn .loop-test .taken) (added .add-part .result) _ (added .add-part .ensures) _ _ (c .before .r .given .1)
 
 add-j : tie.Need-add-j Inv-loop μ-loop
 add-j c =
-    let added = c .before .before .before .before .before .before .before in
+    let added = at-part (c .before .before .before) in
     let turn = added .before .before .before .before in
     search (needs, turn .loop-test .taken, turn .before .before .before .before .before .good)
 
@@ -59,7 +62,7 @@ loop-less c = search needs
 
 loop-again : tie.Need-loop-again Inv-loop μ-loop
 loop-again c =
-    let added = c .before .before .before .before .before .before .before in
+    let added = at-part (c .before .before .before) in
     let turn = added .before .before .before .before in
     parts-turn _ _ _ _ _ _ _ _ (turn .before .loop .inv) (turn .loop-test .taken) (added .add-part .result) _ (added .add-part .ensures) _ (c .before .t .given .1) (search needs) (search needs)
 

@@ -3,10 +3,10 @@ use Prim.Native.Nat.{_≤_}
 use native.Mathlib.Omega.{arith}
 use Rattle.printed.specs.Losses.{takenHead, boundaryHead, skippedHead, outHead, lossesRoom, lossesText}
 use Rattle.printed.proofs.Columns.{not-shown}
-use Rattle.printed.proofs.Losses.{line-short, losses-shown}
+use Rattle.printed.proofs.Lines.{line-short, losses-shown}
 use borrow.Author.Needs.{needs}
-use Rattle.printed.proofs.show_losses.Statement.{statement}
-use Rattle.printed.proofs.show_losses.Tie as tie
+use Rattle.printed.proofs.losses.show_losses.Statement.{statement}
+use Rattle.printed.proofs.losses.show_losses.Tie as tie
 
 -- the places on the way
 abbrev start : tie.After-append-line → tie.Start

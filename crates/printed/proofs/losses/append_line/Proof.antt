@@ -1,8 +1,8 @@
 -- The number is laid behind its name.
-use Rattle.printed.proofs.Losses.{line-laid}
+use Rattle.printed.proofs.Lines.{line-laid}
 use borrow.Author.Needs.{needs}
-use Rattle.printed.proofs.append_line.Statement.{statement}
-use Rattle.printed.proofs.append_line.Tie as tie
+use Rattle.printed.proofs.losses.append_line.Statement.{statement}
+use Rattle.printed.proofs.losses.append_line.Tie as tie
 
 append-requires : tie.Need-append-requires
 append-requires c κs = search needs
