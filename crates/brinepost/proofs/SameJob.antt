@@ -1,10 +1,10 @@
 -- A job with its state is the job: the same refusal, the same accepted points, as many words, and the list left the same (`same-job`).
 use Prim.Native.Nat.{ℕ, _/_}
 use mathlib.Core.Path.{_≡_, refl}
-use mathlib.Core.Bool.{Bool, true, false, not, cond, _&&_}
+use mathlib.Core.Bool.{Bool, true, false, not, cond}
 use mathlib.Core.List.{List, [], _∷_}
 use borrow.Author.Tests.{not-true}
-use lib.Dec.{leb, eqb}
+use lib.Dec.{eqb}
 use lib.IntN.{ℤ}
 use lib.ListN.{length}
 use Rattle.promise.specs.Answers.{Written, kept}
@@ -13,6 +13,7 @@ use Rattle.refusal.specs.Said.{Said, refused}
 use Rattle.clip.specs.declared.BBox.{BBox}
 use Rattle.clip.specs.Domain.{isGood}
 use Rattle.clip.specs.Numbers.{boxAt}
+use Rattle.words.specs.Geometries.{isKind}
 use Rattle.encoder.specs.declared.GeomEncoder.{GeomEncoder}
 use Rattle.encoder.specs.States.{fresh}
 use Rattle.encoder.specs.Calls.{Call, call}
@@ -47,7 +48,7 @@ calls-stop (c ∷ cs) n s out =
 
 job-stops : (kind : ℕ) (bbox : BBox) (points : List ℤ) (ends out : List ℕ) → stops (finishedJob kind bbox points ends out .answer) ≡ true
 unfolding finishedJob
-job-stops kind bbox points ends out = by (isJob points ends) (leb 1 kind && leb kind 3) (isGood bbox)
+job-stops kind bbox points ends out = by (isJob points ends) (isKind kind) (isGood bbox)
   where
     by : (a b c : Bool) →
         stops (cond a (cond b (cond c (goAll points ends (fresh kind bbox) out) (kept (off (refused Box 0)) out)) (kept (off (refused Kind 0)) out)) (kept (off (refused Job 0)) out) .answer) ≡ true

@@ -10,8 +10,6 @@ use native.Mathlib.Omega.{arith}
 use borrow.Author.Tests.{eq-eqb, ne-eqb, le-leb, eqb-true}
 use lib.Dec.{leb, eqb}
 use Rattle.promise.proofs.Joined.{both}
-use Rattle.whole.specs.Equal.{eqZ}
-use Rattle.whole.proofs.Equal.{eqZ-yes}
 use Rattle.clip.specs.declared.Pt.{Pt}
 use Rattle.clip.specs.declared.BBox.{BBox}
 use Rattle.encoder.specs.declared.points.MaybePt.{MaybePt}
@@ -21,6 +19,7 @@ use Rattle.encoder.specs.Points.{clamped, isLast, samePt, lastBetween}
 use Rattle.encoder.specs.Pushed.{command}
 use Rattle.encoder.specs.Emitting.{Emission, takenOut, popped, pushed, skipped, emittedAt, emission}
 use Rattle.encoder.specs.Adding.{counted, ended}
+use Rattle.encoder.proofs.Boundaries.{same-yes}
 use Rattle.encoder.proofs.Pushing.{out-count}
 use Rattle.counted.specs.Losses.{one, isOut, beforeNext}
 
@@ -40,9 +39,7 @@ exact-cases P s q skip out push = at-last (isLast (s .pt1) q) refl
 
 last-is : (m : MaybePt) (q : Pt) → isLast m q ≡ true → At q ≡ m
 last-is Nowhere q e = absurd (let z : _≡_ {A = ℕ} 0 1 = cc in omega arith)
-last-is (At p) q e =
-    let (x, y) = both (eqZ (p .x) (q .x)) (eqZ (p .y) (q .y)) e in
-    rw (eqZ-yes (p .x) (q .x) x, eqZ-yes (p .y) (q .y) y)
+last-is (At p) q e = ap At (same-yes p q e)
 
 -- ---- the points of a ring's part: none at its start, the last one alone, the last two
 pub data Ring (s : GeomEncoder) (before last : MaybePt) : Type 0 where

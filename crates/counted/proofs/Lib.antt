@@ -1,3 +1,4 @@
 pub mod Emissions
 pub mod Tallied
 pub mod Pairs
+pub mod Jobs

@@ -13,13 +13,12 @@ use Rattle.promise.specs.Answers.{Written, Gives, kept}
 use Rattle.promise.specs.Lent.{Lent}
 use Rattle.promise.specs.Laid.{lay}
 use Rattle.refusal.specs.declared.Refusal.{Refusal}
-use Rattle.refusal.specs.declared.Refusal.the-variants.{Job, Kind, Box, State, Coord, Room}
+use Rattle.refusal.specs.declared.Refusal.the-variants.{State, Coord, Room}
 use Rattle.refusal.specs.Said.{Said, refused}
 use Rattle.clip.specs.declared.Pt.{Pt}
 use Rattle.clip.specs.declared.BBox.{BBox}
-use Rattle.clip.specs.Domain.{isCoord, isGood}
+use Rattle.clip.specs.Domain.{isCoord}
 use Rattle.clip.specs.Numbers.{edgeNumber}
-use Rattle.words.specs.Geometries.{isKind}
 use Rattle.encoder.specs.declared.GeomEncoder.{GeomEncoder}
 use Rattle.encoder.specs.declared.Edges.{Edges}
 use Rattle.encoder.specs.States.{valid, fresh}
@@ -27,7 +26,7 @@ use Rattle.encoder.specs.Answers.{Counted, turned}
 use Rattle.encoder.specs.Adding.{added, edges}
 use Rattle.encoder.specs.Completing.{completed}
 use Rattle.encoder.specs.Calls.{Call, add, complete}
-use Rattle.encoder.specs.Jobs.{pointsOf, isJob, jobCalls, Outcome, on, off, taken, stopped, outcome}
+use Rattle.encoder.specs.Jobs.{pointsOf, jobCalls, Outcome, on, off, taken, stopped, outcome, checked}
 use Rattle.edge_job.specs.declared.Course.{Course}
 use Rattle.edge_job.specs.declared.Course.the-variants.{On, Off}
 
@@ -84,14 +83,7 @@ run cs s m = record { answer = outcome (go cs 0 s m .answer); memory = go cs 0 s
 
 -- ---- the whole job: JOB, KIND, BOX, then the calls
 unfoldable pub edgeJob : ℕ → BBox → List ℤ → List ℕ → Lists → Written (Said ℕ) Lists
-edgeJob kind bbox points ends m =
-    cond (isJob points ends)
-    (cond (isKind kind)
-    (cond (isGood bbox)
-    (run (jobCalls (pointsOf points) 0 ends) (fresh kind bbox) m)
-    (kept (refused Box 0) m))
-    (kept (refused Kind 0) m))
-    (kept (refused Job 0) m)
+edgeJob kind bbox points ends m = checked (λ a. a) kind bbox points ends m (run (jobCalls (pointsOf points) 0 ends) (fresh kind bbox) m)
 
 -- what the code's course stands for, once n points are accepted
 abbrev pub outcomeOf : ℕ → Course → Outcome

@@ -2,11 +2,12 @@
 -- For callers:
 --     outside-is          a point is outside where it does not lie in the closed box
 --     inside-same stays   a segment inside the box is not cut, and then no end has moved
-use Prim.Native.Nat.{ℕ}
+use Prim.Native.Nat.{ℕ, _+_, _≤_}
 use mathlib.Core.Path.{_≡_, refl, sym, ap, _∙_}
-use mathlib.Core.Bool.{Bool, true, false, not, _&&_, _||_}
-use mathlib.Core.List.{[]}
+use mathlib.Core.Bool.{Bool, true, false, cond, not, _&&_, _||_}
+use mathlib.Core.List.{[], _∷_}
 use native.Mathlib.Omega.{arith}
+use lib.ListN.{length, length-append}
 use lib.Signed.{ltZ}
 use Rattle.whole.proofs.Cases.{le-not}
 use Rattle.whole.specs.Equal.{eqZ}
@@ -25,7 +26,7 @@ use Rattle.clip.specs.Answer.{areCoords, saidClipped, clipped}
 use Rattle.clip.proofs.Callers.{answered, never-refused, Kept, clip-inside, first-kept, first-moved, second-kept, second-moved}
 use Rattle.clip.specs.Numbers.{isMoved}
 use Rattle.encoder.specs.Points.{samePt}
-use Rattle.encoder.specs.Boundary.{movedEnds, movedBy, endsIn, outside}
+use Rattle.encoder.specs.Boundary.{moved, movedEnds, movedBy, endsIn, outside}
 
 -- ---- the two answers of the clip, which is never refused
 module _ (s : Seg) (b : BBox) (r : Clipped) (h : saidClipped r ≡ clipped s b) where
@@ -44,13 +45,26 @@ by-points raw p cut t u e f = rw (e, f)
 same-self : (p : Pt) → samePt p p ≡ true
 same-self p = rw (eqZ-refl (p .x), eqZ-refl (p .y))
 
-same-yes : (p q : Pt) → samePt p q ≡ true → q ≡ p
+pub same-yes : (p q : Pt) → samePt p q ≡ true → q ≡ p
 same-yes p q e =
     let k = both (eqZ (p .x) (q .x)) (eqZ (p .y) (q .y)) e in
     let x = eqZ-yes (p .x) (q .x) (k .0) in
     let y = eqZ-yes (p .y) (q .y) (k .1) in
     let z : _≡_ {A = Pt} (record { x = q .x; y = q .y }) (record { x = p .x; y = p .y }) = rw (x, y) refl in
     z
+
+-- at most two of them moved
+moved-one : (raw end : Pt) → length (moved raw end) ≤ 1
+moved-one raw end = by (samePt raw end)
+  where
+    by : (t : Bool) → length (cond t [] (end ∷ [])) ≤ 1
+    by true = omega arith
+    by false = omega arith
+
+pub moved-two : (raw cut : Seg) → length (movedEnds raw cut) ≤ 2
+moved-two raw cut =
+    let n = length-append (moved (raw .p0) (cut .p0)) (moved (raw .p1) (cut .p1)) in
+    omega (arith, moved-one (raw .p0) (cut .p0), moved-one (raw .p1) (cut .p1))
 
 flag : (p q : Pt) (m t : Bool) → (m ≡ false → q ≡ p) → (m ≡ true → q ≡ p → ⊥) → samePt p q ≡ t → m ≡ not t
 flag p q true true f g e = absurd (g refl (same-yes p q e))

@@ -18,7 +18,9 @@ use Rattle.encoder.specs.Adding.{counted, added}
 use Rattle.promise.proofs.Joined.{both}
 use Rattle.encoder.specs.declared.pen.Pen.{Pen}
 use Rattle.encoder.specs.declared.stretch.Stretch.{Stretch}
-use Rattle.encoder.specs.Stretches.{isStart, Ongoing, pointIn, spareOf, isPlain, halted, run, lastPoint, least, stretched}
+use Rattle.encoder.specs.Stretches.{isStart, Ongoing, pointIn, spareOf, isPlain, halted, run, lastPoint, stretched}
+use Rattle.number.specs.Least.{smaller}
+use Rattle.number.proofs.Least.{smaller-le}
 use Rattle.encoder.specs.Tallies.{maxTally}
 use Rattle.encoder.specs.States.{Sound}
 use Rattle.encoder.specs.Drafts.{draftOf}
@@ -26,7 +28,6 @@ use Rattle.encoder.specs.Pens.{penOf, stateOf, drawnBy}
 use Rattle.encoder.proofs.Tests.{pen-whole}
 use Rattle.encoder.proofs.Plain.{ongoing-start, brings, next-is}
 use Rattle.encoder.proofs.Marks.{ends-two}
-use Rattle.encoder.proofs.Drawing.{least-right}
 
 abbrev Answered : Type 0
 Answered = Written (Said Counted) (List ℕ)
@@ -59,13 +60,6 @@ module _ (l : List ℤ) (end : ℕ) (P : ℕ → GeomEncoder → List ℕ → Ty
           (go (N .ongoing) (step i (stateOf s pen) (stateOf (counted 1 (brings s pen (pointIn l i)) s) (w .answer)) out (w .memory) (omega arith) (N .accepted) (N .long) x))
       by false e go = x
 
-least-left : (n m : ℕ) → least n m ≤ n
-least-left n m = by (leb n m) refl
-  where
-    by : (b : Bool) → leb n m ≡ b → cond b n m ≤ n
-    by true e = omega arith
-    by false e = omega (arith, leb-false n m e)
-
 last-before : (n to : ℕ) → lastPoint n to ≤ to
 last-before n to = by (leb to (n / 2)) refl
   where
@@ -83,10 +77,10 @@ stretch-keeps l to P step s from out S x = by (isStart (draftOf s)) refl
     step′ : (i : ℕ) (s t : GeomEncoder) (out m : List ℕ) → i < lastPoint (length l) to → added s (pointIn l i) out ≡ kept (done t) m → length m ≡ length out → P i s out → P (i + 1) t m
     step′ i s t out m h = step i s t out m (omega (arith, last-before (length l) to))
 
-    by : (b : Bool) → isStart (draftOf s) ≡ b → Ends l (lastPoint (length l) to) P step′ (cond b (run (least (lastPoint (length l) to - from) (spareOf (s .tally))) l from s out) (kept (halted s from) out))
+    by : (b : Bool) → isStart (draftOf s) ≡ b → Ends l (lastPoint (length l) to) P step′ (cond b (run (smaller (lastPoint (length l) to - from) (spareOf (s .tally))) l from s out) (kept (halted s from) out))
     by true e =
         let w = pen-whole s e in
-        subst (λ (t : GeomEncoder). Ends l (lastPoint (length l) to) P step′ (run (least (lastPoint (length l) to - from) (spareOf (s .tally))) l from t out)) w
-        (run-keeps l (lastPoint (length l) to) P step′ s (least (lastPoint (length l) to - from) (spareOf (s .tally))) from (penOf s) out (least-left (lastPoint (length l) to - from) (spareOf (s .tally)))
-        (λ z. omega (arith, least-right (lastPoint (length l) to - from) (spareOf (s .tally)))) (ongoing-start s (length out) S e) (rw w x))
+        subst (λ (t : GeomEncoder). Ends l (lastPoint (length l) to) P step′ (run (smaller (lastPoint (length l) to - from) (spareOf (s .tally))) l from t out)) w
+        (run-keeps l (lastPoint (length l) to) P step′ s (smaller (lastPoint (length l) to - from) (spareOf (s .tally))) from (penOf s) out (smaller-le (lastPoint (length l) to - from) (spareOf (s .tally)) .0)
+        (λ z. omega (arith, smaller-le (lastPoint (length l) to - from) (spareOf (s .tally)) .1)) (ongoing-start s (length out) S e) (rw w x))
     by false e = x

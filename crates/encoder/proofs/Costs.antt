@@ -33,6 +33,7 @@ use Rattle.encoder.specs.Planning.{Ready}
 use Rattle.encoder.proofs.Pushing.{out-count, out-used}
 use Rattle.encoder.proofs.Steps.{emission-cases, command-cases, emission-step}
 use Rattle.encoder.proofs.States.{valid-facts, valid-ready, counted-ready}
+use Rattle.encoder.proofs.Boundaries.{moved-two}
 use Rattle.encoder.proofs.Calls.{finished-used}
 use Rattle.encoder.proofs.Accepted.{added-accepted, completed-accepted, emitted-run, same-emission}
 
@@ -80,20 +81,9 @@ emitted-cost n s (p ∷ ps) out R k =
     omega (arith, emission-cost n s p R k)
 
 -- ---- how many emissions a point is
-moved-one : (a b : Pt) → length (moved a b) ≤ 1
-moved-one a b = by (samePt a b)
-  where
-    by : (t : Bool) → length (cond t [] (b ∷ [])) ≤ 1
-    by true = omega arith
-    by false = omega arith
-
 cut-two : (b : BBox) (m : MaybePt) (p : Pt) → length (cutFrom b m p) ≤ 2
 cut-two b Nowhere p = omega arith
-cut-two b (At q) p =
-    let raw : Seg = record { p0 = q; p1 = p } in
-    let cut : Seg = clip b raw .seg in
-    let l : length (movedEnds raw cut) ≡ length (moved q (cut .p0)) + length (moved p (cut .p1)) = length-append (moved q (cut .p0)) (moved p (cut .p1)) in
-    omega (arith, moved-one q (cut .p0), moved-one p (cut .p1))
+cut-two b (At q) p = moved-two (record { p0 = q; p1 = p }) (clip b (record { p0 = q; p1 = p }) .seg)
 
 boundary-two : (s : GeomEncoder) (p : Pt) → length (boundary s p) ≤ 2
 unfolding boundary

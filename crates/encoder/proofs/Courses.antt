@@ -1,6 +1,7 @@
 -- Laws of calls in order: one more call, and calls after calls.
 --     go-on go-off           the first call accepted, or refused
 --     go-then                calls after calls
+--     never-on same-state    what an outcome tells
 use mathlib.Core.Path.{_≡_, refl, sym, _∙_, ap}
 use mathlib.Core.Bool.{Bool, true, false, cond}
 use mathlib.Core.List.{List, [], _∷_, _++_}
@@ -21,6 +22,23 @@ use Rattle.encoder.specs.Jobs.{Outcome, on, off, taken, stopped, go}
 
 not-zero : (r : Refusal) → numberOf r ≡ 0 → ⊥
 not-zero r e = omega (arith, numbered r)
+
+-- ---- an outcome that goes on is none that stopped, and is known by its state
+state-in : GeomEncoder → Outcome → GeomEncoder
+state-in d (on n s) = s
+state-in d (off a) = d
+
+is-on : Outcome → ℕ
+is-on (on n s) = 1
+is-on (off a) = 0
+
+pub never-on : {a : Said ℕ} {n : ℕ} {s : GeomEncoder} → off a ≡ on n s → ⊥
+unfolding is-on
+never-on e = let z : _≡_ {A = ℕ} 0 1 = ap is-on e in omega arith
+
+pub same-state : {n m : ℕ} {s t : GeomEncoder} → on n s ≡ on m t → s ≡ t
+unfolding state-in
+same-state {s = s} e = ap (state-in s) e
 
 -- ---- one more call
 module _ (c : Call) (cs : List Call) (n : ℕ) (s t : GeomEncoder) (out l : List ℕ) where

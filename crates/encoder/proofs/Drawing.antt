@@ -28,7 +28,9 @@ use Rattle.words.proofs.Rooms.{room-length, room-cap}
 use Rattle.encoder.specs.Boundary.{outside}
 use Rattle.encoder.specs.declared.pen.Pen.{Pen}
 use Rattle.encoder.specs.declared.stretch.Stretch.{Stretch}
-use Rattle.encoder.specs.Stretches.{isStart, Ongoing, emissionsBy, reckoned, spareOf, Counting, pointIn, halted, run, lastPoint, least, stretched}
+use Rattle.encoder.specs.Stretches.{isStart, Ongoing, emissionsBy, reckoned, spareOf, Counting, pointIn, halted, run, lastPoint, stretched}
+use Rattle.number.specs.Least.{smaller}
+use Rattle.number.proofs.Least.{smaller-le}
 use Rattle.encoder.specs.Tallies.{maxTally, countsFit}
 use Rattle.encoder.specs.declared.draft.Draft.{Draft}
 use Rattle.encoder.specs.Drafts.{draftOf}
@@ -177,22 +179,15 @@ module _ (s : GeomEncoder) (l : List ℤ) (from end : ℕ) (out₀ : List ℕ) (
             rest = opened ∙ (rw (not-false t n, N .accepted)) ∙ ap (λ (x : GeomEncoder). run (end - (i + 1)) l (i + 1) (stateOf x next) o) z;
           }
 
-pub least-right : (n m : ℕ) → least n m ≤ m
-least-right n m = by (leb n m) refl
-  where
-    by : (b : Bool) → leb n m ≡ b → cond b n m ≤ m
-    by true e = leb-true n m e
-    by false e = omega arith
-
 -- ---- the returns of `within`
 module _ (from end most : ℕ) where
-  pub none-left : end ≤ from → (end - from ≡ least (end - from) most) × (end ≤ end)
+  pub none-left : end ≤ from → (end - from ≡ smaller (end - from) most) × (end ≤ end)
   none-left h = let z : end - from ≡ 0 = omega arith in (rw (z, le-leb 0 most (omega arith)), omega arith)
 
-  pub all-left : end - from ≤ most → (end - from ≡ least (end - from) most) × (end ≤ end)
+  pub all-left : end - from ≤ most → (end - from ≡ smaller (end - from) most) × (end ≤ end)
   all-left h = (rw (le-leb (end - from) most h), omega arith)
 
-  pub some-left : from < end → most < end - from → (from + most - from ≡ least (end - from) most) × (from + most ≤ end)
+  pub some-left : from < end → most < end - from → (from + most - from ≡ smaller (end - from) most) × (from + most ≤ end)
   some-left g h = (rw (lt-leb (end - from) most h) (omega arith), omega arith)
 
 -- ---- the returns of `add_stretch`
@@ -215,14 +210,14 @@ module _ (s : GeomEncoder) (l : List ℤ) (from to : ℕ) (out : List ℕ) (d : 
     stretch-asked n S = subst (λ (x : Draft). Ongoing s (x .pen) n) (sym f) (ongoing-start s n S begins)
 
     -- the end that a stretch goes to, with so many points to spare
-    pub stretch-run : (end last : ℕ) → last ≡ lastPoint (length l) to → (m : ℕ) → m ≡ spareOf (s .tally) → end - from ≡ least (last - from) m → (r : Stretch) (o : List ℕ) → Gives (run (end - from) l from (stateOf s (d .pen)) out) r o → Gives (stretched s l from to out) r o
+    pub stretch-run : (end last : ℕ) → last ≡ lastPoint (length l) to → (m : ℕ) → m ≡ spareOf (s .tally) → end - from ≡ smaller (last - from) m → (r : Stretch) (o : List ℕ) → Gives (run (end - from) l from (stateOf s (d .pen)) out) r o → Gives (stretched s l from to out) r o
     unfolding stretched
     stretch-run end last k m j z r o g = rw begins (rw (whole, z, k, j) at g)
 
-    pub counting-asked : Counts (s .tally) → (end last m : ℕ) → m ≡ spareOf (s .tally) → end - from ≡ least (last - from) m → Counting (stateOf s (d .pen)) (end - from)
+    pub counting-asked : Counts (s .tally) → (end last m : ℕ) → m ≡ spareOf (s .tally) → end - from ≡ smaller (last - from) m → Counting (stateOf s (d .pen)) (end - from)
     counting-asked k end last m j z = rw whole (record {
       fits = counts-fit (s .tally) k;
-      spare = λ q. omega (arith, least-right (last - from) m);
+      spare = λ q. omega (arith, smaller-le (last - from) m .1);
     })
 
 pub last-within : (n to end : ℕ) → end ≡ lastPoint n to → end ≤ n / 2

@@ -31,7 +31,7 @@ use Rattle.encoder.specs.Adding.{emitted}
 use Rattle.encoder.specs.Boundary.{outside}
 use Rattle.clip.proofs.Callers.{coord-facts, clip-within}
 use Rattle.promise.proofs.Joined.{both}
-use Rattle.encoder.proofs.Boundaries.{inside-same, stays}
+use Rattle.encoder.proofs.Boundaries.{moved-two, inside-same, stays}
 use Rattle.clip.specs.declared.ClippedSeg.{ClippedSeg}
 use Rattle.words.specs.Params.{param}
 use Rattle.promise.proofs.Stores.{two-stores}
@@ -286,18 +286,8 @@ marks-used b ring (p ∷ ps) pen out =
     let k = marks-used b ring ps (marked ring pen (clamped b p) out .answer) (marked ring pen (clamped b p) out .memory) in
     omega arith
 
-moved-one : (raw end : Pt) → length (moved raw end) ≤ 1
-moved-one raw end = by (samePt raw end)
-  where
-    by : (t : Bool) → length (cond t [] (end ∷ [])) ≤ 1
-    by true = omega arith
-    by false = omega arith
-
 pub ends-two : (b : BBox) (raw p : Pt) → length (ends b raw p) ≤ 2
-ends-two b raw p =
-    let cut = clip b (record { p0 = raw; p1 = p }) .seg in
-    let n : length (ends b raw p) ≡ length (moved raw (cut .p0)) + length (moved p (cut .p1)) = length-append (moved raw (cut .p0)) (moved p (cut .p1)) in
-    omega (arith, moved-one raw (cut .p0), moved-one p (cut .p1))
+ends-two b raw p = moved-two (record { p0 = raw; p1 = p }) (clip b (record { p0 = raw; p1 = p }) .seg)
 
 -- ---- at most one point lost for each emission
 marked-lost : (ring : Bool) (pen : Pen) (q : Pt) (out : List ℕ) → marked ring pen q out .answer .skipped + marked ring pen q out .answer .«taken_out» ≤ pen .skipped + pen .«taken_out» + 1

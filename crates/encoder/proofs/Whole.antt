@@ -22,6 +22,7 @@ use Rattle.encoder.specs.declared.Started.the-variants.{Fresh, Refused a
 use Rattle.encoder.specs.States.{fresh, Sound}
 use Rattle.encoder.specs.Answers.{saidStarted, started}
 use Rattle.encoder.proofs.States.{yes-of, no-of}
+use Rattle.encoder.proofs.Courses.{never-on, same-state}
 use Rattle.encoder.proofs.Reached.{fresh-sound}
 use Rattle.encoder.specs.declared.whole_job.Encoded.{Encoded}
 use Rattle.encoder.specs.declared.whole_job.Encoded.the-variants.{Words, Refused}
@@ -39,19 +40,15 @@ one-encoded (Refused r n) (Refused r′ m) e =
     let j : n ≡ m = ap (λ (s : Said ℕ). s .values) e in
     λ k. Refused (i k) (j k)
 
-state-of : GeomEncoder → Outcome → GeomEncoder
-state-of d (on n s) = s
-state-of d (off a) = d
-
 said-of : Said ℕ → Outcome → Said ℕ
 said-of d (on n s) = d
 said-of d (off a) = a
 
 pub one-course : (n : ℕ) (r r′ : Course) → outcomeOf n r ≡ outcomeOf n r′ → r ≡ r′
-unfolding state-of said-of
-one-course n (On s) (On t) e = ap On (ap (state-of s) e)
-one-course n (On s) (Off r k) e = absurd (never-both r (ap (said-of (accepted k)) e))
-one-course n (Off r k) (On s) e = absurd (never-both r (sym (ap (said-of (accepted k)) e)))
+unfolding said-of
+one-course n (On s) (On t) e = ap On (same-state e)
+one-course n (On s) (Off r k) e = absurd (never-on (sym e))
+one-course n (Off r k) (On s) e = absurd (never-on e)
 one-course n (Off r k) (Off r′ m) e =
     let f : refused r k ≡ refused r′ m = ap (said-of (accepted k)) e in
     let i : r ≡ r′ = one-refusal r r′ f in

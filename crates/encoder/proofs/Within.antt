@@ -24,14 +24,15 @@ use Rattle.encoder.specs.Adding.{drawn, added}
 use Rattle.encoder.specs.Completing.{isEmpty, closed, completed}
 use Rattle.encoder.specs.Calls.{Call, add, complete, call}
 use Rattle.words.proofs.Rooms.{room-length}
+use Rattle.encoder.proofs.Courses.{never-on, same-state}
 use Rattle.encoder.proofs.Reached.{fresh-sound, add-sound, complete-sound}
 use Rattle.encoder.specs.Jobs.{Outcome, on, off, pointsOf, isJob, jobCalls, taken, stopped, go, outcome, run, encodedJob}
 
 -- ---- a call whose number is zero says that it is done
-abbrev Answered : Type 0
+abbrev pub Answered : Type 0
 Answered = Written (Said Counted) (List ℕ)
 
-abbrev IsDone : Answered → Type 0
+abbrev pub IsDone : Answered → Type 0
 IsDone w = w ≡ kept (done (w .answer .values .state)) (w .memory)
 
 fitting-done : (s : GeomEncoder) (out : List ℕ) (w : Written GeomEncoder (List ℕ)) → fitting s out w .answer .number ≡ 0 → IsDone (fitting s out w)
@@ -69,6 +70,10 @@ completed-done s out = by (valid s (length out)) (isEmpty s)
     by true false e = fitting-done s out (closed s out) e
     by false c e = absurd (omega arith)
 
+pub call-done : (c : Call) (s : GeomEncoder) (out : List ℕ) → call c s out .answer .number ≡ 0 → IsDone (call c s out)
+call-done (add p) s out e = added-done s p out e
+call-done complete s out e = completed-done s out e
+
 -- so it keeps the state sound, and the list its length
 sound-call : (c : Call) (s : GeomEncoder) (out : List ℕ) → Sound s (length out) → call c s out .answer .number ≡ 0
     → Sound (call c s out .answer .values .state) (length (call c s out .memory)) × (length (call c s out .memory) ≡ length out)
@@ -76,17 +81,8 @@ sound-call (add p) s out S e = add-sound s p out _ _ S (added-done s p out e)
 sound-call complete s out S e = complete-sound s out _ _ S (completed-done s out e)
 
 -- ---- calls in order
-state-in : GeomEncoder → Outcome → GeomEncoder
-state-in d (on n s) = s
-state-in d (off a) = d
-
-is-on : Outcome → ℕ
-is-on (on n s) = 1
-is-on (off a) = 0
-
 pub go-sound : (cs : List Call) (n : ℕ) (s : GeomEncoder) (out : List ℕ) → Sound s (length out) → (m : ℕ) (t : GeomEncoder) → go cs n s out .answer ≡ on m t → Sound t (length (go cs n s out .memory))
-unfolding state-in is-on
-go-sound [] n s out S m t e = subst (λ (x : GeomEncoder). Sound x (length out)) (ap (state-in s) e) S
+go-sound [] n s out S m t e = subst (λ (x : GeomEncoder). Sound x (length out)) (same-state e) S
 go-sound (c ∷ cs) n s out S m t e =
     by (eqb (call c s out .answer .number) 0) refl (λ T. go-sound cs (taken c n) (call c s out .answer .values .state) (call c s out .memory) T m t) e
   where
@@ -96,7 +92,7 @@ go-sound (c ∷ cs) n s out S m t e =
         → cond b (go cs (taken c n) (call c s out .answer .values .state) (call c s out .memory)) (kept (off (stopped n (call c s out .answer))) out) .answer ≡ on m t
         → Sound t (length (cond b (go cs (taken c n) (call c s out .answer .values .state) (call c s out .memory)) (kept (off (stopped n (call c s out .answer))) out) .memory))
     by true f r g = r (sound-call c s out S (eqb-true (call c s out .answer .number) 0 f) .0) g
-    by false f r g = absurd (let z : _≡_ {A = ℕ} 0 1 = ap is-on g in omega arith)
+    by false f r g = absurd (never-on g)
 
 within : (cs : List Call) (n : ℕ) (s : GeomEncoder) (out : List ℕ) → Sound s (length out) → (k : ℕ) → outcome (go cs n s out .answer) ≡ accepted k → k ≤ length out
 within [] n s out S k e =

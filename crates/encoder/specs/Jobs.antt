@@ -74,27 +74,23 @@ outcome (off a) = a
 abbrev pub run : List Call → GeomEncoder → List ℕ → Written (Said ℕ) (List ℕ)
 run cs s out = record { answer = outcome (go cs 0 s out .answer); memory = go cs 0 s out .memory }
 
--- ---- the whole job: JOB, KIND, BOX, then the calls
-unfoldable pub encodedJob : ℕ → BBox → List ℤ → List ℕ → List ℕ → Written (Said ℕ) (List ℕ)
-encodedJob kind bbox points ends out =
+-- ---- the whole job: JOB, KIND, BOX, then the calls, which give w; an answer is made by f of what is said
+abbrev pub checked : {A M : Type 0} → (Said ℕ → A) → ℕ → BBox → List ℤ → List ℕ → M → Written A M → Written A M
+checked f kind bbox points ends m w =
     cond (isJob points ends)
     (cond (isKind kind)
     (cond (isGood bbox)
-    (run (jobCalls (pointsOf points) 0 ends) (fresh kind bbox) out)
-    (kept (refused Box 0) out))
-    (kept (refused Kind 0) out))
-    (kept (refused Job 0) out)
+    w
+    (kept (f (refused Box 0)) m))
+    (kept (f (refused Kind 0)) m))
+    (kept (f (refused Job 0)) m)
+
+unfoldable pub encodedJob : ℕ → BBox → List ℤ → List ℕ → List ℕ → Written (Said ℕ) (List ℕ)
+encodedJob kind bbox points ends out = checked (λ a. a) kind bbox points ends out (run (jobCalls (pointsOf points) 0 ends) (fresh kind bbox) out)
 
 -- the same with the state behind the last call, its counts among it (document 02, request (ix)); `encoded-finished` of proofs/Whole
 unfoldable pub finishedJob : ℕ → BBox → List ℤ → List ℕ → List ℕ → Written Outcome (List ℕ)
-finishedJob kind bbox points ends out =
-    cond (isJob points ends)
-    (cond (isKind kind)
-    (cond (isGood bbox)
-    (go (jobCalls (pointsOf points) 0 ends) 0 (fresh kind bbox) out)
-    (kept (off (refused Box 0)) out))
-    (kept (off (refused Kind 0)) out))
-    (kept (off (refused Job 0)) out)
+finishedJob kind bbox points ends out = checked off kind bbox points ends out (go (jobCalls (pointsOf points) 0 ends) 0 (fresh kind bbox) out)
 
 -- document 01's number and values for each answer: the words used, or the refusal with the count of accepted points
 abbrev pub saidEncoded : Encoded → Said ℕ

@@ -7,6 +7,7 @@ use lib.Dec.{leb, eqb}
 use lib.IntN.{ℤ, pos}
 use lib.ListN.{length, getD}
 use Rattle.promise.specs.Answers.{Written, kept}
+use Rattle.number.specs.Least.{smaller}
 use Rattle.clip.specs.declared.Pt.{Pt}
 use Rattle.clip.specs.Domain.{isCoord}
 use Rattle.words.specs.Geometries.{room}
@@ -71,10 +72,7 @@ run (suc n) l i s out =
 abbrev pub lastPoint : ℕ → ℕ → ℕ
 lastPoint n to = cond (leb to (n / 2)) to (n / 2)
 
-abbrev pub least : ℕ → ℕ → ℕ
-least n m = cond (leb n m) n m
-
 unfoldable pub stretched : GeomEncoder → List ℤ → ℕ → ℕ → List ℕ → Written Stretch (List ℕ)
 stretched s l from to out =
-    let most : ℕ = least (lastPoint (length l) to - from) (spareOf (s .tally)) in
+    let most : ℕ = smaller (lastPoint (length l) to - from) (spareOf (s .tally)) in
     cond (isStart (draftOf s)) (run most l from s out) (kept (halted s from) out)

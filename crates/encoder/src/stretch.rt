@@ -9,7 +9,8 @@ ghost use Rattle.promise.specs.Answers.{Gives};
 ghost use Rattle.clip.specs.Domain.{isCoord, isGood};
 ghost use Rattle.words.specs.Geometries.{maxWords};
 ghost use Rattle.encoder.specs.Boundary.{outside};
-ghost use Rattle.encoder.specs.Stretches.{isStart, Ongoing, emissionsBy, reckoned, spareOf, Counting, run, lastPoint, least, stretched};
+ghost use Rattle.encoder.specs.Stretches.{isStart, Ongoing, emissionsBy, reckoned, spareOf, Counting, run, lastPoint, stretched};
+ghost use Rattle.number.specs.Least.{smaller};
 ghost use Rattle.encoder.specs.Tallies.{maxTally, countsFit};
 ghost use Rattle.encoder.specs.States.{Sound};
 ghost use Rattle.encoder.specs.Pens.{stateOf, markedIf, markedEnds, drawnBy, Able, Steady};
@@ -208,7 +209,7 @@ fn spare(t: Tally) -> usize
 
 // The end, or so many points from `from` on.
 fn within(from: usize, end: usize, most: usize) -> usize
-    ensures { λ r. ⌜ (r - from ≡ least (end - from) most) × (r ≤ end) ⌝ }
+    ensures { λ r. ⌜ (r - from ≡ smaller (end - from) most) × (r ≤ end) ⌝ }
 {
     if end <= from {
         return end;

@@ -23,6 +23,7 @@ use Rattle.encoder.specs.declared.whole_job.Course.{Course}
 use Rattle.encoder.specs.Jobs.{Outcome, on, off, outcome, encodedJob, finishedJob, endOf}
 use Rattle.encoder.proofs.Within.{encoded-within}
 use Rattle.encoder.proofs.Whole.{encoded-finished}
+use Rattle.encoder.proofs.Courses.{never-on}
 use Rattle.encoder.proofs.Losses.{finished-balanced}
 use Rattle.edge_job.specs.EdgeJobs.{Lists, edgeJob}
 use Rattle.job_file.specs.declared.Body.{Body}
@@ -186,14 +187,6 @@ file-finished file words = by (leb (length file) 16384) (leb 6 (length file)) (l
     by true true true = encoded-finished (kindOf file) (boxOf file) (pointsIn file) (endsOf file) words
 
 -- ---- of an accepted file no more points are lost than were given
-is-on : Outcome → ℕ
-is-on (on n s) = 1
-is-on (off a) = 0
-
-never-on : {a : Said ℕ} {n : ℕ} {s : GeomEncoder} → off a ≡ on n s → ⊥
-unfolding is-on
-never-on e = let z : _≡_ {A = ℕ} 0 1 = ap is-on e in omega arith
-
 pub file-balanced : (file words : List ℕ) (n : ℕ) (s : GeomEncoder) → jobFileFinished file words .answer ≡ on n s
     → s .tally .skipped + s .tally .«taken_out» ≤ s .tally .taken + s .tally .boundary
 unfolding jobFileFinished

@@ -24,7 +24,7 @@ fn show_tally(t: Tally, text: &mut [u8]) -> usize
 
 // What the program prints for a file, at the front of `text`: how many bytes it is. The lists are the program's own, and large enough.
 fn answer(file: &[u8], numbers: &mut [u32], words: &mut [u32], text: &mut [u8]) -> usize
-    requires { ⌜ 147 ≤ length (now text) ⌝ }
+    requires { ⌜ lossesRoom ≤ length (now text) ⌝ }
     ensures { λ r. ⌜ Tells (printed (now (file .entry)) (now (numbers .entry)) (now (words .entry))) r text ⌝ }
 {
     match number_file::read_numbers(file, numbers) {

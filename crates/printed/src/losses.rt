@@ -21,8 +21,8 @@ fn append_line(name: &[u8], n: u64, at: usize, text: &mut [u8]) -> usize
     append_number(n, b'\n', at + name.len(), text)
 }
 
-// The four counts of a job and its vertices, each on a line with its name: how many bytes it is. A text of fewer than 147 bytes stays as it is, and
-// the answer is 0.
+// The four counts of a job and its vertices, each on a line with its name: how many bytes it is. A text shorter than `Text::LOSSES` stays as it
+// is, and the answer is 0.
 pub fn show_losses(
     taken: u64,
     boundary: u64,
@@ -33,7 +33,7 @@ pub fn show_losses(
 ) -> usize
     ensures { λ r. ⌜ Shows lossesRoom (lossesText taken boundary skipped out vertices) r text ⌝ }
 {
-    if text.len() < 147 {
+    if text.len() < Text::LOSSES {
         return 0;
     }
     let one = append_line(b"taken ", taken, 0, text);
