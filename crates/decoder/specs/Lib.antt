@@ -1,3 +1,4 @@
 pub mod Vertices
 pub mod ReadingWords
-pub mod Walking
+pub mod Stepping
+pub mod Passing

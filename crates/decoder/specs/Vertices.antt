@@ -2,7 +2,7 @@
 use Prim.Native.Nat.{ℕ}
 use mathlib.Core.List.{List, [], _∷_, _++_}
 use lib.IntN.{ℤ, pos}
-use Rattle.refusal.specs.declared.Refusal.{Refusal}
+use Rattle.refusal.specs.declared.Fault.{Fault}
 
 -- MVT 4.3: the position that parameter integers are steps from
 pub record Cursor : Type 0 where
@@ -17,7 +17,7 @@ pub record Vertex : Type 0 where
 
 pub data Trace : Type 0 where
   traced : List Vertex → Cursor → Trace
-  faulty : Refusal → Trace
+  faulty : Fault → Trace
 
 -- where a feature's cursor starts
 abbrev pub origin : Cursor
@@ -29,12 +29,12 @@ vertex id c = record { id = id; x = c .x; y = c .y }
 -- these vertices, and then those
 abbrev pub onto : List Vertex → Trace → Trace
 onto vs (traced us c) = traced (vs ++ us) c
-onto vs (faulty r) = faulty r
+onto vs (faulty f) = faulty f
 
 -- go on where the cursor is, unless there is a fault
 abbrev pub andThen : Trace → (Cursor → Trace) → Trace
 andThen (traced vs c) go = onto vs (go c)
-andThen (faulty r) go = faulty r
+andThen (faulty f) go = faulty f
 
 -- "Each vertex gives three i32 numbers: id, x, y."
 abbrev pub numbers : List Vertex → List ℤ

@@ -1,24 +1,26 @@
-// What one word says: a command word's id and count, or the step of a parameter, and where the reading stands.
+// What one word says, a command word's id and count or the step of a parameter; and where a reading stands.
 ghost use mathlib.Core.Path.{_≡_};
-ghost use Rattle.decoder.specs.Walking.{outset, headOf, steppedTo};
+ghost use Rattle.decoder.specs.Stepping.{outset};
+ghost use Rattle.decoder.specs.Passing.{headOf, steppedTo};
 use words::command::Command;
 use words::command::CommandInt;
 use words::command::CommandRead;
 use words::param::ParamInt;
 
 // The next word, how many pairs of the present command are still to come, its id, and the cursor.
-pub(crate) struct Pen {
-    pub(crate) at: usize,
-    pub(crate) left: usize,
-    pub(crate) id: u32,
-    pub(crate) x: i32,
-    pub(crate) y: i32,
+pub struct Pen {
+    pub at: usize,
+    pub left: usize,
+    pub id: u32,
+    pub x: i32,
+    pub y: i32,
 }
 
-// What a command word asks for.
+// What a command word says by itself.
 pub(crate) enum Head {
     Draw(u32, u32),
     Close,
+    Miscounted,
     Unknown,
 }
 
@@ -32,7 +34,8 @@ impl Pen {
 
     pub(crate) const GREATEST: i64 = 2_147_483_647;
 
-    pub(crate) fn new() -> Pen
+    // Before the first word.
+    pub fn new() -> Pen
         ensures { λ r. ⌜ r ≡ outset ⌝ }
     {
         Pen {
@@ -45,6 +48,7 @@ impl Pen {
     }
 }
 
+// MVT 4.3.3: a ClosePath has count 1, and nothing is drawn no times.
 pub(crate) fn head_of(word: u32) -> Head
     ensures { λ r. ⌜ r ≡ headOf word ⌝ }
 {
@@ -54,9 +58,24 @@ pub(crate) fn head_of(word: u32) -> Head
             let id = c.id;
             let count = c.count;
             match id {
-                Command::ClosePath => Head::Close,
-                Command::MoveTo => Head::Draw(1, count),
-                Command::LineTo => Head::Draw(2, count),
+                Command::ClosePath => {
+                    if count != 1 {
+                        return Head::Miscounted;
+                    }
+                    Head::Close
+                }
+                Command::MoveTo => {
+                    if count == 0 {
+                        return Head::Miscounted;
+                    }
+                    Head::Draw(1, count)
+                }
+                Command::LineTo => {
+                    if count == 0 {
+                        return Head::Miscounted;
+                    }
+                    Head::Draw(2, count)
+                }
             }
         }
     }

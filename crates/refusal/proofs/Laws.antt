@@ -5,13 +5,14 @@ use Prim.Native.Nat.{ℕ, _≤_}
 use native.Mathlib.Omega.{arith}
 use lib.Dec.{eqb}
 use Rattle.refusal.specs.declared.Refusal.{Refusal}
-use Rattle.refusal.specs.declared.Refusal.the-variants.{Job, Kind, Box, State, Coord, Empty, Room, Command, Cut, Step, Text, Turn, Extent, Name}
-use Rattle.refusal.specs.Refusals.{numberOf, placeOf}
-use Rattle.refusal.specs.Said.{Said, accepted, refused}
+use Rattle.refusal.specs.declared.Refusal.the-variants.{Job, Kind, Box, State, Coord, Empty, Room, Command, Step, Text, Turn, Extent, Name, Count, NoParams, CutParams}
+use Rattle.refusal.specs.declared.Fault.{Fault}
+use Rattle.refusal.specs.Refusals.{numberOf}
+use Rattle.refusal.specs.Said.{Said, accepted, refused, refusedAt, plain}
 
--- the refusal of a number and a place
-refusalOf : ℕ → ℕ → Refusal
-refusalOf n place =
+-- the refusal of a number
+refusalOf : ℕ → Refusal
+refusalOf n =
     cond (eqb n 1) Job (
     cond (eqb n 2) Kind (
     cond (eqb n 3) Box (
@@ -20,14 +21,16 @@ refusalOf n place =
     cond (eqb n 6) Empty (
     cond (eqb n 7) Room (
     cond (eqb n 8) Command (
-    cond (eqb n 9) Cut (
     cond (eqb n 10) Step (
     cond (eqb n 11) Text (
     cond (eqb n 12) Turn (
     cond (eqb n 13) Extent (
-    Name)))))))))))))
+    cond (eqb n 14) Name (
+    cond (eqb n 16) Count (
+    cond (eqb n 17) NoParams (
+    CutParams)))))))))))))))
 
-read-back : (r : Refusal) → refusalOf (numberOf r) (placeOf r) ≡ r
+read-back : (r : Refusal) → refusalOf (numberOf r) ≡ r
 unfolding refusalOf
 read-back Job = refl
 read-back Kind = refl
@@ -37,15 +40,17 @@ read-back Coord = refl
 read-back Empty = refl
 read-back Room = refl
 read-back Command = refl
-read-back Cut = refl
 read-back Step = refl
 read-back Text = refl
 read-back Turn = refl
 read-back Extent = refl
 read-back Name = refl
+read-back Count = refl
+read-back NoParams = refl
+read-back CutParams = refl
 
-pub same-refusal : (r r′ : Refusal) → numberOf r ≡ numberOf r′ → placeOf r ≡ placeOf r′ → r ≡ r′
-same-refusal r r′ e f = sym (read-back r) ∙ (λ i. refusalOf (e i) (f i)) ∙ read-back r′
+pub same-refusal : (r r′ : Refusal) → numberOf r ≡ numberOf r′ → r ≡ r′
+same-refusal r r′ e = sym (read-back r) ∙ ap refusalOf e ∙ read-back r′
 
 pub numbered : (r : Refusal) → 1 ≤ numberOf r
 numbered Job = omega arith
@@ -56,16 +61,26 @@ numbered Coord = omega arith
 numbered Empty = omega arith
 numbered Room = omega arith
 numbered Command = omega arith
-numbered Cut = omega arith
 numbered Step = omega arith
 numbered Text = omega arith
 numbered Turn = omega arith
 numbered Extent = omega arith
 numbered Name = omega arith
+numbered Count = omega arith
+numbered NoParams = omega arith
+numbered CutParams = omega arith
 
 module _ {X : Type 0} {v v′ : X} where
+  pub one-fault : (f f′ : Fault) → refusedAt f v ≡ refusedAt f′ v′ → f ≡ f′
+  one-fault f f′ e =
+      let r : f .refusal ≡ f′ .refusal = same-refusal (f .refusal) (f′ .refusal) (ap (λ (s : Said X). s .number) e) in
+      λ i. record { refusal = r i; place = e i .place }
+
+  pub never-fault : (f : Fault) → accepted v ≡ refusedAt f v′ → ⊥
+  never-fault f e = let z : 0 ≡ numberOf (f .refusal) = ap (λ (s : Said X). s .number) e in omega (arith, numbered (f .refusal))
+
   pub one-refusal : (r r′ : Refusal) → refused r v ≡ refused r′ v′ → r ≡ r′
-  one-refusal r r′ e = same-refusal r r′ (ap (λ (s : Said X). s .number) e) (ap (λ (s : Said X). s .place) e)
+  one-refusal r r′ e = ap (λ (f : Fault). f .refusal) (one-fault (plain r) (plain r′) e)
 
   pub never-both : (r : Refusal) → accepted v ≡ refused r v′ → ⊥
-  never-both r e = let z : 0 ≡ numberOf r = ap (λ (s : Said X). s .number) e in omega (arith, numbered r)
+  never-both r e = never-fault (plain r) e

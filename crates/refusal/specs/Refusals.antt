@@ -1,7 +1,8 @@
--- Document 01, "Refusals by number": each refusal's number, and the place that it carries.
+-- Document 01, "Refusals by number", and document 02's rows as far as they are in: each refusal's number. "9 CUT becomes 17 NOPARAMS and 18 CUTPARAMS", so
+-- no refusal has 9.
 use Prim.Native.Nat.{ℕ}
 use Rattle.refusal.specs.declared.Refusal.{Refusal}
-use Rattle.refusal.specs.declared.Refusal.the-variants.{Job, Kind, Box, State, Coord, Empty, Room, Command, Cut, Step, Text, Turn, Extent, Name}
+use Rattle.refusal.specs.declared.Refusal.the-variants.{Job, Kind, Box, State, Coord, Empty, Room, Command, Step, Text, Turn, Extent, Name, Count, NoParams, CutParams}
 
 abbrev pub numberOf : Refusal → ℕ
 numberOf Job = 1
@@ -12,13 +13,11 @@ numberOf Coord = 5
 numberOf Empty = 6
 numberOf Room = 7
 numberOf Command = 8
-numberOf Cut = 9
 numberOf Step = 10
 numberOf Text = 11
 numberOf Turn = 12
 numberOf Extent = 13
 numberOf Name = 14
-
--- none of the fourteen carries a place; a later one that does has its clause above this line
-abbrev pub placeOf : Refusal → ℕ
-placeOf r = 0
+numberOf Count = 16
+numberOf NoParams = 17
+numberOf CutParams = 18

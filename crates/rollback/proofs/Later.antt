@@ -8,7 +8,7 @@ use lib.ListN.{length, take, drop}
 use lib.Dec.{leb, eqb}
 use Rattle.promise.specs.Answers.{Written, kept}
 use Rattle.refusal.specs.declared.Refusal.the-variants.{Job, Kind, State, Room, Text as TextRefusal, Turn}
-use Rattle.refusal.specs.Refusals.{numberOf, placeOf}
+use Rattle.refusal.specs.Refusals.{numberOf}
 use Rattle.refusal.specs.Said.{Said, accepted, refused}
 use Rattle.words.specs.Geometries.{isKind, maxWords}
 use Rattle.layer.specs.declared.Layer.{Layer}
@@ -81,12 +81,12 @@ both-ways false w z w₂ z₂ S Z = Z
 no-more : (n : ℕ) (g g₂ : Given) → seenOf g ≡ seenOf g₂ → Same (done n (g .layer) (g .memory)) (done n (g₂ .layer) (g₂ .memory))
 no-more n g g₂ e =
     subst (λ (v : Seen). Same (done n (g .layer) (g .memory)) (cond (valid v) (kept (accepted (record { layer = g₂ .layer; count = n })) (g₂ .memory)) (kept (refused State (record { layer = g₂ .layer; count = n })) (g₂ .memory)))) e
-    (both-ways (valid (seenOf g)) _ _ _ _ (stays 0 0 n g g₂ e) (stays (numberOf State) (placeOf State) n g g₂ e))
+    (both-ways (valid (seenOf g)) _ _ _ _ (stays 0 0 n g g₂ e) (stays (numberOf State) 0 n g g₂ e))
 
 -- what follows a feature
 module _ (n : ℕ) (go : Layer → Memory → Written (Said Many) Memory) (k : (u u₂ : Given) → seenOf u ≡ seenOf u₂ → Same (go (u .layer) (u .memory)) (go (u₂ .layer) (u₂ .memory))) where
   one-more : (x : Change) (g g₂ : Given) → seenOf g ≡ seenOf g₂ → All Sized x (seenOf g) → Same (andNext x (g .layer) (g .memory) n go) (andNext x (g₂ .layer) (g₂ .memory) n go)
-  one-more (refuses r) g g₂ e S = stays (numberOf r) (placeOf r) n g g₂ e
+  one-more (refuses r) g g₂ e S = stays (numberOf r) 0 n g g₂ e
   one-more (holds t h) g g₂ e S =
       k (record { layer = t; memory = onto h (g .memory) }) (record { layer = t; memory = onto h (g₂ .memory) })
       (seen-change (holds t h) (g .layer) (g .memory) S
@@ -109,7 +109,7 @@ many-same n (kind ∷ mark ∷ low ∷ high ∷ w ∷ t ∷ hs) words ws bytes g
 
 features-same : (hs words ws bytes : List ℕ) (g g₂ : Given) → seenOf g ≡ seenOf g₂ → Same (addFeatures hs words ws bytes (g .layer) (g .memory)) (addFeatures hs words ws bytes (g₂ .layer) (g₂ .memory))
 features-same hs words ws bytes g g₂ e =
-    both-ways (headsOk (length words) (length ws) hs) _ _ _ _ (many-same 0 hs words ws bytes g g₂ e) (stays (numberOf Job) (placeOf Job) 0 g g₂ e)
+    both-ways (headsOk (length words) (length ws) hs) _ _ _ _ (many-same 0 hs words ws bytes g g₂ e) (stays (numberOf Job) 0 0 g g₂ e)
 
 -- ---- every later call
 abbrev indexBy : Index → Said Many → Seen → Reply
