@@ -3,7 +3,8 @@ use Prim.Native.Nat.{ℕ}
 use mathlib.Core.Path.{_≡_, refl}
 use mathlib.Core.List.{[], _∷_}
 use lib.IntN.{ℤ, pos}
-use Rattle.refusal.specs.declared.Refusal.the-variants.{Command as NoCommand, Cut, Step}
+use Rattle.refusal.specs.declared.Refusal.the-variants.{Command as NoCommand, Count, NoParams, CutParams, Step}
+use Rattle.refusal.specs.Said.{plain, placed}
 use Rattle.words.specs.Params.{unparam}
 use Rattle.decoder.specs.Vertices.{Cursor, Vertex, traced, faulty, origin}
 use Rattle.decoder.specs.ReadingWords.{drawn, commands, traceFrom, trace}
@@ -45,22 +46,35 @@ two-parts : trace (9 ∷ 4 ∷ 4 ∷ 10 ∷ 16 ∷ 16 ∷ 9 ∷ 17 ∷ 17 ∷ []
 unfolding traceFrom commands drawn unparam
 two-parts = refl
 
--- a MoveTo and a LineTo of count 0 give nothing, a ClosePath of count 3 one vertex
-counts : trace (1 ∷ 2 ∷ 31 ∷ []) ≡ traced (v 7 (pos 0) (pos 0) ∷ []) origin
-unfolding traceFrom commands drawn unparam
-counts = refl
-
--- ---- faults: an id that is none is COMMAND, also where words are missing
-no-command : trace (19 ∷ []) ≡ faulty NoCommand
+-- ---- faults: an id that is none is COMMAND, also with count 0 and where words are missing
+no-command : trace (19 ∷ []) ≡ faulty (plain NoCommand)
 unfolding traceFrom commands
 no-command = refl
 
--- a command's CUT comes before its STEP: the first pair would leave i32, and the second is not there
-cut-first : trace (9 ∷ 4294967294 ∷ 0 ∷ 18 ∷ 2 ∷ 0 ∷ 0 ∷ []) ≡ faulty Cut
+no-command-no-count : trace (0 ∷ []) ≡ faulty (plain NoCommand)
+unfolding traceFrom commands
+no-command-no-count = refl
+
+-- a count that the command cannot have is COUNT, also where words are missing
+no-times : trace (1 ∷ []) ≡ faulty (plain Count)
+unfolding traceFrom commands
+no-times = refl
+
+close-twice : trace (9 ∷ 0 ∷ 0 ∷ 23 ∷ []) ≡ faulty (plain Count)
+unfolding traceFrom commands drawn unparam
+close-twice = refl
+
+-- a command without words, and one with too few, each with its own index
+no-params-there : trace (9 ∷ 0 ∷ 0 ∷ 10 ∷ []) ≡ faulty (placed NoParams 3)
+unfolding traceFrom commands drawn unparam
+no-params-there = refl
+
+-- the cut of a command comes before its STEP: the first pair would leave i32, and the second is not there
+cut-first : trace (9 ∷ 4294967294 ∷ 0 ∷ 18 ∷ 2 ∷ 0 ∷ 0 ∷ []) ≡ faulty (placed CutParams 3)
 unfolding traceFrom commands drawn unparam
 cut-first = refl
 
 -- and a STEP before a later command's fault
-step-first : trace (9 ∷ 4294967294 ∷ 0 ∷ 10 ∷ 2 ∷ 0 ∷ 19 ∷ []) ≡ faulty Step
+step-first : trace (9 ∷ 4294967294 ∷ 0 ∷ 10 ∷ 2 ∷ 0 ∷ 19 ∷ []) ≡ faulty (plain Step)
 unfolding traceFrom commands drawn unparam
 step-first = refl

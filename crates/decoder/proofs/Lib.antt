@@ -1,10 +1,14 @@
 pub mod Traces
+pub mod Commands
 pub mod Readings
+pub mod Stepping
 mod Examples
 mod Heads
 mod Steps
-mod Turns
-mod Structure
+mod Asking
+mod Pairs
+mod Nexts
+mod Running
+mod Standing
 mod Sizes
-mod Walks
 mod Decodes

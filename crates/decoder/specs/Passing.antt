@@ -1,10 +1,10 @@
 -- What the private functions promise: one word by itself, a command word with those behind it, the two passes. No public promise cites it.
-use Prim.Native.Nat.{ℕ, _+_, _*_, _/_, _%_, _≤_}
+use Prim.Native.Nat.{ℕ, _+_, _-_, _*_, _/_, _%_, _≤_}
 use mathlib.Core.Path.{_≡_}
-use mathlib.Core.Bool.{cond}
+use mathlib.Core.Bool.{true, cond}
 use mathlib.Core.List.{List}
 use lib.IntN.{ℤ, _+ℤ_}
-use lib.ListN.{length}
+use lib.ListN.{length, getD}
 use Rattle.promise.specs.Laid.{lay}
 use Rattle.words.specs.Commands.{isId}
 use Rattle.words.specs.Params.{unparam}
@@ -19,9 +19,9 @@ use Rattle.decoder.specs.declared.passes.Ran.{Ran}
 use Rattle.decoder.specs.declared.passes.Ran.the-variants.{Over, Out}
 use Rattle.decoder.specs.declared.passes.Sized.{Sized}
 use Rattle.decoder.specs.declared.passes.Sized.the-variants.{Vertices, Bad}
-use Rattle.decoder.specs.Vertices.{Trace, traced, faulty, numbers}
-use Rattle.decoder.specs.ReadingWords.{isClose, miscounted, unlessFaulty, inI32}
-use Rattle.decoder.specs.Stepping.{penAt}
+use Rattle.decoder.specs.Vertices.{Cursor, Trace, traced, faulty, numbers}
+use Rattle.decoder.specs.ReadingWords.{isClose, miscounted, unlessFaulty, moved, inI32, within}
+use Rattle.decoder.specs.Stepping.{penAt, cursorOf, Stands}
 
 -- ---- one word
 abbrev pub headOf : ℕ → Head
@@ -38,6 +38,19 @@ askedOf at word ws = unlessFaulty at word ws Wrong (cond (isClose word) Close (D
 abbrev pub ranOf : Pen → Trace → Ran
 ranOf pen (traced vs c) = Over (penAt (pen .at + 2 * pen .left) 0 (pen .id) c)
 ranOf pen (faulty f) = Out
+
+-- where the next pair leads, and the pen behind it
+abbrev pub ledTo : Pen → List ℕ → Cursor
+ledTo pen ws = moved (cursorOf pen) (getD ws (pen .at) 0) (getD ws (pen .at + 1) 0)
+
+abbrev pub behind : Pen → List ℕ → Pen
+behind pen ws = penAt (pen .at + 2) (pen .left - 1) (pen .id) (ledTo pen ws)
+
+-- it is there, and leads to a position within i32
+pub record Leads (pen : Pen) (ws : List ℕ) : Type 0 where
+  pub some : pen .left ≡ 0 → ⊥
+  pub stands : Stands pen ws
+  pub inside : within (ledTo pen ws) ≡ true
 
 -- ---- the two passes
 abbrev pub sizeOf : Trace → Sized

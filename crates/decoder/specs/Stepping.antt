@@ -49,7 +49,8 @@ nextFrom pen ws =
 unfoldable pub nextOf : Pen → List ℕ → Found
 nextOf pen ws = nextFrom pen (drop (pen .at) ws)
 
--- ---- what is ahead of a pen: its command's pairs, and then the commands behind them (proofs/Steps has the law that `nextOf` goes through it)
+-- ---- what is ahead of a pen: its command's pairs, and then the commands behind them; before the first word that is the whole reading. `next-goes` of
+-- proofs/Stepping: where a pen stands in the words, it is what `nextOf` gives, and then what is ahead of the pen after that
 abbrev pub pairsOf : Pen → List ℕ → Trace
 pairsOf pen ws = drawn (pen .id) (cursorOf pen) (take (2 * pen .left) (drop (pen .at) ws))
 

@@ -1,7 +1,10 @@
 // A command word with the words behind it: what it asks for, or its fault.
 ghost use mathlib.Core.Path.{_≡_};
+ghost use mathlib.Core.Bool.{cond};
 ghost use Prim.Native.Nat.{_+_, _<_};
+ghost use lib.Dec.{eqb};
 ghost use lib.ListN.{length, drop, getD};
+ghost use Rattle.refusal.specs.declared.Refusal.the-variants.{NoParams, CutParams};
 ghost use Rattle.decoder.specs.Passing.{askedOf};
 use crate::pen;
 use crate::pen::Head;
@@ -14,6 +17,16 @@ pub(crate) enum Asked {
     Draw(u32, usize),
     Close,
     Bad(Fault),
+}
+
+// The refusal of a command with so many words behind it, which are too few.
+fn cut_of(follow: usize) -> Refusal
+    ensures { λ r. ⌜ r ≡ cond (eqb follow 0) NoParams CutParams ⌝ }
+{
+    if follow == 0 {
+        return Refusal::NoParams;
+    }
+    Refusal::CutParams
 }
 
 // COMMAND and COUNT have no place; a command that lacks parameters is told by its word's index.
@@ -33,18 +46,11 @@ pub(crate) fn ask(words: &[u32], at: usize) -> Asked
         Head::Close => Asked::Close,
         Head::Draw(id, count) => {
             let pairs = wide(count);
-            let follow = words.len() - at - 1;
+            let behind = at + 1;
+            let follow = words.len() - behind;
             if follow < 2 * pairs {
-                if follow == 0 {
-                    return Asked::Bad(Fault {
-                        refusal: Refusal::NoParams,
-                        place: at,
-                    });
-                }
-                return Asked::Bad(Fault {
-                    refusal: Refusal::CutParams,
-                    place: at,
-                });
+                let refusal = cut_of(follow);
+                return Asked::Bad(Fault { refusal, place: at });
             }
             Asked::Draw(id, pairs)
         }

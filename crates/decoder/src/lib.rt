@@ -61,31 +61,19 @@ fn draw(words: &[u32], pen: Pen) -> Found
     ensures { λ r. ⌜ r ≡ pairOf (pen .at) (pen .left) (pen .id) (cursorOf pen) (drop (pen .at) (now (words .entry))) ⌝ }
 {
     let at = pen.at;
-    let left = pen.left;
-    let id = pen.id;
-    let from_x = pen.x;
-    let from_y = pen.y;
-    let dx = words[at];
-    let dy = words[at + 1];
-    let Moved::To(x) = pen::step_from(from_x, dx) else {
+    let Moved::To(x) = pen::step_from(pen.x, words[at]) else {
         return Found::Refused(Fault {
             refusal: Refusal::Step,
             place: 0,
         });
     };
-    let Moved::To(y) = pen::step_from(from_y, dy) else {
+    let Moved::To(y) = pen::step_from(pen.y, words[at + 1]) else {
         return Found::Refused(Fault {
             refusal: Refusal::Step,
             place: 0,
         });
     };
-    Found::Vertex(Pen {
-        at: at + 2,
-        left: left - 1,
-        id,
-        x,
-        y,
-    })
+    Found::Vertex(pen.drawn(x, y))
 }
 
 // A command word and, of a MoveTo or a LineTo, its first pair.
@@ -93,28 +81,10 @@ fn begin(words: &[u32], pen: Pen) -> Found
     requires { ⌜ pen .at < length (now words) ⌝ }
     ensures { λ r. ⌜ r ≡ commandOf (pen .at) (cursorOf pen) (drop (pen .at) (now (words .entry))) ⌝ }
 {
-    let at = pen.at;
-    let x = pen.x;
-    let y = pen.y;
-    match command::ask(words, at) {
+    match command::ask(words, pen.at) {
         Asked::Bad(f) => Found::Refused(f),
-        Asked::Close => Found::Vertex(Pen {
-            at: at + 1,
-            left: 0,
-            id: 7,
-            x,
-            y,
-        }),
-        Asked::Draw(id, pairs) => {
-            let first = Pen {
-                at: at + 1,
-                left: pairs,
-                id,
-                x,
-                y,
-            };
-            draw(words, first)
-        }
+        Asked::Close => Found::Vertex(pen.begun(7, 0)),
+        Asked::Draw(id, pairs) => { draw(words, pen.begun(id, pairs)) }
     }
 }
 

@@ -1,5 +1,5 @@
-// The two passes through the words, command by command: a constant number of steps a word. The pairs of one command have a loop of their own, with the cursor
-// in two variables: a pen handed from pair to pair takes twice the instructions.
+// The two passes through the words, command by command: a constant number of steps a word. The pairs of one command have a loop of their own, which moves
+// its pen: one handed over and answered at every pair takes twice the instructions.
 ghost use mathlib.Core.Path.{_≡_};
 ghost use mathlib.Core.List.{[], _∷_};
 ghost use Prim.Native.Nat.{_+_, _≤_, _<_};
@@ -8,7 +8,7 @@ ghost use lib.ListN.{length};
 ghost use Rattle.promise.specs.Laid.{lay};
 ghost use Rattle.decoder.specs.ReadingWords.{trace};
 ghost use Rattle.decoder.specs.Stepping.{Stands, pairsOf};
-ghost use Rattle.decoder.specs.Passing.{ranOf, sizeOf, HasRoom, Filled, filled};
+ghost use Rattle.decoder.specs.Passing.{ranOf, sizeOf, behind, Leads, HasRoom, Filled, filled};
 use crate::command;
 use crate::command::Asked;
 use crate::pen;
@@ -31,32 +31,22 @@ pub(crate) enum Ran {
 }
 
 // All pairs of a command.
-fn over(words: &[u32], pen: Pen) -> Ran
-    requires { ⌜ Stands pen (now words) ⌝ }
-    ensures { λ r. ⌜ r ≡ ranOf pen (pairsOf pen (now (words .entry))) ⌝ }
+fn over(words: &[u32], start: Pen) -> Ran
+    requires { ⌜ Stands start (now words) ⌝ }
+    ensures { λ r. ⌜ r ≡ ranOf start (pairsOf start (now (words .entry))) ⌝ }
 {
-    let end = pen.at + 2 * pen.left;
-    let mut at = pen.at;
-    let mut x = pen.x;
-    let mut y = pen.y;
-    while at < end {
-        let Moved::To(to_x) = pen::step_from(x, words[at]) else {
+    let mut pen = start;
+    while pen.left != 0 {
+        let at = pen.at;
+        let Moved::To(x) = pen::step_from(pen.x, words[at]) else {
             return Ran::Out;
         };
-        let Moved::To(to_y) = pen::step_from(y, words[at + 1]) else {
+        let Moved::To(y) = pen::step_from(pen.y, words[at + 1]) else {
             return Ran::Out;
         };
-        x = to_x;
-        y = to_y;
-        at += 2;
+        pen = pen.drawn(x, y);
     }
-    Ran::Over(Pen {
-        at,
-        left: 0,
-        id: pen.id,
-        x,
-        y,
-    })
+    Ran::Over(pen)
 }
 
 // The first fault, or how many vertices there are.
@@ -66,20 +56,13 @@ pub(crate) fn size(words: &[u32]) -> Sized
     let mut pen = Pen::new();
     let mut n = 0;
     while pen.at < words.len() {
-        let at = pen.at;
-        match command::ask(words, at) {
+        match command::ask(words, pen.at) {
             Asked::Close => {
-                pen.at = at + 1;
+                pen = pen.begun(7, 0);
                 n += 1;
             }
             Asked::Draw(id, pairs) => {
-                let first = Pen {
-                    at: at + 1,
-                    left: pairs,
-                    id,
-                    x: pen.x,
-                    y: pen.y,
-                };
+                let first = pen.begun(id, pairs);
                 let Ran::Over(last) = over(words, first) else {
                     return Sized::Bad(Fault {
                         refusal: Refusal::Step,
@@ -105,32 +88,30 @@ fn put(id: u32, x: i32, y: i32, at: usize, out: &mut [i32])
     out[at + 2] = y;
 }
 
-// All pairs of a command, each of which is known to stay within i32, from a place of `out` on.
-fn fill(words: &[u32], pen: Pen, front: usize, out: &mut [i32]) -> Pen
-    requires { ⌜ (pen .id < 8) × Stands pen (now words) × HasRoom (pairsOf pen (now words)) front (length (now out)) ⌝ }
-    ensures { λ r. ⌜ Filled pen (pairsOf pen (now (words .entry))) front (now (out .entry)) r (now (out .exit)) ⌝ }
+// The pen behind the next pair, which is known to stay within i32.
+fn follow(words: &[u32], pen: Pen) -> Pen
+    requires { ⌜ Leads pen (now words) ⌝ }
+    ensures { λ r. ⌜ r ≡ behind pen (now (words .entry)) ⌝ }
 {
-    let end = pen.at + 2 * pen.left;
-    let mut at = pen.at;
-    let mut x = pen.x;
-    let mut y = pen.y;
+    let at = pen.at;
+    let dx = ParamInt::decode(words[at]);
+    let dy = ParamInt::decode(words[at + 1]);
+    pen.drawn(pen.x + dx.value, pen.y + dy.value)
+}
+
+// All pairs of a command, from a place of `out` on.
+fn fill(words: &[u32], start: Pen, front: usize, out: &mut [i32]) -> Pen
+    requires { ⌜ (start .id < 8) × Stands start (now words) × HasRoom (pairsOf start (now words)) front (length (now out)) ⌝ }
+    ensures { λ r. ⌜ Filled start (pairsOf start (now (words .entry))) front (now (out .entry)) r (now (out .exit)) ⌝ }
+{
+    let mut pen = start;
     let mut n = front;
-    while at < end {
-        let dx = ParamInt::decode(words[at]);
-        let dy = ParamInt::decode(words[at + 1]);
-        x += dx.value;
-        y += dy.value;
-        put(pen.id, x, y, n, out);
-        at += 2;
+    while pen.left != 0 {
+        pen = follow(words, pen);
+        put(pen.id, pen.x, pen.y, n, out);
         n += 3;
     }
-    Pen {
-        at,
-        left: 0,
-        id: pen.id,
-        x,
-        y,
-    }
+    pen
 }
 
 // Of words that are read whole, where there is room for their vertices.
@@ -141,21 +122,14 @@ pub(crate) fn write(words: &[u32], out: &mut [i32])
     let mut pen = Pen::new();
     let mut n = 0;
     while pen.at < words.len() {
-        let at = pen.at;
-        match command::ask(words, at) {
+        match command::ask(words, pen.at) {
             Asked::Close => {
-                pen.at = at + 1;
-                put(7, pen.x, pen.y, n, out);
+                pen = pen.begun(7, 0);
+                put(pen.id, pen.x, pen.y, n, out);
                 n += 3;
             }
             Asked::Draw(id, pairs) => {
-                let first = Pen {
-                    at: at + 1,
-                    left: pairs,
-                    id,
-                    x: pen.x,
-                    y: pen.y,
-                };
+                let first = pen.begun(id, pairs);
                 pen = fill(words, first, n, out);
                 n += 3 * pairs;
             }

@@ -1,6 +1,12 @@
 // What one word says, a command word's id and count or the step of a parameter; and where a reading stands.
 ghost use mathlib.Core.Path.{_≡_};
-ghost use Rattle.decoder.specs.Stepping.{outset};
+ghost use mathlib.Core.Bool.{cond};
+ghost use Prim.Native.Nat.{_+_, _-_};
+ghost use lib.Dec.{eqb};
+ghost use mir.Syntax.{w64};
+ghost use mir.Val.{Fits};
+ghost use Rattle.decoder.specs.declared.pen.Head.the-variants.{Draw, Close, Miscounted};
+ghost use Rattle.decoder.specs.Stepping.{penAt, cursorOf, outset};
 ghost use Rattle.decoder.specs.Passing.{headOf, steppedTo};
 use words::command::Command;
 use words::command::CommandInt;
@@ -46,9 +52,56 @@ impl Pen {
             y: 0,
         }
     }
+
+    // Behind a command word, with the cursor where it was.
+    pub(crate) fn begun(self, id: u32, pairs: usize) -> Pen
+        requires { ⌜ Fits w64 (self .at + 1) ⌝ }
+        ensures { λ r. ⌜ r ≡ penAt (self .at + 1) pairs id (cursorOf self) ⌝ }
+    {
+        Pen {
+            at: self.at + 1,
+            left: pairs,
+            id,
+            x: self.x,
+            y: self.y,
+        }
+    }
+
+    // Behind a pair, which leads to (x, y).
+    pub(crate) fn drawn(self, x: i32, y: i32) -> Pen
+        requires { ⌜ ((self .left ≡ 0) → ⊥) × Fits w64 (self .at + 2) ⌝ }
+        ensures { λ r. ⌜ r ≡ penAt (self .at + 2) (self .left - 1) (self .id) (record { x = x; y = y }) ⌝ }
+    {
+        Pen {
+            at: self.at + 2,
+            left: self.left - 1,
+            id: self.id,
+            x,
+            y,
+        }
+    }
 }
 
-// MVT 4.3.3: a ClosePath has count 1, and nothing is drawn no times.
+// MVT 4.3.3.3: a ClosePath has count 1.
+fn closing(count: u32) -> Head
+    ensures { λ r. ⌜ r ≡ cond (eqb count 1) Close Miscounted ⌝ }
+{
+    if count != 1 {
+        return Head::Miscounted;
+    }
+    Head::Close
+}
+
+// A MoveTo and a LineTo draw something.
+fn drawing(id: u32, count: u32) -> Head
+    ensures { λ r. ⌜ r ≡ cond (eqb count 0) Miscounted (Draw id count) ⌝ }
+{
+    if count == 0 {
+        return Head::Miscounted;
+    }
+    Head::Draw(id, count)
+}
+
 pub(crate) fn head_of(word: u32) -> Head
     ensures { λ r. ⌜ r ≡ headOf word ⌝ }
 {
@@ -56,26 +109,10 @@ pub(crate) fn head_of(word: u32) -> Head
         CommandRead::Refused(_) => Head::Unknown,
         CommandRead::Read(c) => {
             let id = c.id;
-            let count = c.count;
             match id {
-                Command::ClosePath => {
-                    if count != 1 {
-                        return Head::Miscounted;
-                    }
-                    Head::Close
-                }
-                Command::MoveTo => {
-                    if count == 0 {
-                        return Head::Miscounted;
-                    }
-                    Head::Draw(1, count)
-                }
-                Command::LineTo => {
-                    if count == 0 {
-                        return Head::Miscounted;
-                    }
-                    Head::Draw(2, count)
-                }
+                Command::ClosePath => closing(c.count),
+                Command::MoveTo => drawing(1, c.count),
+                Command::LineTo => drawing(2, c.count),
             }
         }
     }

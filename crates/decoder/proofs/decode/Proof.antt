@@ -7,8 +7,8 @@ use Rattle.decoder.proofs.decode.Tie as tie
 size-requires : tie.Need-size-requires
 size-requires c κs = search needs
 
-enum-known-r : tie.Need-enum-known-r
-enum-known-r c = search needs
+enum-known-f : tie.Need-enum-known-f
+enum-known-f c = search needs
 
 enum-known-n : tie.Need-enum-known-n
 enum-known-n c = search needs
@@ -42,7 +42,7 @@ decode-spec =
     tie.close
     (tie.spec
     size-requires
-    enum-known-r
+    enum-known-f
     enum-known-n
     max-words-requires
     returns

@@ -16,23 +16,32 @@ enum-known-c c = search needs
 enum-told-2 : tie.Need-enum-told-2
 enum-told-2 c = search needs
 
+closing-requires : tie.Need-closing-requires
+closing-requires c κs = search needs
+
 enum-told-3 : tie.Need-enum-told-3
 enum-told-3 c = search needs
+
+drawing-requires : tie.Need-drawing-requires
+drawing-requires c κs = search needs
 
 enum-told-4 : tie.Need-enum-told-4
 enum-told-4 c = search needs
 
+drawing-requires-2 : tie.Need-drawing-requires-2
+drawing-requires-2 c κs = search needs
+
 returns : tie.Need-returns
-returns c = search (needs, head-unknown)
+returns c = search (needs, head-unknown, head-close, head-move, head-line)
 
 returns-2 : tie.Need-returns-2
-returns-2 c = search (needs, head-close)
+returns-2 c = search (needs, head-unknown, head-close, head-move, head-line)
 
 returns-3 : tie.Need-returns-3
-returns-3 c = search (needs, head-move)
+returns-3 c = search (needs, head-unknown, head-close, head-move, head-line)
 
 returns-4 : tie.Need-returns-4
-returns-4 c = search (needs, head-line)
+returns-4 c = search (needs, head-unknown, head-close, head-move, head-line)
 
 pub head-of-spec : {M : Type 1} → statement M
 head-of-spec =
@@ -42,8 +51,11 @@ head-of-spec =
     enum-told
     enum-known-c
     enum-told-2
+    closing-requires
     enum-told-3
+    drawing-requires
     enum-told-4
+    drawing-requires-2
     returns
     returns-2
     returns-3

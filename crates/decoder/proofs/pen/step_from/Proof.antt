@@ -11,7 +11,7 @@ use Rattle.whole.proofs.Machine.{Back, back, widened, lt-yes, lt-no, i32-sum, i
 use Rattle.words.proofs.Params.{unparam-fits}
 use Rattle.decoder.specs.declared.pen.Moved.the-variants.{To, Out}
 use Rattle.decoder.specs.ReadingWords.{inI32}
-use Rattle.decoder.specs.Walking.{steppedTo}
+use Rattle.decoder.specs.Passing.{steppedTo}
 use Rattle.decoder.proofs.Steps.{below-no, above-no, inside-yes, step-out, step-to}
 use Rattle.decoder.proofs.pen.step_from.Statement.{statement}
 use Rattle.decoder.proofs.pen.step_from.Tie as tie

@@ -5,8 +5,8 @@ use mir.Syntax.{w32}
 use mir.Facts.{toZ-ofZ, toZ-pos}
 use borrow.Author.Needs.{needs}
 use Rattle.promise.proofs.Stores.{three-stores}
-use Rattle.decoder.proofs.put.Statement.{statement}
-use Rattle.decoder.proofs.put.Tie as tie
+use Rattle.decoder.proofs.passes.put.Statement.{statement}
+use Rattle.decoder.proofs.passes.put.Tie as tie
 
 cast-out : tie.Need-cast-out
 cast-out c = search needs
