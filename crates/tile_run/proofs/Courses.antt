@@ -85,6 +85,9 @@ module _ (bytes ns : List ℕ) (at : ℕ) (w : Work) (m l : Lists) where
 pub refused-number : (p : Performed) (r : Refusal) (w : Work) → p ≡ NotDone r w → numberOf r ≡ saidPerformed p .number
 refused-number p r w e = rw e
 
+pub refused-work : (p : Performed) (r : Refusal) (w : Work) → p ≡ NotDone r w → w ≡ saidPerformed p .values
+refused-work p r w e = rw e
+
 -- ---- outcomes before those of a course
 abbrev onto : List ℕ → Course → Course
 onto done c = record { outcomes = done ++ c .outcomes; work = c .work; lists = c .lists }
