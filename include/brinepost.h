@@ -30,28 +30,31 @@ extern "C" {
 /* The number of this interface. It is raised by one with every change of a declaration below (a struct's fields, a function's parameters, a constant, the
  * refusals) or of what one means; a declaration more leaves it. bp_version and bp_tiles_version answer the number of the archive: where that is not
  * BP_VERSION, header and archive do not belong together. */
-#define BP_VERSION 3
+#define BP_VERSION 4
 uint32_t bp_version(void);       /* of libbrinepost.a */
 uint32_t bp_tiles_version(void); /* of libbrinepost_tiles.a */
 
+/* 9 is not given any more: up to interface 3 it was CUT, which 17 and 18 tell apart. */
 enum bp_refusal {
     BP_ACCEPTED = 0,
-    BP_JOB = 1,      /* no parts, ends that descend, a last end that is not the point count, an odd list of coordinates; no list of tags or of heads */
-    BP_KIND = 2,     /* a kind that is not 1 point, 2 line, 3 polygon */
-    BP_BOX = 3,      /* x_min >= x_max, y_min >= y_max, or an edge beyond BP_LIMIT */
-    BP_STATE = 4,    /* a carried state that breaks a rule (docs/RULES.md, sections 6, 8 and 10), as an encoder's does whose skipped and taken_out together
-                      * exceed its taken and boundary together */
-    BP_COORD = 5,    /* x or y beyond BP_LIMIT */
-    BP_EMPTY = 6,    /* a geometry of points is completed with none */
-    BP_ROOM = 7,     /* the result, reckoned as if there were room, exceeds a lent list or one of the limits BP_MAX_...; more words than BP_MAX_WORDS read; a
-                      * count of an encoder's state would pass 4,294,967,295 */
-    BP_COMMAND = 8,  /* a command id that is not 1, 2 or 7 */
-    BP_CUT = 9,      /* fewer than twice the count words follow a MoveTo or LineTo */
-    BP_STEP = 10,    /* a decoded position leaves int32_t */
-    BP_TEXT = 11,    /* a text of more than BP_MAX_TEXT bytes */
-    BP_TURN = 12,    /* a call on the open feature where none is open; opening one, adding a whole one, or adding the layer, where one is */
-    BP_EXTENT = 13,  /* layer and tile extents differ */
-    BP_NAME = 14     /* the tile has a layer of that name */
+    BP_JOB = 1,        /* no parts, ends that descend, a last end that is not the point count, an odd list of coordinates; no list of tags or of heads */
+    BP_KIND = 2,       /* a kind that is not 1 point, 2 line, 3 polygon */
+    BP_BOX = 3,        /* x_min >= x_max, y_min >= y_max, or an edge beyond BP_LIMIT */
+    BP_STATE = 4,      /* a carried state that breaks a rule (docs/RULES.md, sections 6, 8 and 10), as an encoder's does whose skipped and taken_out together
+                        * exceed its taken and boundary together */
+    BP_COORD = 5,      /* x or y beyond BP_LIMIT */
+    BP_EMPTY = 6,      /* a geometry of points is completed with none */
+    BP_ROOM = 7,       /* the result, reckoned as if there were room, exceeds a lent list or one of the limits BP_MAX_...; more words than BP_MAX_WORDS read; a
+                        * count of an encoder's state would pass 4,294,967,295 */
+    BP_COMMAND = 8,    /* a command id that is not 1, 2 or 7 */
+    BP_STEP = 10,      /* a decoded position leaves int32_t */
+    BP_TEXT = 11,      /* a text of more than BP_MAX_TEXT bytes */
+    BP_TURN = 12,      /* a call on the open feature where none is open; opening one, adding a whole one, or adding the layer, where one is */
+    BP_EXTENT = 13,    /* layer and tile extents differ */
+    BP_NAME = 14,      /* the tile has a layer of that name */
+    BP_COUNT = 16,     /* a ClosePath whose count is not 1, a MoveTo or LineTo whose count is 0 */
+    BP_NOPARAMS = 17,  /* no word follows a MoveTo or LineTo; bp_reading has its place */
+    BP_CUTPARAMS = 18  /* fewer than twice the count words follow one, but some; bp_reading has its place */
 };
 
 /* A refusal's name as docs/RULES.md has it, and "ACCEPTED" for 0; "UNKNOWN" for a number that is none. */
@@ -67,12 +70,14 @@ static inline const char *bp_refusal_name(uint32_t refusal)
     case BP_EMPTY: return "EMPTY";
     case BP_ROOM: return "ROOM";
     case BP_COMMAND: return "COMMAND";
-    case BP_CUT: return "CUT";
     case BP_STEP: return "STEP";
     case BP_TEXT: return "TEXT";
     case BP_TURN: return "TURN";
     case BP_EXTENT: return "EXTENT";
     case BP_NAME: return "NAME";
+    case BP_COUNT: return "COUNT";
+    case BP_NOPARAMS: return "NOPARAMS";
+    case BP_CUTPARAMS: return "CUTPARAMS";
     }
     return "UNKNOWN";
 }
@@ -152,9 +157,11 @@ bp_job bp_encode_job_edges(uint32_t kind, int32_t x_min, int32_t x_max, int32_t 
 typedef struct bp_reading {
     uint32_t refusal;
     size_t vertices; /* three numbers each (id, x, y) stand at the front of `out`; 0 where refused */
+    size_t place;    /* of NOPARAMS and CUTPARAMS the command: its word's index among `words`, from 0. Else 0 */
 } bp_reading;
 
-/* Reads a geometry's words: COMMAND, CUT and STEP from left to right, then ROOM. */
+/* Reads a geometry's words: COMMAND, COUNT, NOPARAMS, CUTPARAMS and STEP from left to right, at one command in this order; then ROOM. A ClosePath has count 1
+ * and gives 7 and the unmoved cursor. */
 bp_reading bp_decode(const uint32_t *words, size_t words_len, int32_t *out, size_t out_len);
 
 /* ---- the encoder call by call */

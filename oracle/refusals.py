@@ -123,28 +123,44 @@ def states():
 def readings():
     least, most = 2**32 - 1, 2**32 - 2  # the parameters of the least and the greatest i32
     for name in (0, 3, 4, 5, 6):
-        for count in (0, 1, 2**29 - 1):
+        for count in (0, 1, 2**29 - 1):  # COMMAND, also where a count of others would be COUNT
             yield 99, [name + 8 * count]
-            yield 99, [9, 2, 2, name + 8 * count, 9]  # left to right: COMMAND before CUT
+            yield 99, [9, 2, 2, name + 8 * count, 9]  # left to right: COMMAND before the cuts
     yield 0, [9, 2, 2, 3]  # COMMAND before ROOM
+    for word in (1, 2, 7, 23, 31, 2**32 - 1):  # COUNT: a MoveTo and a LineTo of 0; a ClosePath of 0, of 2 and more
+        yield 99, [word]  # before NOPARAMS
+        yield 99, [word, 2]  # before CUTPARAMS
+        yield 99, [word, 2, 2]
+        yield 99, [9, 2, 2, word, 3, 9]  # left to right: COUNT before COMMAND
+        yield 0, [9, 2, 2, 15, word]  # COUNT before ROOM
+    yield 99, [3, 7]  # left to right: COMMAND before COUNT
     for name in (1, 2):
-        for count, follow in ((1, 0), (1, 1), (2, 3), (3, 5), (2**29 - 1, 4)):
-            yield 99, [name + 8 * count, *[2] * follow]
-            yield 0, [9, 2, 2, name + 8 * count, *[2] * follow]  # CUT before ROOM
-    yield 99, [25, most, 0, 2, 0]  # CUT before STEP, at one command
+        for count, follow in ((1, 0), (1, 1), (2, 0), (2, 1), (2, 3), (3, 5), (2**29 - 1, 0), (2**29 - 1, 4)):
+            yield 99, [name + 8 * count, *[2] * follow]  # NOPARAMS where no word follows, else CUTPARAMS, at 0
+            yield 0, [9, 2, 2, name + 8 * count, *[2] * follow]  # at 3, before ROOM
+            yield 99, [9, 2, 2, 18, 2, 2, 4, 4, 15, name + 8 * count, *[7] * follow]  # at 9, words that would be COUNT
+    yield 99, [15, 9]  # NOPARAMS at 1
+    yield 99, [25, most, 0, 2, 0]  # CUTPARAMS before STEP, at one command
     for end, on in ((most, 2), (least, 1)):
         yield 99, [9, end, end]
         yield 99, [17, end, 0, on, 0]
         yield 99, [17, 0, end, 0, on]
         yield 0, [9, end, end, 10, on, 0]  # STEP before ROOM
-        yield 99, [17, end, 0, on, 0, 3]  # left to right: STEP before COMMAND
+        for word in (3, 7, 9):  # left to right: STEP before COMMAND, COUNT and the cuts
+            yield 99, [17, end, 0, on, 0, word]
+        yield 99, [25, end, 0, on, 0, on ^ 3, 0]  # and back
     for words, room in (([9, 2, 2], 3), ([15], 3), ([9, 2, 2, 18, 2, 2, 4, 4, 15], 12)):
         yield room, words
         yield room - 1, words
         yield 0, words
     yield 0, []
-    yield 0, [1, 2]  # a count of 0 gives nothing
-    yield 9, [9, 2, 2, 7, 23]  # a ClosePath's count is not looked at
+    yield 9, [9, 2, 2, 15, 15]  # ClosePath twice, and first
+    yield 9, [15, 10, 2, 2, 15]
+    yield 9, [18, 7, 0, 23, 1]  # parameters that would be COUNT and COMMAND
+    # Those of document 01 that request (iii) refuses.
+    yield 0, [1, 2]
+    yield 9, [9, 2, 2, 7, 23]
+    yield 9, [9, 2, 2, 31]
 
 
 # Tile scripts

@@ -14,8 +14,9 @@ AT(bp_clipped, edge1, 24);
 SIZE(bp_job, 24);
 AT(bp_job, points, 8);
 AT(bp_job, words, 16);
-SIZE(bp_reading, 16);
+SIZE(bp_reading, 24);
 AT(bp_reading, vertices, 8);
+AT(bp_reading, place, 16);
 SIZE(bp_point, 12);
 AT(bp_point, x, 4);
 AT(bp_point, y, 8);
@@ -285,14 +286,17 @@ static void readings(void)
     for (size_t i = 0; i < COUNT(out); i++)
         out[i] = -1000 - (int32_t)i;
     bp_reading r = bp_decode(line, COUNT(line), out, COUNT(vertices));
-    SAME(0, r.refusal), SAME(8, r.vertices);
+    SAME(0, r.refusal), SAME(8, r.vertices), SAME(0, r.place);
     for (size_t i = 0; i < COUNT(out); i++)
         SAME(i < COUNT(vertices) ? vertices[i] : -1000 - (int32_t)i, out[i]);
     const uint32_t far[] = {9, UINT32_MAX, UINT32_MAX - 1};
     r = bp_decode(far, 3, out, 3);
     SAME(0, r.refusal), SAME(1, r.vertices), SAME(1, out[0]), SAME(INT32_MIN, out[1]), SAME(INT32_MAX, out[2]);
     SAME(BP_ROOM, bp_decode(far, 3, out, 2).refusal);
-    SAME(BP_CUT, bp_decode(far, 2, out, 3).refusal);
+    r = bp_decode(far, 2, out, 3);
+    SAME(BP_CUTPARAMS, r.refusal), SAME(0, r.vertices), SAME(0, r.place);
+    r = bp_decode(line, 5, out, 24);
+    SAME(BP_CUTPARAMS, r.refusal), SAME(0, r.vertices), SAME(3, r.place);
     const uint32_t step[] = {17, UINT32_MAX, 0, 1, 0};
     SAME(BP_STEP, bp_decode(step, 5, out, 6).refusal);
     const uint32_t command[] = {7 + 8, 3};

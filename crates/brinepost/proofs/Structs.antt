@@ -7,6 +7,7 @@ use borrow.Author.Tests.{ne-eqb}
 use lib.Dec.{eqb}
 use lib.IntN.{pos}
 use Rattle.refusal.specs.declared.Refusal.{Refusal}
+use Rattle.refusal.specs.declared.Fault.{Fault}
 use Rattle.refusal.specs.Refusals.{numberOf}
 use Rattle.refusal.proofs.Laws.{numbered}
 use Rattle.decoder.specs.declared.Reading.{Reading}
@@ -41,13 +42,14 @@ never-zero : (k : Refusal) → eqb (numberOf k) 0 ≡ false
 never-zero k = ne-eqb (numberOf k) 0 (λ e. omega (arith, numbered k))
 
 module _ (r : Reading) where
-  pub read-done : (n : ℕ) → r ≡ Read n → _≡_ {A = BpReading} (record { refusal = 0; vertices = n }) (flatReading (saidReading r))
+  pub read-done : (n : ℕ) → r ≡ Read n → _≡_ {A = BpReading} (record { refusal = 0; vertices = n; place = 0 }) (flatReading (saidReading r))
   unfolding flatReading
   read-done n e = rw e
 
-  pub read-not : (k : Refusal) (n : ℕ) → r ≡ NotRead k → n ≡ numberOf k → _≡_ {A = BpReading} (record { refusal = n; vertices = 0 }) (flatReading (saidReading r))
+  pub read-not : (f : Fault) (n : ℕ) → r ≡ NotRead f → n ≡ numberOf (f .refusal) →
+      _≡_ {A = BpReading} (record { refusal = n; vertices = 0; place = f .place }) (flatReading (saidReading r))
   unfolding flatReading
-  read-not k n e h = rw (e, h)
+  read-not f n e h = rw (e, h)
 
 module _ (r : Encoded) (points : ℕ) where
   pub job-done : (n : ℕ) → r ≡ Words n → _≡_ {A = BpJob} (record { refusal = 0; points = points; words = n }) (flatJob points (saidEncoded r))

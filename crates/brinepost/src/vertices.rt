@@ -10,6 +10,7 @@ use decoder::Reading;
 pub struct BpReading {
     pub refusal: u32,
     pub vertices: usize,
+    pub place: usize,
 }
 
 fn answered(r: Reading) -> BpReading
@@ -19,15 +20,20 @@ fn answered(r: Reading) -> BpReading
         Reading::Read(n) => BpReading {
             refusal: 0,
             vertices: n,
+            place: 0,
         },
-        Reading::Refused(k) => BpReading {
-            refusal: refusal::number(k),
-            vertices: 0,
-        },
+        Reading::Refused(f) => {
+            let k = f.refusal;
+            BpReading {
+                refusal: refusal::number(k),
+                vertices: 0,
+                place: f.place,
+            }
+        }
     }
 }
 
-// COMMAND, CUT and STEP from left to right, then ROOM; else id, x and y of each vertex.
+// COMMAND, COUNT, NOPARAMS, CUTPARAMS and STEP from left to right, then ROOM; else id, x and y of each vertex.
 #[no_mangle]
 pub extern "C" fn bp_decode(words: &[u32], out: &mut [i32]) -> BpReading
     ensures { λ r. ⌜ Gives (told flatReading (reading (now (words .entry)) (now (out .entry)))) r (now (out .exit)) ⌝ }

@@ -1,22 +1,15 @@
 -- Each `return` of `draw`, `begin` and `next`.
-use Prim.Native.Nat.{ℕ, zero, suc, _+_, _-_, _*_, _/_, _^_, _<_, _≤_}
+use Prim.Native.Nat.{ℕ, zero, suc, _+_, _-_, _*_, _/_, _<_, _≤_}
 use mathlib.Core.Path.{_≡_, refl, sym, _∙_}
 use mathlib.Core.Bool.{Bool, true, false, cond}
 use mathlib.Core.List.{List, []}
 use native.Mathlib.Omega.{arith}
 use borrow.Author.Tests.{ne-eqb, eq-eqb, eqb-false, le-ltb, lt-ltb}
 use lib.Dec.{eqb}
-use lib.IntN.{ℤ}
 use lib.ListN.{length, getD, drop, length-drop, drop-of-length-le}
-use lib.Signed.{mag}
-use mir.Syntax.{w32}
-use mir.Val.{ofZ, toZ}
 use Rattle.refusal.specs.declared.Fault.{Fault}
 use Rattle.refusal.specs.declared.Refusal.the-variants.{Step}
 use Rattle.refusal.specs.Said.{plain}
-use Rattle.whole.proofs.Machine.{i32-back}
-use Rattle.decoder.specs.declared.pen.Moved.{Moved}
-use Rattle.decoder.specs.declared.pen.Moved.the-variants.{To, Out}
 use Rattle.decoder.specs.declared.pen.Pen.{Pen}
 use Rattle.decoder.specs.declared.command.Asked.{Asked}
 use Rattle.decoder.specs.declared.command.Asked.the-variants.{Draw, Close, Bad}
@@ -24,33 +17,19 @@ use Rattle.decoder.specs.declared.Found.{Found}
 use Rattle.decoder.specs.declared.Found.the-variants.{Vertex as Met, End, Refused}
 use Rattle.decoder.specs.ReadingWords.{within}
 use Rattle.decoder.specs.Stepping.{penAt, cursorOf, Stands, pairOf, commandOf, nextFrom, nextOf}
-use Rattle.decoder.specs.Passing.{steppedTo, askedOf, ledTo, behind}
-use Rattle.decoder.proofs.Steps.{step-in, step-gone}
+use Rattle.decoder.specs.Passing.{askedOf, ledTo, behind}
 use Rattle.decoder.proofs.Pairs.{pair-here}
 use Rattle.decoder.proofs.Stepping.{found-bad, found-close, found-draw, draw-some, draw-stands}
 
 module _ (pen : Pen) (ws : List ℕ) (n : pen .left ≡ 0 → ⊥) (S : Stands pen ws) where
-  abbrev found : Found
-  found = pairOf (pen .at) (pen .left) (pen .id) (cursorOf pen) (drop (pen .at) ws)
-
-  tested : cond (within (ledTo pen ws)) (Met (behind pen ws)) (Refused (plain Step)) ≡ found
+  tested : cond (within (ledTo pen ws)) (Met (behind pen ws)) (Refused (plain Step)) ≡ pairOf (pen .at) (pen .left) (pen .id) (cursorOf pen) (drop (pen .at) ws)
   tested = rw (pair-here pen ws n S)
 
-  module _ (fx : mag (pen .x) < 2 ^ 31) (r : Moved) (e : r ≡ steppedTo (toZ w32 (ofZ w32 (pen .x))) (getD ws (pen .at) 0)) where
-    pub draw-out-x : r ≡ Out → Refused (plain Step) ≡ found
-    draw-out-x h = rw (step-gone (pen .x) _ fx r e h) at tested
+  pub draw-out : within (ledTo pen ws) ≡ false → Refused (plain Step) ≡ pairOf (pen .at) (pen .left) (pen .id) (cursorOf pen) (drop (pen .at) ws)
+  draw-out h = rw h at tested
 
-    module _ (x : ℤ) (h : r ≡ To x) (fy : mag (pen .y) < 2 ^ 31) (q : Moved) (g : q ≡ steppedTo (toZ w32 (ofZ w32 (pen .y))) (getD ws (pen .at + 1) 0)) where
-      pub draw-out-y : q ≡ Out → Refused (plain Step) ≡ found
-      draw-out-y k = let (t, i) = step-in (pen .x) _ fx r e x h in rw (t, step-gone (pen .y) _ fy q g k) at tested
-
-      pub draw-done : (y : ℤ) → q ≡ To y → mag x < 2 ^ 31 → mag y < 2 ^ 31 → (next : Pen) →
-          next ≡ penAt (pen .at + 2) (pen .left - 1) (pen .id) (record { x = toZ w32 (ofZ w32 x); y = toZ w32 (ofZ w32 y) }) → Met next ≡ found
-      draw-done y k mx my next l =
-          let (t, i) = step-in (pen .x) _ fx r e x h in
-          let (u, j) = step-in (pen .y) _ fy q g y k in
-          let m : next ≡ behind pen ws = rw (i32-back x mx, i32-back y my, ← i, ← j) at l in
-          rw m (rw (t, u) at tested)
+  pub draw-done : within (ledTo pen ws) ≡ true → (next : Pen) → next ≡ behind pen ws → Met next ≡ pairOf (pen .at) (pen .left) (pen .id) (cursorOf pen) (drop (pen .at) ws)
+  draw-done h next l = rw l (rw h at tested)
 
 -- ---- begin
 module _ (pen : Pen) (ws : List ℕ) (h : pen .at < length ws) (r : Asked) (e : r ≡ askedOf (pen .at) (getD ws (pen .at) 0) (drop (pen .at + 1) ws)) where

@@ -1,30 +1,28 @@
 -- Through the pairs of one command, with a pen: what `over` and `fill` keep, and what they answer.
 use Prim.Native.Nat.{ℕ, zero, suc, _+_, _-_, _*_, _^_, _<_, _≤_}
 use mathlib.Core.Path.{_≡_, refl, sym, _∙_, ap}
-use mathlib.Core.Bool.{Bool, true, false, cond, _&&_}
+use mathlib.Core.Bool.{Bool, true, false, cond}
 use mathlib.Core.List.{List, [], _∷_, _++_, append-nil}
 use native.Mathlib.Omega.{arith}
-use lib.IntN.{ℤ, pos, negsuc, _+ℤ_}
+use lib.IntN.{ℤ, pos, _+ℤ_}
 use lib.ListN.{length, getD, length-append}
-use lib.Signed.{mag, leZ}
+use lib.Signed.{mag}
 use mir.Syntax.{w32}
 use mir.Val.{ofZ, toZ, SFits}
 use Rattle.promise.specs.Laid.{lay}
 use Rattle.promise.proofs.Laying.{lay-nothing, lay-next, length-lay}
 use Rattle.refusal.specs.declared.Refusal.the-variants.{Step}
 use Rattle.refusal.specs.Said.{plain}
-use Rattle.whole.proofs.Machine.{back, i32-back, i32-inside, le-yes}
+use Rattle.whole.proofs.Machine.{back, i32-back}
 use Rattle.words.specs.Params.{unparam}
-use Rattle.decoder.specs.declared.pen.Moved.{Moved}
-use Rattle.decoder.specs.declared.pen.Moved.the-variants.{To, Out as Beyond}
 use Rattle.decoder.specs.declared.pen.Pen.{Pen}
 use Rattle.decoder.specs.declared.passes.Ran.the-variants.{Over, Out}
 use Rattle.decoder.specs.Vertices.{Cursor, Vertex, Trace, traced, faulty, vertex, onto, numbers}
 use Rattle.decoder.specs.ReadingWords.{inI32, within}
 use Rattle.decoder.specs.Stepping.{penAt, cursorOf, Stands, pairsOf}
-use Rattle.decoder.specs.Passing.{steppedTo, ranOf, ledTo, behind, Leads, HasRoom, Filled}
+use Rattle.decoder.specs.Passing.{ranOf, ledTo, behind, Leads, HasRoom, Filled}
 use Rattle.decoder.proofs.Traces.{onto-nil, onto-onto, numbers-length, numbers-append}
-use Rattle.decoder.proofs.Steps.{step-in, step-gone}
+use Rattle.decoder.proofs.Steps.{both, in-i32}
 use Rattle.decoder.proofs.Pairs.{pairs-none, behind-stands, behind-same, pairs-one}
 
 -- each pair leaves one less
@@ -57,35 +55,18 @@ module _ (start : Pen) (ws : List ℕ) (pen : Pen) (R : Running start ws pen) (n
       ≡ ranOf pen (cond (within (ledTo pen ws)) (onto (vertex (pen .id) (ledTo pen ws) ∷ []) (pairsOf (behind pen ws) ws)) (faulty (plain Step)))
   tested = R .same ∙ ap (ranOf pen) (pairs-one pen ws n (R .stands))
 
-  module _ (fx : mag (pen .x) < 2 ^ 31) (r : Moved) (e : r ≡ steppedTo (toZ w32 (ofZ w32 (pen .x))) (getD ws (pen .at) 0)) where
-    pub run-out-x : r ≡ Beyond → Out ≡ ranOf start (pairsOf start ws)
-    run-out-x h = sym (rw (step-gone (pen .x) _ fx r e h) at tested)
+  pub run-out : within (ledTo pen ws) ≡ false → Out ≡ ranOf start (pairsOf start ws)
+  run-out h = sym (rw h at tested)
 
-    module _ (x : ℤ) (h : r ≡ To x) (fy : mag (pen .y) < 2 ^ 31) (q : Moved) (g : q ≡ steppedTo (toZ w32 (ofZ w32 (pen .y))) (getD ws (pen .at + 1) 0)) where
-      pub run-out-y : q ≡ Beyond → Out ≡ ranOf start (pairsOf start ws)
-      run-out-y k = let (t, i) = step-in (pen .x) _ fx r e x h in sym (rw (t, step-gone (pen .y) _ fy q g k) at tested)
-
-      pub run-turn : (y : ℤ) → q ≡ To y → mag x < 2 ^ 31 → mag y < 2 ^ 31 → (next : Pen) →
-          next ≡ penAt (pen .at + 2) (pen .left - 1) (pen .id) (record { x = toZ w32 (ofZ w32 x); y = toZ w32 (ofZ w32 y) }) → Running start ws next
-      run-turn y k mx my next l =
-          let (t, i) = step-in (pen .x) _ fx r e x h in
-          let (u, j) = step-in (pen .y) _ fy q g y k in
-          let m : next ≡ behind pen ws = rw (i32-back x mx, i32-back y my, ← i, ← j) at l in
-          rw m
-          (record {
-            stands = behind-stands pen ws n (R .stands);
-            same = rw (t, u) at tested ∙ ran-onto pen (behind pen ws) _ (pairsOf (behind pen ws) ws) (behind-same pen ws n (R .stands)) refl;
-          })
+  pub run-turn : within (ledTo pen ws) ≡ true → (next : Pen) → next ≡ behind pen ws → Running start ws next
+  run-turn h next l =
+      rw l
+      (record {
+        stands = behind-stands pen ws n (R .stands);
+        same = rw h at tested ∙ ran-onto pen (behind pen ws) _ (pairsOf (behind pen ws) ws) (behind-same pen ws n (R .stands)) refl;
+      })
 
 -- ---- follow
-both : (a b : Bool) → (a && b) ≡ true → (a ≡ true) × (b ≡ true)
-both true true e = (refl, refl)
-both true false e = let z : _≡_ {A = ℕ} 0 1 = cc in absurd (omega arith)
-both false b e = let z : _≡_ {A = ℕ} 0 1 = cc in absurd (omega arith)
-
-in-i32 : (z : ℤ) → inI32 z ≡ true → SFits w32 z
-in-i32 z e = let (a, b) = both (leZ (negsuc 2147483647) z) (leZ z (pos 2147483647)) e in i32-inside (le-yes a) (le-yes b)
-
 module _ (pen : Pen) (ws : List ℕ) (P : Leads pen ws) where
   module _ (fx : mag (pen .x) < 2 ^ 31) (dx : ℤ) (mx : mag dx < 2 ^ 31) (ex : dx ≡ unparam (getD ws (pen .at) 0)) where
     x-fits : SFits w32 (pen .x +ℤ dx)

@@ -1,56 +1,63 @@
--- One step along an axis: the two tests against the ends of i32, and what they say of the step.
-use Prim.Native.Nat.{ℕ, _^_, _<_}
+-- One pair of parameters as the code adds it up: two sums at 64 bits, the tests against the ends of i32, and the pen behind it.
+use Prim.Native.Nat.{ℕ, _+_, _-_, _^_, _<_}
 use mathlib.Core.Path.{_≡_, refl, sym, _∙_}
-use mathlib.Core.Bool.{Bool, true, false, cond, _&&_}
+use mathlib.Core.Bool.{Bool, true, false, not, _&&_}
 use native.Mathlib.Omega.{arith}
 use lib.IntN.{ℤ, pos, negsuc, _+ℤ_}
-use lib.Signed.{_≤ℤ_, _<ℤ_, leZ, mag}
-use mir.Syntax.{w32}
-use mir.Val.{ofZ, toZ}
-use Rattle.whole.proofs.Cases.{le-is, lt-is, le-not}
-use Rattle.whole.proofs.Machine.{i32-back}
-use Rattle.decoder.specs.declared.pen.Moved.{Moved}
-use Rattle.decoder.specs.declared.pen.Moved.the-variants.{To, Out}
+use mathlib.Core.List.{List}
+use lib.ListN.{getD}
+use lib.Signed.{leZ, mag}
+use mir.Syntax.{w32, w64}
+use mir.Val.{ofZ, toZ, SFits}
+use Rattle.whole.proofs.Machine.{Back, back, i32-back, i32-inside, le-yes}
 use Rattle.words.specs.Params.{unparam}
-use Rattle.decoder.specs.ReadingWords.{inI32}
-use Rattle.decoder.specs.Passing.{steppedTo}
+use Rattle.decoder.specs.declared.pen.Pen.{Pen}
+use Rattle.decoder.specs.ReadingWords.{inI32, within}
+use Rattle.decoder.specs.Stepping.{penAt}
+use Rattle.decoder.specs.Passing.{ledTo, behind}
 
-pub below-no : {z : ℤ} → z <ℤ negsuc 2147483647 → inI32 z ≡ false
-below-no {z = z} h = rw (le-not (negsuc 2147483647) z, lt-is h)
+pub both : (a b : Bool) → (a && b) ≡ true → (a ≡ true) × (b ≡ true)
+both true true e = (refl, refl)
+both true false e = let z : _≡_ {A = ℕ} 0 1 = cc in absurd (omega arith)
+both false b e = let z : _≡_ {A = ℕ} 0 1 = cc in absurd (omega arith)
 
-pub above-no : {z : ℤ} → pos 2147483647 <ℤ z → inI32 z ≡ false
-above-no {z = z} h = rw (le-not z (pos 2147483647), lt-is h) (neither (leZ (negsuc 2147483647) z))
-  where
-    neither : (b : Bool) → (b && false) ≡ false
-    neither true = refl
-    neither false = refl
+turned : (a b : Bool) → not a ≡ b → a ≡ not b
+turned true b e = rw (← e)
+turned false b e = rw (← e)
 
-pub inside-yes : {z : ℤ} → negsuc 2147483647 ≤ℤ z → z ≤ℤ pos 2147483647 → inI32 z ≡ true
-inside-yes l h = rw (le-is l, le-is h)
+pub in-i32 : (z : ℤ) → inI32 z ≡ true → SFits w32 z
+in-i32 z e = let (a, b) = both (leZ (negsuc 2147483647) z) (leZ z (pos 2147483647)) e in i32-inside (le-yes a) (le-yes b)
 
--- ---- each `return` of step_from
-module _ (place : ℤ) (word : ℕ) (step : ℤ) (e : step ≡ unparam word) where
-  pub step-out : inI32 (place +ℤ step) ≡ false → Out ≡ steppedTo place word
-  step-out h = rw (← e, h)
+-- a sum along one axis, read back from its bits
+sum-back : (place : ℤ) (word : ℕ) (z : ℤ) → mag place < 2 ^ 31 → mag z < 2 ^ 63 → z ≡ toZ w32 (ofZ w32 place) +ℤ unparam word → toZ w64 (ofZ w64 z) ≡ place +ℤ unparam word
+sum-back place word z f m e = let b : Back w64 z = back (record { sfits = m }) in b ∙ (rw (i32-back place f) at e)
 
-  pub step-to : inI32 (place +ℤ step) ≡ true → To (place +ℤ step) ≡ steppedTo place word
-  step-to h = rw (← e, h)
+module _ (pen : Pen) (ws : List ℕ) (fx : mag (pen .x) < 2 ^ 31) (fy : mag (pen .y) < 2 ^ 31) (x y : ℤ) (mx : mag x < 2 ^ 63) (my : mag y < 2 ^ 63)
+    (ex : x ≡ toZ w32 (ofZ w32 (pen .x)) +ℤ unparam (getD ws (pen .at) 0)) (ey : y ≡ toZ w32 (ofZ w32 (pen .y)) +ℤ unparam (getD ws (pen .at + 1) 0))
+    (a b : Bool) (ea : a ≡ inI32 (toZ w64 (ofZ w64 x))) (eb : b ≡ inI32 (toZ w64 (ofZ w64 y))) where
+  is-x : toZ w64 (ofZ w64 x) ≡ ledTo pen ws .x
+  is-x = sum-back (pen .x) (getD ws (pen .at) 0) x fx mx ex
 
--- ---- what an answer of step_from says of the sum; a number lent from a struct is read back from its bits
-to-by : (t : Bool) (z x : ℤ) → cond t (To z) Out ≡ To x → (t ≡ true) × (z ≡ x)
-to-by true z x e = (refl, cc)
-to-by false z x e = let k : _≡_ {A = ℕ} 0 1 = cc in absurd (omega arith)
+  is-y : toZ w64 (ofZ w64 y) ≡ ledTo pen ws .y
+  is-y = sum-back (pen .y) (getD ws (pen .at + 1) 0) y fy my ey
 
-out-by : (t : Bool) (z : ℤ) → cond t (To z) Out ≡ Out → t ≡ false
-out-by true z e = let k : _≡_ {A = ℕ} 0 1 = cc in absurd (omega arith)
-out-by false z e = refl
+  tests : (a && b) ≡ within (ledTo pen ws)
+  tests = rw (ea, eb, is-x, is-y)
 
-module _ (place : ℤ) (word : ℕ) (f : mag place < 2 ^ 31) (r : Moved) (e : r ≡ steppedTo (toZ w32 (ofZ w32 place)) word) where
-  stepped : steppedTo place word ≡ r
-  stepped = sym (rw (i32-back place f) at e)
+  pub leads-out : not (a && b) ≡ true → within (ledTo pen ws) ≡ false
+  leads-out h = sym tests ∙ turned (a && b) true h
 
-  pub step-in : (x : ℤ) → r ≡ To x → (inI32 (place +ℤ unparam word) ≡ true) × (place +ℤ unparam word ≡ x)
-  step-in x h = to-by (inI32 (place +ℤ unparam word)) (place +ℤ unparam word) x (stepped ∙ h)
+  module _ (h : not (a && b) ≡ false) where
+    pub leads-in : within (ledTo pen ws) ≡ true
+    leads-in = sym tests ∙ turned (a && b) false h
 
-  pub step-gone : r ≡ Out → inI32 (place +ℤ unparam word) ≡ false
-  step-gone h = out-by (inI32 (place +ℤ unparam word)) (place +ℤ unparam word) (stepped ∙ h)
+    pub x-fits : SFits w32 (toZ w64 (ofZ w64 x))
+    x-fits = let (s, t) = both (inI32 (ledTo pen ws .x)) (inI32 (ledTo pen ws .y)) leads-in in rw is-x (in-i32 (ledTo pen ws .x) s)
+
+    pub y-fits : SFits w32 (toZ w64 (ofZ w64 y))
+    y-fits = let (s, t) = both (inI32 (ledTo pen ws .x)) (inI32 (ledTo pen ws .y)) leads-in in rw is-y (in-i32 (ledTo pen ws .y) t)
+
+    pub leads-behind : (next : Pen) →
+        next ≡ penAt (pen .at + 2) (pen .left - 1) (pen .id) (record { x = toZ w32 (ofZ w32 (toZ w64 (ofZ w64 x))); y = toZ w32 (ofZ w32 (toZ w64 (ofZ w64 y))) }) →
+        next ≡ behind pen ws
+    leads-behind next l = rw (back x-fits, back y-fits, is-x, is-y) at l

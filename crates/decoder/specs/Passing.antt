@@ -3,15 +3,12 @@ use Prim.Native.Nat.{ℕ, _+_, _-_, _*_, _/_, _%_, _≤_}
 use mathlib.Core.Path.{_≡_}
 use mathlib.Core.Bool.{true, cond}
 use mathlib.Core.List.{List}
-use lib.IntN.{ℤ, _+ℤ_}
+use lib.IntN.{ℤ}
 use lib.ListN.{length, getD}
 use Rattle.promise.specs.Laid.{lay}
 use Rattle.words.specs.Commands.{isId}
-use Rattle.words.specs.Params.{unparam}
 use Rattle.decoder.specs.declared.pen.Head.{Head}
 use Rattle.decoder.specs.declared.pen.Head.the-variants.{Draw as Drawing, Close as Closing, Miscounted, Unknown}
-use Rattle.decoder.specs.declared.pen.Moved.{Moved}
-use Rattle.decoder.specs.declared.pen.Moved.the-variants.{To, Out as Beyond}
 use Rattle.decoder.specs.declared.pen.Pen.{Pen}
 use Rattle.decoder.specs.declared.command.Asked.{Asked}
 use Rattle.decoder.specs.declared.command.Asked.the-variants.{Draw, Close, Bad as Wrong}
@@ -20,15 +17,12 @@ use Rattle.decoder.specs.declared.passes.Ran.the-variants.{Over, Out}
 use Rattle.decoder.specs.declared.passes.Sized.{Sized}
 use Rattle.decoder.specs.declared.passes.Sized.the-variants.{Vertices, Bad}
 use Rattle.decoder.specs.Vertices.{Cursor, Trace, traced, faulty, numbers}
-use Rattle.decoder.specs.ReadingWords.{isClose, miscounted, unlessFaulty, moved, inI32, within}
+use Rattle.decoder.specs.ReadingWords.{isClose, miscounted, unlessFaulty, moved, within}
 use Rattle.decoder.specs.Stepping.{penAt, cursorOf, Stands}
 
 -- ---- one word
 abbrev pub headOf : ℕ → Head
 headOf word = cond (isId (word % 8)) (cond (miscounted word) Miscounted (cond (isClose word) Closing (Drawing (word % 8) (word / 8)))) Unknown
-
-abbrev pub steppedTo : ℤ → ℕ → Moved
-steppedTo place word = cond (inI32 (place +ℤ unparam word)) (To (place +ℤ unparam word)) Beyond
 
 -- ---- a command word with the words behind it
 abbrev pub askedOf : ℕ → ℕ → List ℕ → Asked

@@ -7,7 +7,6 @@ ghost use Rattle.decoder.specs.ReadingWords.{reading, saidReading};
 ghost use Rattle.decoder.specs.Stepping.{cursorOf, Stands, pairOf, commandOf, nextOf};
 use crate::command::Asked;
 use crate::passes::Sized;
-use crate::pen::Moved;
 use crate::pen::Pen;
 use refusal::Fault;
 use refusal::Refusal;
@@ -61,19 +60,15 @@ fn draw(words: &[u32], pen: Pen) -> Found
     ensures { λ r. ⌜ r ≡ pairOf (pen .at) (pen .left) (pen .id) (cursorOf pen) (drop (pen .at) (now (words .entry))) ⌝ }
 {
     let at = pen.at;
-    let Moved::To(x) = pen::step_from(pen.x, words[at]) else {
+    let x = pen::reach(pen.x, words[at]);
+    let y = pen::reach(pen.y, words[at + 1]);
+    if !(pen::is_inside(x) & pen::is_inside(y)) {
         return Found::Refused(Fault {
             refusal: Refusal::Step,
             place: 0,
         });
-    };
-    let Moved::To(y) = pen::step_from(pen.y, words[at + 1]) else {
-        return Found::Refused(Fault {
-            refusal: Refusal::Step,
-            place: 0,
-        });
-    };
-    Found::Vertex(pen.drawn(x, y))
+    }
+    Found::Vertex(pen.drawn(x as i32, y as i32))
 }
 
 // A command word and, of a MoveTo or a LineTo, its first pair.

@@ -12,7 +12,6 @@ ghost use Rattle.decoder.specs.Passing.{ranOf, sizeOf, behind, Leads, Ha
 use crate::command;
 use crate::command::Asked;
 use crate::pen;
-use crate::pen::Moved;
 use crate::pen::Pen;
 use refusal::Fault;
 use refusal::Refusal;
@@ -38,13 +37,12 @@ fn over(words: &[u32], start: Pen) -> Ran
     let mut pen = start;
     while pen.left != 0 {
         let at = pen.at;
-        let Moved::To(x) = pen::step_from(pen.x, words[at]) else {
+        let x = pen::reach(pen.x, words[at]);
+        let y = pen::reach(pen.y, words[at + 1]);
+        if !(pen::is_inside(x) & pen::is_inside(y)) {
             return Ran::Out;
-        };
-        let Moved::To(y) = pen::step_from(pen.y, words[at + 1]) else {
-            return Ran::Out;
-        };
-        pen = pen.drawn(x, y);
+        }
+        pen = pen.drawn(x as i32, y as i32);
     }
     Ran::Over(pen)
 }

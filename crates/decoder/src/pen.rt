@@ -3,11 +3,14 @@ ghost use mathlib.Core.Path.{_≡_};
 ghost use mathlib.Core.Bool.{cond};
 ghost use Prim.Native.Nat.{_+_, _-_};
 ghost use lib.Dec.{eqb};
+ghost use lib.IntN.{_+ℤ_};
 ghost use mir.Syntax.{w64};
 ghost use mir.Val.{Fits};
+ghost use Rattle.words.specs.Params.{unparam};
 ghost use Rattle.decoder.specs.declared.pen.Head.the-variants.{Draw, Close, Miscounted};
+ghost use Rattle.decoder.specs.ReadingWords.{inI32};
 ghost use Rattle.decoder.specs.Stepping.{penAt, cursorOf, outset};
-ghost use Rattle.decoder.specs.Passing.{headOf, steppedTo};
+ghost use Rattle.decoder.specs.Passing.{headOf};
 use words::command::Command;
 use words::command::CommandInt;
 use words::command::CommandRead;
@@ -28,11 +31,6 @@ pub(crate) enum Head {
     Close,
     Miscounted,
     Unknown,
-}
-
-pub(crate) enum Moved {
-    To(i32),
-    Out,
 }
 
 impl Pen {
@@ -118,17 +116,17 @@ pub(crate) fn head_of(word: u32) -> Head
     }
 }
 
-// The place on one axis after the step that a parameter says. At 64 bits the sum has room.
-pub(crate) fn step_from(place: i32, word: u32) -> Moved
-    ensures { λ r. ⌜ r ≡ steppedTo place word ⌝ }
+// Where the step that a parameter says leads along one axis. At 64 bits the sum has room.
+pub(crate) fn reach(place: i32, word: u32) -> i64
+    ensures { λ r. ⌜ r ≡ place +ℤ unparam word ⌝ }
 {
     let step = ParamInt::decode(word);
-    let to = place as i64 + step.value as i64;
-    if to < Pen::LEAST {
-        return Moved::Out;
-    }
-    if Pen::GREATEST < to {
-        return Moved::Out;
-    }
-    Moved::To(to as i32)
+    place as i64 + step.value as i64
+}
+
+// Whether a place is within i32.
+pub(crate) fn is_inside(place: i64) -> bool
+    ensures { λ r. ⌜ r ≡ inI32 place ⌝ }
+{
+    (Pen::LEAST <= place) & (place <= Pen::GREATEST)
 }

@@ -54,6 +54,24 @@ pub ended-short : (n end : ℕ) → length (ended n end) ≤ 21
 unfolding decimal
 ended-short n end = simp length-append (omega (arith, in-short 20 n))
 
+-- and no more than the number has: one for a digit, ten for a size of 32 bits
+in-fewer : (f k n : ℕ) → n < 10 ^ suc k → length (decimalIn f n) ≤ suc k
+in-fewer zero k n h = omega arith
+in-fewer (suc f) zero n h = rw (lt-ltb n 10 (omega arith)) (omega arith)
+in-fewer (suc f) (suc k) n h = by (ltb n 10) (in-fewer f k (n / 10) (omega (arith, pow-suc 10 (suc k))))
+  where
+    by : (t : Bool) → length (decimalIn f (n / 10)) ≤ suc k → length (cond t ((48 + n) ∷ []) (decimalIn f (n / 10) ++ ((48 + n % 10) ∷ []))) ≤ suc (suc k)
+    by true g = omega arith
+    by false g = simp length-append (omega arith)
+
+pub ended-one : (n end : ℕ) → n < 10 → length (ended n end) ≤ 2
+unfolding decimal
+ended-one n end h = simp length-append (omega (arith, in-fewer 20 0 n (omega arith)))
+
+pub ended-ten : (n end : ℕ) → n ≤ 2 ^ 31 → length (ended n end) ≤ 11
+unfolding decimal
+ended-ten n end h = simp length-append (omega (arith, in-fewer 20 9 n (omega arith)))
+
 -- a number of 64 bits takes at most twenty digits
 pub twenty : (n k : ℕ) → n < 2 ^ 64 → Fewest 10 1 n k → k ≤ 20
 twenty n k h (a, b, c) = by (decLe k 20)

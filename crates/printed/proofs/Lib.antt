@@ -5,3 +5,5 @@ pub mod Pairs
 pub mod Lines
 pub mod Rows
 pub mod Signs
+pub mod Placing
+pub mod Triples

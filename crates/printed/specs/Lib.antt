@@ -5,3 +5,5 @@ pub mod Losses
 pub mod Row
 pub mod Tiles
 pub mod Lending
+pub mod Faults
+pub mod Vertices

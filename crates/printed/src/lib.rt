@@ -1,6 +1,8 @@
 // What the programs print, laid out in lent bytes: lines of numbers in decimal, one or two to a line, rows of them, lines of a tile's outcomes, and of
 // bytes in hexadecimal; and how much of a list, and of a text, is printed.
+pub mod faults; // a refusal, and its place where it has one
 pub mod losses; // the counts of what was lost
+pub mod vertices; // the vertices of words that were read
 
 ghost use mathlib.Core.Path.{_≡_};
 ghost use Prim.Native.Nat.{_+_, _*_, _<_, _≤_};
@@ -105,7 +107,7 @@ pub fn show_words(words: &[u32], text: &mut [u8]) -> usize
 pub fn show_refused(number: u32, points: usize, text: &mut [u8]) -> usize
     ensures { λ r. ⌜ Shows refusedRoom (refusedText number points) r text ⌝ }
 {
-    if text.len() < 53 {
+    if text.len() < Text::REFUSED {
         return 0;
     }
     append(b"refused ", 0, text);
@@ -140,8 +142,7 @@ fn append_pairs(numbers: &[u32], at: usize, text: &mut [u8]) -> usize
     next
 }
 
-// `edges N` and then the two edges of each of the N points on a line: how many bytes it is. A text of fewer than 27 bytes, and 21 for each edge,
-// stays as it is, and the answer is 0.
+// `edges N` and then each point's two edges on a line: how many bytes it is. A text of fewer than 27 bytes, and 21 for each edge, stays as it is: 0.
 pub fn show_edges(edges: &[u32], text: &mut [u8]) -> usize
     ensures { λ r. ⌜ Shows (edgesRoom (now (edges .entry))) (edgesText (now (edges .entry))) r text ⌝ }
 {
@@ -158,7 +159,7 @@ pub fn show_edges(edges: &[u32], text: &mut [u8]) -> usize
 }
 
 // Lays a number in decimal, `-` before a negative one, and then `end` at a place of the text: the place after them.
-fn append_signed(n: i64, end: u8, at: usize, text: &mut [u8]) -> usize
+pub(crate) fn append_signed(n: i64, end: u8, at: usize, text: &mut [u8]) -> usize
     requires { ⌜ at + 22 ≤ length (now text) ⌝ }
     ensures { λ r. ⌜ Appends (signedEnded n end) at r text ⌝ }
 {
@@ -277,8 +278,7 @@ fn append_hex(bytes: &[u8], at: usize, text: &mut [u8]) -> usize
     next
 }
 
-// A line for each outcome, `bytes N`, and the bytes, 32 to a line: how many bytes of text it is. A text of fewer than 27 bytes, 29 for each
-// outcome and 3 for each byte, stays as it is, and the answer is 0.
+// A line for each outcome, `bytes N`, and the bytes, 32 to a line: how long it is. In fewer than 27 bytes, 29 for each outcome and 3 for each byte: 0.
 pub fn show_tile(outcomes: &[u32], bytes: &[u8], text: &mut [u8]) -> usize
     ensures { λ r. ⌜ Shows (tileRoom (now (outcomes .entry)) (now (bytes .entry))) (tileText (now (outcomes .entry)) (now (bytes .entry))) r text ⌝ }
 {

@@ -13,7 +13,7 @@ impl Text {
 }
 
 // Lays a line with a name, a blank behind it, and a number at a place of the text: the place after it.
-fn append_line(name: &[u8], n: u64, at: usize, text: &mut [u8]) -> usize
+pub(crate) fn append_line(name: &[u8], n: u64, at: usize, text: &mut [u8]) -> usize
     requires { ⌜ at + length (now name) + 21 ≤ length (now text) ⌝ }
     ensures { λ r. ⌜ Appends (headed (now (name .entry)) n) at r text ⌝ }
 {

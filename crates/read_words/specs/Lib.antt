@@ -1,1 +1,1 @@
-pub mod WordFiles
+pub mod Program

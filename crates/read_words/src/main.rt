@@ -1,73 +1,37 @@
-// Reads the words of one geometry from standard input and prints its vertices: `vertices N`, then `id x y`, one vertex a line; or `refused R`.
-ghost use Rattle.read_words.specs.WordFiles.{Reads};
+// The program: takes the words of one geometry from standard input and prints its vertices, or its refusal (RULES 11).
+ghost use Prim.Native.Nat.{_*_, _+_, _/_, _≤_};
+ghost use lib.ListN.{length};
+ghost use Rattle.printed.specs.Lending.{Tells};
+ghost use Rattle.read_words.specs.Program.{printed};
 use decoder::Reading;
 use number_file::Numbers;
-use refusal::Refusal;
+use printed::Text;
+use printed::faults::show_fault;
 
-fn show(v: i32) {
-    if v < 0 {
-        io::write_all(1, b"-");
-    }
-    let size = number::magnitude(number::signed_long(v));
-    io::print_decimal(1, size);
-}
-
-fn show_vertex(id: i32, x: i32, y: i32) {
-    show(id);
-    io::write_all(1, b" ");
-    show(x);
-    io::write_all(1, b" ");
-    show(y);
-    io::write_all(1, b"\n");
-}
-
-fn show_count(n: usize) {
-    io::write_all(1, b"vertices ");
-    io::print_decimal(1, n as u64);
-    io::write_all(1, b"\n");
-}
-
-// So many vertices, three numbers each, as far as the list goes.
-fn show_all(numbers: &[i32], vertices: usize) {
-    let mut at = 0;
-    let mut i = 0;
-    while i < vertices {
-        if numbers.len() - at < 3 {
-            return;
-        }
-        show_vertex(numbers[at], numbers[at + 1], numbers[at + 2]);
-        at += 3;
-        i += 1;
-    }
-}
-
-fn refuse(r: Refusal) {
-    io::write_all(1, b"refused ");
-    io::print_decimal(1, refusal::number(r) as u64);
-    io::write_all(1, b"\n");
-}
-
-// The vertices of a file of words.
-fn read_file(bytes: &[u8], words: &mut [u32], out: &mut [i32]) -> Reading
-    ensures { λ r. ⌜ Reads r bytes words out ⌝ }
+// What the program prints for a file, at the front of `text`: how many bytes it is. The lists are the program's own, and large enough.
+fn answer(file: &[u8], words: &mut [u32], out: &mut [i32], text: &mut [u8]) -> usize
+    requires { ⌜ 70 + 26 * (length (now out) / 3) ≤ length (now text) ⌝ }
+    ensures { λ r. ⌜ Tells (printed (now (file .entry)) (now (words .entry)) (now (out .entry))) r text ⌝ }
 {
-    match number_file::read_numbers(bytes, words) {
-        Numbers::Read(n) => decoder::decode(&words[..n], out),
-        Numbers::Refused(r) => Reading::Refused(r),
+    match number_file::read_numbers(file, words) {
+        Numbers::Refused(r) => show_fault(refusal::number(r), 0, text),
+        Numbers::Read(n) => match decoder::decode(&words[..n], out) {
+            Reading::Refused(f) => {
+                let r = f.refusal;
+                show_fault(refusal::number(r), f.place, text)
+            }
+            Reading::Read(vertices) => printed::vertices::show_vertices(&out[..3 * vertices], text),
+        },
     }
 }
 
-// One byte more than a file may have, so that a longer one is seen; each word gives three numbers at most.
+// A file may have 65,536 bytes; one more is read, so that a longer file is seen. A word gives one vertex at most, of three numbers.
 fn main() {
-    let mut buf = [0u8; 65537];
-    let n = io::read_full(0, &mut buf);
+    let mut file = [0u8; 65537];
+    let n = io::read_full(libc::STDIN_FILENO, &mut file);
     let mut words = [0u32; 16384];
     let mut out = [0i32; 49152];
-    match read_file(&buf[..n], &mut words, &mut out) {
-        Reading::Read(vertices) => {
-            show_count(vertices);
-            show_all(&out, vertices);
-        }
-        Reading::Refused(r) => refuse(r),
-    }
+    let mut text = [0u8; Text::VERTICES];
+    let k = answer(&file[..n], &mut words, &mut out, &mut text);
+    io::write_all(libc::STDOUT_FILENO, &text[..k]);
 }

@@ -1,4 +1,4 @@
-// Replays readings of words: prints for each list of words how many vertices there are and then each vertex, its id, x and y, on a line; or the refusal.
+// Replays readings of words: prints for each list of words how many vertices there are and then each vertex, its id, x and y, on a line; or the refusal and its place.
 use decoder::Reading;
 use number::signed_long;
 
@@ -23,8 +23,10 @@ fn print_vertices(numbers: &[i32], vertices: usize) {
 
 fn print_reading(words: &[u32], out: &mut [i32]) {
     match decoder::decode(words, out) {
-        Reading::Refused(r) => {
-            replay::print_refused(r, 0);
+        Reading::Refused(f) => {
+            let r = f.refusal;
+            let place = f.place;
+            replay::print_refused(r, place);
         }
         Reading::Read(vertices) => {
             let row = [replay::size(vertices)];

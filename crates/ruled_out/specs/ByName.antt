@@ -1,18 +1,17 @@
 -- The programs that document 01 rules out by name ("What each call owes", "Errors that look right"), and three that the work names, each in the form in which
 -- it is named. A law says: if the definition gave that program's answer for all inputs, the absurd would follow. One input at which the two differ proves it.
-use Prim.Native.Nat.{ℕ, zero, suc, _/_, _%_}
+use Prim.Native.Nat.{ℕ, zero, suc, _+_, _/_, _%_}
 use mathlib.Core.Path.{_≡_, refl, ap}
-use mathlib.Core.Bool.{false, cond, not, _&&_}
+use mathlib.Core.Bool.{false, cond, _&&_}
 use mathlib.Core.List.{List, [], _∷_, map}
-use lib.Dec.{leb, ltb, eqb}
+use lib.Dec.{leb, eqb}
 use lib.IntN.{ℤ, pos, negsuc, negℤ}
 use lib.ListN.{length, take, drop, replicate}
 use lib.Signed.{ltZ}
 use native.Mathlib.Omega.{arith}
 use Rattle.promise.specs.Answers.{Written, kept}
-use Rattle.refusal.specs.declared.Refusal.the-variants.{State, Coord, Empty, Room, Command as NoCommand, Cut}
+use Rattle.refusal.specs.declared.Refusal.the-variants.{State, Coord, Empty, Room}
 use Rattle.refusal.specs.Said.{Said}
-use Rattle.words.specs.Commands.{isId}
 use Rattle.words.specs.Geometries.{room}
 use Rattle.words.specs.Params.{param, unparam}
 use Rattle.clip.specs.declared.Pt.{Pt}
@@ -34,7 +33,7 @@ use Rattle.encoder.specs.Adding.{boundary, drawn, pointAt, added}
 use Rattle.encoder.specs.Completing.{finished, closed, completed}
 use Rattle.encoder.specs.Jobs.{isJob, encodedJob}
 use Rattle.decoder.specs.Vertices.{Cursor, Trace, traced, faulty, origin, vertex, onto, andThen}
-use Rattle.decoder.specs.ReadingWords.{isClose, params, moved, drawn as stepsDrawn, commands, traceFrom, trace}
+use Rattle.decoder.specs.ReadingWords.{isClose, params, unlessFaulty, moved, drawn as stepsDrawn, commands, traceFrom, trace}
 use Rattle.ruled_out.specs.Inputs.{bit, size, item, sizeOf, cornersOf, firstCorners, alike, vertices, ten, hundred}
 
 -- ---- "an encoder that refuses every point": of every state, point and list the answer has a refusal's number, whichever it is
@@ -151,18 +150,18 @@ startAfter word start c [] = start
 startAfter word start c (dx ∷ []) = start
 startAfter word start c (dx ∷ dy ∷ ps) = cond (eqb (word % 8) 1) (moved c dx dy) start
 
-abbrev resetting : ℕ → Cursor → Cursor → List ℕ → Trace
-resetting zero start c ws = traced [] c
-resetting (suc turns) start c [] = traced [] c
-resetting (suc turns) start c (word ∷ ws) =
-    cond (not (isId (word % 8))) (faulty NoCommand) (
-    cond (ltb (length ws) (params word)) (faulty Cut) (
+abbrev resetting : ℕ → ℕ → Cursor → Cursor → List ℕ → Trace
+resetting zero at start c ws = traced [] c
+resetting (suc turns) at start c [] = traced [] c
+resetting (suc turns) at start c (word ∷ ws) =
+    unlessFaulty at word ws faulty (
     cond (isClose word)
-    (onto (vertex 7 c ∷ []) (resetting turns start start ws))
-    (andThen (stepsDrawn (word % 8) c (take (params word) ws)) (λ c′. resetting turns (startAfter word start c ws) c′ (drop (params word) ws)))))
+    (onto (vertex 7 c ∷ []) (resetting turns (at + 1) start start ws))
+    (andThen (stepsDrawn (word % 8) c (take (params word) ws))
+    (λ c′. resetting turns (at + 1 + params word) (startAfter word start c ws) c′ (drop (params word) ws))))
 
 -- such a reading of every list of words; they differ at a ring from (2,2), closed, and a MoveTo by (1,1) from its last point (6,6)
-pub cursor-reset-at-close : ((ws : List ℕ) → trace ws ≡ resetting (length ws) origin origin ws) → ⊥
+pub cursor-reset-at-close : ((ws : List ℕ) → trace ws ≡ resetting (length ws) 0 origin origin ws) → ⊥
 unfolding traceFrom commands stepsDrawn unparam
 cursor-reset-at-close h =
     let e : _≡_ {A = ℕ} 7 3 = ap (λ t. sizeOf 13 (vertices t)) (h (9 ∷ 4 ∷ 4 ∷ 18 ∷ 8 ∷ 0 ∷ 0 ∷ 8 ∷ 15 ∷ 9 ∷ 2 ∷ 2 ∷ [])) in omega arith

@@ -70,18 +70,22 @@ alike [] m = 0
 alike (a ∷ l) [] = 0
 alike (a ∷ l) (b ∷ m) = cond (eqb a b) (suc (alike l m)) 0
 
--- of a reading: three numbers a vertex, where the cursor is at the end, the fault's number
+-- of a reading: three numbers a vertex, where the cursor is at the end, the fault's number and place
 abbrev pub vertices : Trace → List ℤ
 vertices (traced vs c) = numbers vs
-vertices (faulty r) = []
+vertices (faulty f) = []
 
 abbrev pub cursorX : Trace → ℕ
 cursorX (traced vs c) = size (c .x)
-cursorX (faulty r) = 0
+cursorX (faulty f) = 0
 
 abbrev pub faultOf : Trace → ℕ
 faultOf (traced vs c) = 0
-faultOf (faulty r) = numberOf r
+faultOf (faulty f) = numberOf (f .refusal)
+
+abbrev pub placeOf : Trace → ℕ
+placeOf (traced vs c) = 0
+placeOf (faulty f) = f .place
 
 -- how many bytes a varint took, none where there is no good one
 abbrev pub readBytes : VarintRead → ℕ

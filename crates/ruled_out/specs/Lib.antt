@@ -9,6 +9,7 @@ pub mod Encoding
 pub mod Counts
 pub mod Jobs
 pub mod Reading
+pub mod Stepping
 pub mod Tables
 pub mod Layers
 pub mod TagCalls

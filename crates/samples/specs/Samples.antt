@@ -50,7 +50,7 @@ pub data Given : Type 0 where
 -- the vertices that words read to
 abbrev pub readBack : Trace → List ℤ
 readBack (traced vs c) = numbers vs
-readBack (faulty r) = []
+readBack (faulty f) = []
 
 abbrev pub jobGives : Written (Said ℕ) (List ℕ) → Given
 jobGives w = words (w .answer .number) (take (w .answer .values) (w .memory)) (readBack (trace (take (w .answer .values) (w .memory))))

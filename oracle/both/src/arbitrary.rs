@@ -19,7 +19,7 @@ const NEW: &[u32] = &[0, 2, 3];
 const ADD: &[u32] = &[0, 4, 5, 7];
 const COMPLETE: &[u32] = &[0, 4, 6, 7];
 const WHOLE: &[u32] = &[0, 1, 2, 3, 5, 6, 7];
-const READ: &[u32] = &[0, 7, 8, 9, 10];
+const READ: &[u32] = &[0, 7, 8, 10, 16, 17, 18];
 
 /// A number: any bits, a small one, or one at a boundary.
 fn number(random: &mut Random) -> u32 {
@@ -165,14 +165,21 @@ fn list(random: &mut Random, most: usize) -> Vec<u32> {
     (0..length).map(|_| number(random)).collect()
 }
 
-/// Words that read well for a while: commands with counts about as large as what follows.
+/// Words that read well for a while: commands with counts about as large as what follows, and those of most ClosePaths 1.
 fn geometry(random: &mut Random) -> Vec<u32> {
     let mut words = Vec::new();
     for _ in 0..random.below(5) {
-        let count = random.below(4) as u32;
-        words.push(random.pick(&[1, 1, 2, 2, 7, 7, 0, 3]) + 8 * count);
-        for _ in 0..2 * count {
-            words.push(number(random));
+        let id = random.pick(&[1, 1, 1, 2, 2, 2, 7, 7, 7, 0, 3]);
+        let count = match random.below(8) {
+            0 => random.below(4) as u32,
+            _ if id == 7 => 1,
+            _ => 1 + random.below(3) as u32,
+        };
+        words.push(id + 8 * count);
+        if id != 7 {
+            for _ in 0..2 * count {
+                words.push(number(random));
+            }
         }
     }
     words.truncate(words.len().saturating_sub(usize::from(random.chance(4))));
@@ -354,6 +361,7 @@ fn whole(random: &mut Random) -> Said {
     }
 }
 
+/// A reading: by the independent one its answer, the place in it, and every number.
 fn read(random: &mut Random) -> Said {
     let words = if random.chance(2) {
         geometry(random)
@@ -367,7 +375,7 @@ fn read(random: &mut Random) -> Said {
         call: "words read",
         refusal: given.refusal,
         allowed: READ,
-        sound: readings::differs(&words, room, false).is_none(),
+        sound: readings::differs(&words, room, readings::Spoil::Nothing).is_none(),
         guarded: out.guarded(),
     }
 }
@@ -399,6 +407,9 @@ pub fn run(seed: u64, count: usize, spoil: bool, tally: &mut Tally) -> Option<Di
         tally.add(said.call, 1);
         if said.refusal == 0 {
             tally.add("accepted", 1);
+        }
+        if at % 8 == 7 {
+            tally.add(readings::answer(said.refusal), 1);
         }
         if at % 8 == 0 {
             tally.add(

@@ -1,6 +1,7 @@
 //! The cases of cases.py, the fixed ones and random ones, made here for speed. `oracle/compare` holds the two against each other first.
 
 use crate::random::Random;
+use crate::readings;
 use crate::scripts;
 
 pub const LIMIT: i64 = 1_073_741_823;
@@ -359,6 +360,8 @@ pub fn print(kind: &str, seed: u64, count: usize) {
             (0..count).for_each(|at| hex(scripts::next_tile(&mut random, at)));
         }
         "large_tiles" => scripts::large_tiles().into_iter().for_each(hex),
+        // Made here alone, with their readings, which reading.py holds against its own.
+        "readings" => readings::print(seed, count),
         _ => {
             fixed_clips().into_iter().for_each(line);
             (0..count).for_each(|_| line(next_clip(&mut random)));

@@ -118,7 +118,7 @@ fn read_back(expected: &Expected) -> Option<String> {
         return None;
     }
     let numbers = readings::vertices(&expected.words, usize::MAX).map_or(0, |found| found.len());
-    readings::differs(&expected.words, numbers, false)
+    readings::differs(&expected.words, numbers, readings::Spoil::Nothing)
         .map(|what| format!("reading the words: {what}"))
 }
 

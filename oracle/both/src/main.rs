@@ -27,12 +27,13 @@ mod tile_judge;
 mod tiles;
 mod varints;
 mod whole;
+mod word_lists;
 
 use jobs::Spoil;
 use report::{Difference, Tally};
 use std::process::exit;
 
-const USAGE: &str = "usage: both jobs|clips|counts|laws|readings|tiles|varints|arbitrary|arbitrary-tiles|spoiled-jobs|spoiled-clips|spoiled-turned|spoiled-moved|spoiled-edges|spoiled-calls|spoiled-taken|spoiled-boundary|spoiled-skipped|spoiled-taken-out|spoiled-refused|spoiled-most|spoiled-vertices|spoiled-finished|spoiled-readings|spoiled-tiles|spoiled-varints|spoiled-arbitrary SEED COUNT, or both cases jobs|large_jobs|clips|tiles|large_tiles SEED COUNT";
+const USAGE: &str = "usage: both jobs|clips|counts|laws|readings|tiles|varints|arbitrary|arbitrary-tiles|spoiled-jobs|spoiled-clips|spoiled-turned|spoiled-moved|spoiled-edges|spoiled-calls|spoiled-taken|spoiled-boundary|spoiled-skipped|spoiled-taken-out|spoiled-refused|spoiled-most|spoiled-vertices|spoiled-finished|spoiled-readings|spoiled-place|spoiled-cuts|spoiled-command-count|spoiled-close|spoiled-nought|spoiled-written|spoiled-behind|spoiled-tiles|spoiled-varints|spoiled-arbitrary SEED COUNT, or both cases jobs|large_jobs|clips|tiles|large_tiles|readings SEED COUNT";
 
 fn run(kind: &str, seed: u64, count: usize, tally: &mut Tally) -> Option<Difference> {
     match kind {
@@ -61,9 +62,17 @@ fn run(kind: &str, seed: u64, count: usize, tally: &mut Tally) -> Option<Differe
         // The same: another edge of a clip from the other end, and of a clip that is moved.
         "spoiled-turned" => laws::compare(seed, count, laws::Spoil::Turned, tally),
         "spoiled-moved" => laws::compare(seed, count, laws::Spoil::Moved, tally),
-        "readings" => readings::compare(seed, count, false, tally),
-        // The same: a fault of ours is said to be COMMAND.
-        "spoiled-readings" => readings::compare(seed, count, true, tally),
+        "readings" => readings::compare(seed, count, readings::Spoil::Nothing, tally),
+        // The same: a fault of ours is said to be COMMAND, a cut's place is one more, one cut is said to be the other, COUNT to be COMMAND.
+        "spoiled-readings" => readings::compare(seed, count, readings::Spoil::Fault, tally),
+        "spoiled-place" => readings::compare(seed, count, readings::Spoil::Place, tally),
+        "spoiled-cuts" => readings::compare(seed, count, readings::Spoil::Cuts, tally),
+        "spoiled-command-count" => readings::compare(seed, count, readings::Spoil::Count, tally),
+        // The same: a count that is COUNT is read, and a number is written that should stay.
+        "spoiled-close" => readings::compare(seed, count, readings::Spoil::Close, tally),
+        "spoiled-nought" => readings::compare(seed, count, readings::Spoil::Nought, tally),
+        "spoiled-written" => readings::compare(seed, count, readings::Spoil::Written, tally),
+        "spoiled-behind" => readings::compare(seed, count, readings::Spoil::Behind, tally),
         "tiles" => tiles::compare(seed, count, false, tally),
         // The same: a byte of ours is changed.
         "spoiled-tiles" => tiles::compare(seed, count, true, tally),
@@ -92,7 +101,12 @@ fn main() {
                 exit(2)
             })
     };
-    if words.first().is_some_and(|word| word == "cases") {
+    // A panic of the Rust is an answer; nothing is printed about it. Where only ours is called one would be a fault of this program.
+    let kind = words.first().map_or("", String::as_str);
+    if !kind.starts_with("arbitrary") {
+        std::panic::set_hook(Box::new(|_| {}));
+    }
+    if kind == "cases" {
         return cases::print(&words[1], number(2) as u64, number(3));
     }
     if ours::versions() != [ours::VERSION; 2] {
@@ -103,24 +117,16 @@ fn main() {
         );
         exit(2);
     }
-    // A panic of the Rust is an answer; nothing is printed about it. Where only ours is called one would be a fault of this program.
-    if !words[0].starts_with("arbitrary") {
-        std::panic::set_hook(Box::new(|_| {}));
-    }
     let (seed, count) = (number(1) as u64, number(2));
     let mut tally = Tally::default();
-    let found = run(&words[0], seed, count, &mut tally);
+    let found = run(kind, seed, count, &mut tally);
     println!(
-        "{} (seed {seed}, {count} random cases): {}",
-        words[0],
+        "{kind} (seed {seed}, {count} random cases): {}",
         tally.text()
     );
     if let Some(Difference { what, input }) = found {
-        println!(
-            "DIFFERENCE in {}: {what}\nsmallest input: {input}",
-            words[0]
-        );
+        println!("DIFFERENCE in {kind}: {what}\nsmallest input: {input}");
         exit(1);
     }
-    println!("{}: no difference", words[0]);
+    println!("{kind}: no difference");
 }

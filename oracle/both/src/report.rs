@@ -18,6 +18,12 @@ impl Tally {
         }
     }
 
+    /// How often this came.
+    pub fn count(&self, name: &str) -> usize {
+        let found = self.0.iter().find(|(known, _)| *known == name);
+        found.map_or(0, |(_, total)| *total)
+    }
+
     pub fn text(&self) -> String {
         let counts: Vec<String> = self
             .0

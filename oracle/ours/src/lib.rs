@@ -3,7 +3,7 @@
 pub mod tiles;
 
 /// The number of the interface that is written down here; the archives have to be of it.
-pub const VERSION: u32 = 3;
+pub const VERSION: u32 = 4;
 
 #[repr(C)]
 #[derive(Clone, Copy, Debug, Default, PartialEq)]
@@ -30,6 +30,7 @@ pub struct Job {
 pub struct Reading {
     pub refusal: u32,
     pub vertices: usize,
+    pub place: usize,
 }
 
 #[repr(C)]
