@@ -1,4 +1,5 @@
-// Replays readings of words: prints for each list of words how many vertices there are and then each vertex, its id, x and y, on a line; or the refusal and its place.
+// Replays readings of words: prints for each list of words how many vertices there are and then each vertex, its id, x and y, on a line; or the refusal
+// and its place.
 use decoder::Reading;
 use number::signed_long;
 

@@ -366,7 +366,8 @@ pub fn compare(seed: u64, count: usize, spoil: Spoil, tally: &mut Tally) -> Opti
     }
 }
 
-/// Lists with their readings, a line each, for reading.py: the lent list's length and the words, a tab, then the vertices' numbers or the refusal and its place.
+/// Lists with their readings, a line each, for reading.py: the lent list's length and the words, a tab, then the vertices' numbers or the refusal and
+/// its place.
 pub fn print(seed: u64, count: usize) {
     let told = |words: &[u32], room: usize| {
         let given: Vec<String> = words.iter().map(u32::to_string).collect();
