@@ -60,6 +60,7 @@ abbrev pub filled : Trace → ℕ → List ℤ → List ℤ
 filled (traced vs c) at out = lay at (numbers vs) out
 filled (faulty f) at out = out
 
+-- the pairs of a command, laid from a place on: the pen behind them, and the list
 pub record Filled (pen : Pen) (t : Trace) (at : ℕ) (out : List ℤ) (r : Pen) (out′ : List ℤ) : Type 0 where
   pub pen-after : Over r ≡ ranOf pen t
   pub memory : out′ ≡ filled t at out

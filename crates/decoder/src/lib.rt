@@ -1,4 +1,4 @@
-// Request (iii)'s amended "Reading words" of document 01: a geometry's words to its vertices, by MVT 4.3 alone; all of them at once, or one after the other.
+// Document 01, "Reading words", as request (iii) amends it: a geometry's words to its vertices, by MVT 4.3 alone; all of them at once, or one after the other.
 ghost use mathlib.Core.Path.{_≡_};
 ghost use Prim.Native.Nat.{_<_};
 ghost use lib.ListN.{length, drop};
@@ -78,8 +78,8 @@ fn begin(words: &[u32], pen: Pen) -> Found
 {
     match command::ask(words, pen.at) {
         Asked::Bad(f) => Found::Refused(f),
-        Asked::Close => Found::Vertex(pen.begun(7, 0)),
-        Asked::Draw(id, pairs) => { draw(words, pen.begun(id, pairs)) }
+        Asked::Close => Found::Vertex(pen.closed()),
+        Asked::Draw(id, pairs) => draw(words, pen.begun(id, pairs)),
     }
 }
 

@@ -56,7 +56,7 @@ pub(crate) fn size(words: &[u32]) -> Sized
     while pen.at < words.len() {
         match command::ask(words, pen.at) {
             Asked::Close => {
-                pen = pen.begun(7, 0);
+                pen = pen.closed();
                 n += 1;
             }
             Asked::Draw(id, pairs) => {
@@ -122,7 +122,7 @@ pub(crate) fn write(words: &[u32], out: &mut [i32])
     while pen.at < words.len() {
         match command::ask(words, pen.at) {
             Asked::Close => {
-                pen = pen.begun(7, 0);
+                pen = pen.closed();
                 put(pen.id, pen.x, pen.y, n, out);
                 n += 3;
             }

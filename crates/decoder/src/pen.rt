@@ -65,6 +65,14 @@ impl Pen {
         }
     }
 
+    // Behind a ClosePath, whose vertex is the cursor.
+    pub(crate) fn closed(self) -> Pen
+        requires { ⌜ Fits w64 (self .at + 1) ⌝ }
+        ensures { λ r. ⌜ r ≡ penAt (self .at + 1) 0 7 (cursorOf self) ⌝ }
+    {
+        self.begun(7, 0)
+    }
+
     // Behind a pair, which leads to (x, y).
     pub(crate) fn drawn(self, x: i32, y: i32) -> Pen
         requires { ⌜ ((self .left ≡ 0) → ⊥) × Fits w64 (self .at + 2) ⌝ }

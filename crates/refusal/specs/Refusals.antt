@@ -2,7 +2,8 @@
 -- no refusal has 9.
 use Prim.Native.Nat.{ℕ}
 use Rattle.refusal.specs.declared.Refusal.{Refusal}
-use Rattle.refusal.specs.declared.Refusal.the-variants.{Job, Kind, Box, State, Coord, Empty, Room, Command, Step, Text, Turn, Extent, Name, Count, NoParams, CutParams}
+use Rattle.refusal.specs.declared.Refusal.the-variants.{Job, Kind, Box, State, Coord, Empty, Room, Command, Step}
+use Rattle.refusal.specs.declared.Refusal.the-variants.{Text, Turn, Extent, Name, Count, NoParams, CutParams}
 
 abbrev pub numberOf : Refusal → ℕ
 numberOf Job = 1

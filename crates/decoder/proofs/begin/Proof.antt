@@ -13,14 +13,14 @@ enum-known-f c = search needs
 enum-told : tie.Need-enum-told
 enum-told c = search needs
 
-begun-requires : tie.Need-begun-requires
-begun-requires c κs = search needs
+closed-requires : tie.Need-closed-requires
+closed-requires c κs = search needs
 
 enum-known-id : tie.Need-enum-known-id
 enum-known-id c = search needs
 
-begun-requires-2 : tie.Need-begun-requires-2
-begun-requires-2 c κs = search needs
+begun-requires : tie.Need-begun-requires
+begun-requires c κs = search needs
 
 draw-requires : tie.Need-draw-requires
 draw-requires c κs = search (needs, begin-some, begin-stands)
@@ -41,9 +41,9 @@ begin-spec =
     ask-requires
     enum-known-f
     enum-told
-    begun-requires
+    closed-requires
     enum-known-id
-    begun-requires-2
+    begun-requires
     draw-requires
     returns
     returns-2

@@ -25,8 +25,8 @@ ask-requires c κs = search needs
 enum-told : tie.Need-enum-told Inv-loop μ-loop
 enum-told c = search needs
 
-begun-requires : tie.Need-begun-requires Inv-loop μ-loop
-begun-requires c κs = search needs
+closed-requires : tie.Need-closed-requires Inv-loop μ-loop
+closed-requires c κs = search needs
 
 add-n : tie.Need-add-n Inv-loop μ-loop
 add-n c = search (needs, count-few)
@@ -40,8 +40,8 @@ loop-again c = search (needs, count-close)
 enum-known-id : tie.Need-enum-known-id Inv-loop μ-loop
 enum-known-id c = search needs
 
-begun-requires-2 : tie.Need-begun-requires-2 Inv-loop μ-loop
-begun-requires-2 c κs = search needs
+begun-requires : tie.Need-begun-requires Inv-loop μ-loop
+begun-requires c κs = search needs
 
 over-requires : tie.Need-over-requires Inv-loop μ-loop
 over-requires c κs = search (needs, count-stands)
@@ -66,7 +66,7 @@ add-n-2 : tie.Need-add-n-2 Inv-loop μ-loop
 add-n-2 c =
     let o = over-of c in
     let a = ask-of o in
-    let s = count-small _ _ _ (a .before .before .before .loop .inv) (a .before .if1 .taken) _ (a .ask .ensures) _ _ (o .before .before .before .id .given .1) _ (o .before .begun2 .ensures) in
+    let s = count-small _ _ _ (a .before .before .before .loop .inv) (a .before .if1 .taken) _ (a .ask .ensures) _ _ (o .before .before .before .id .given .1) _ (o .before .begun .ensures) in
     record { fits = omega (arith, s, a .before .before .before .before .before .before .good) }
 
 loop-less-2 : tie.Need-loop-less-2 Inv-loop μ-loop
@@ -94,12 +94,12 @@ size-spec =
     loop-holds
     ask-requires
     enum-told
-    begun-requires
+    closed-requires
     add-n
     loop-less
     loop-again
     enum-known-id
-    begun-requires-2
+    begun-requires
     over-requires
     enum-known-last
     enum-told-2

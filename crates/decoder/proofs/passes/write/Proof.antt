@@ -25,8 +25,8 @@ ask-requires c κs = search needs
 enum-told : tie.Need-enum-told Inv-loop μ-loop
 enum-told c = search needs
 
-begun-requires : tie.Need-begun-requires Inv-loop μ-loop
-begun-requires c κs = search needs
+closed-requires : tie.Need-closed-requires Inv-loop μ-loop
+closed-requires c κs = search needs
 
 put-requires : tie.Need-put-requires Inv-loop μ-loop
 put-requires c κs = search (needs, laid-known, laid-room)
@@ -43,8 +43,8 @@ loop-again c = search (needs, laid-close)
 enum-known-id : tie.Need-enum-known-id Inv-loop μ-loop
 enum-known-id c = search needs
 
-begun-requires-2 : tie.Need-begun-requires-2 Inv-loop μ-loop
-begun-requires-2 c κs = search needs
+begun-requires : tie.Need-begun-requires Inv-loop μ-loop
+begun-requires c κs = search needs
 
 fill-requires : tie.Need-fill-requires Inv-loop μ-loop
 fill-requires c κs = search (needs, laid-id, laid-stands, laid-fits)
@@ -66,7 +66,7 @@ room-for-pairs c =
     let f = fill-of c in
     let a = ask-of f in
     laid-sum _ _ _ _ _ (a .before .before .before .loop .inv) (start-of a .pre) (a .before .if1 .taken) _ (a .ask .ensures) _ _
-    (f .before .before .before .before .id .given .1) _ (f .before .before .begun2 .ensures) _ _ (f .fill .ensures)
+    (f .before .before .before .before .id .given .1) _ (f .before .before .begun .ensures) _ _ (f .fill .ensures)
 
 mul-n : tie.Need-mul-n Inv-loop μ-loop
 mul-n c = record { fits = omega (arith, room-for-pairs c, start-of (ask-of (fill-of c)) .good) }
@@ -105,13 +105,13 @@ write-spec =
     loop-holds
     ask-requires
     enum-told
-    begun-requires
+    closed-requires
     put-requires
     add-n
     loop-less
     loop-again
     enum-known-id
-    begun-requires-2
+    begun-requires
     fill-requires
     mul-n
     add-n-2
