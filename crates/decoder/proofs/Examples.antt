@@ -1,13 +1,15 @@
 -- Document 01's word lists, read: a few statements that compute, one for each rule of "Reading words". The sample jobs have a list of their own.
 use Prim.Native.Nat.{ℕ}
 use mathlib.Core.Path.{_≡_, refl}
-use mathlib.Core.List.{[], _∷_}
+use mathlib.Core.List.{List, [], _∷_}
 use lib.IntN.{ℤ, pos}
 use Rattle.refusal.specs.declared.Refusal.the-variants.{Command as NoCommand, Count, NoParams, CutParams, Step}
 use Rattle.refusal.specs.Said.{plain, placed}
 use Rattle.words.specs.Params.{unparam}
+use Rattle.decoder.specs.declared.Found.the-variants.{Vertex as Met, End, Refused}
 use Rattle.decoder.specs.Vertices.{Cursor, Vertex, traced, faulty, origin}
 use Rattle.decoder.specs.ReadingWords.{drawn, commands, traceFrom, trace}
+use Rattle.decoder.specs.Stepping.{penAt, outset, nextOf}
 
 abbrev v : ℕ → ℤ → ℤ → Vertex
 v id x y = record { id = id; x = x; y = y }
@@ -78,3 +80,36 @@ cut-first = refl
 step-first : trace (9 ∷ 4294967294 ∷ 0 ∷ 10 ∷ 2 ∷ 0 ∷ 19 ∷ []) ≡ faulty (plain Step)
 unfolding traceFrom commands drawn unparam
 step-first = refl
+
+-- ---- one vertex after the other: those of a line, and the end
+abbrev words : List ℕ
+words = 9 ∷ 4 ∷ 4 ∷ 18 ∷ 0 ∷ 16 ∷ 16 ∷ 0 ∷ []
+
+first-met : nextOf outset words ≡ Met (penAt 3 0 1 (at (pos 2) (pos 2)))
+unfolding nextOf unparam
+first-met = refl
+
+second-met : nextOf (penAt 3 0 1 (at (pos 2) (pos 2))) words ≡ Met (penAt 6 1 2 (at (pos 2) (pos 10)))
+unfolding nextOf unparam
+second-met = refl
+
+last-met : nextOf (penAt 6 1 2 (at (pos 2) (pos 10))) words ≡ Met (penAt 8 0 2 (at (pos 10) (pos 10)))
+unfolding nextOf unparam
+last-met = refl
+
+end-met : nextOf (penAt 8 0 2 (at (pos 10) (pos 10))) words ≡ End
+unfolding nextOf
+end-met = refl
+
+-- a pen that says more pairs than there are, one behind the words, and one at a command that is cut
+too-many-pairs : nextOf (penAt 6 2 2 (at (pos 2) (pos 10))) words ≡ End
+unfolding nextOf
+too-many-pairs = refl
+
+behind-words : nextOf (penAt 9 0 2 (at (pos 10) (pos 10))) words ≡ End
+unfolding nextOf
+behind-words = refl
+
+cut-there : nextOf (penAt 3 0 1 (at (pos 2) (pos 2))) (9 ∷ 4 ∷ 4 ∷ 18 ∷ 0 ∷ []) ≡ Refused (placed CutParams 3)
+unfolding nextOf
+cut-there = refl

@@ -1,11 +1,10 @@
 -- Laws of traces: vertices after vertices, going on from the cursor, and three numbers a vertex.
-use Prim.Native.Nat.{ℕ, zero, suc, _*_}
+use Prim.Native.Nat.{_*_}
 use mathlib.Core.Path.{_≡_, refl, sym, _∙_, ap}
 use mathlib.Core.Bool.{Bool, true, false, cond}
 use mathlib.Core.List.{List, [], _∷_, _++_, append-assoc}
 use native.Mathlib.Omega.{arith}
-use lib.ListN.{length, drop}
-use lib.Seq.{drop-nil}
+use lib.ListN.{length}
 use Rattle.refusal.specs.declared.Fault.{Fault}
 use Rattle.decoder.specs.Vertices.{Cursor, Vertex, Trace, traced, faulty, onto, andThen, numbers}
 
@@ -39,9 +38,3 @@ numbers-length (v ∷ vs) = omega (arith, numbers-length vs)
 pub numbers-append : (vs us : List Vertex) → numbers (vs ++ us) ≡ numbers vs ++ numbers us
 numbers-append [] us = refl
 numbers-append (v ∷ vs) us = rw (numbers-append vs us)
-
--- the numbers of the vertices from the i-th on
-pub numbers-drop : (i : ℕ) (vs : List Vertex) → drop (3 * i) (numbers vs) ≡ numbers (drop i vs)
-numbers-drop zero vs = refl
-numbers-drop (suc i) [] = drop-nil (3 * suc i)
-numbers-drop (suc i) (v ∷ vs) = let e : 3 * suc i ≡ suc (suc (suc (3 * i))) = omega arith in rw e (numbers-drop i vs)

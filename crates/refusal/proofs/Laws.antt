@@ -70,6 +70,25 @@ numbered Count = omega arith
 numbered NoParams = omega arith
 numbered CutParams = omega arith
 
+-- no call gives 9, which was CUT
+pub never-nine : (r : Refusal) → numberOf r ≡ 9 → ⊥
+never-nine Job e = omega arith
+never-nine Kind e = omega arith
+never-nine Box e = omega arith
+never-nine State e = omega arith
+never-nine Coord e = omega arith
+never-nine Empty e = omega arith
+never-nine Room e = omega arith
+never-nine Command e = omega arith
+never-nine Step e = omega arith
+never-nine Text e = omega arith
+never-nine Turn e = omega arith
+never-nine Extent e = omega arith
+never-nine Name e = omega arith
+never-nine Count e = omega arith
+never-nine NoParams e = omega arith
+never-nine CutParams e = omega arith
+
 module _ {X : Type 0} {v v′ : X} where
   pub one-fault : (f f′ : Fault) → refusedAt f v ≡ refusedAt f′ v′ → f ≡ f′
   one-fault f f′ e =
