@@ -1,15 +1,10 @@
 -- The struct of each answer, by the cases of its enum.
 use Prim.Native.Nat.{ℕ}
 use mathlib.Core.Path.{_≡_}
-use mathlib.Core.Bool.{false}
-use native.Mathlib.Omega.{arith}
-use borrow.Author.Tests.{ne-eqb}
-use lib.Dec.{eqb}
-use lib.IntN.{pos}
 use Rattle.refusal.specs.declared.Refusal.{Refusal}
 use Rattle.refusal.specs.declared.Fault.{Fault}
 use Rattle.refusal.specs.Refusals.{numberOf}
-use Rattle.refusal.proofs.Laws.{numbered}
+use Rattle.refusal.proofs.Laws.{never-zero}
 use Rattle.decoder.specs.declared.Reading.{Reading}
 use Rattle.decoder.specs.declared.Reading.the-variants.{Read, Refused as NotRead}
 use Rattle.decoder.specs.ReadingWords.{saidReading}
@@ -36,10 +31,6 @@ use Rattle.brinepost.specs.Works.{flatJob, flatFinished}
 use Rattle.brinepost.specs.Readings.{flatReading}
 use Rattle.brinepost.specs.Carried.{stateTo, nothing}
 use Rattle.brinepost.specs.Drawing.{flatStarted, flatDrawn, flagged}
-
--- no refusal's number is the 0 of an accepted call
-never-zero : (k : Refusal) → eqb (numberOf k) 0 ≡ false
-never-zero k = ne-eqb (numberOf k) 0 (λ e. omega (arith, numbered k))
 
 module _ (r : Reading) where
   pub read-done : (n : ℕ) → r ≡ Read n → _≡_ {A = BpReading} (record { refusal = 0; vertices = n; place = 0 }) (flatReading (saidReading r))

@@ -1,13 +1,10 @@
 -- The struct of each answer, by the cases of its enum.
 use Prim.Native.Nat.{ℕ}
 use mathlib.Core.Path.{_≡_}
-use mathlib.Core.Bool.{false}
-use native.Mathlib.Omega.{arith}
 use borrow.Author.Tests.{ne-eqb}
-use lib.Dec.{eqb}
 use Rattle.refusal.specs.declared.Refusal.{Refusal}
 use Rattle.refusal.specs.Refusals.{numberOf}
-use Rattle.refusal.proofs.Laws.{numbered}
+use Rattle.refusal.proofs.Laws.{never-zero}
 use Rattle.table.specs.declared.Text.{Text}
 use Rattle.layer.specs.declared.Layer.{Layer}
 use Rattle.layer.specs.declared.Changed.{Changed}
@@ -37,10 +34,6 @@ use Rattle.brinepost_tiles.specs.declared.answers.BpNamed.{BpNamed}
 use Rattle.brinepost_tiles.specs.declared.answers.BpAdded.{BpAdded}
 use Rattle.brinepost_tiles.specs.Carried.{layerTo, noLayer, tileTo}
 use Rattle.brinepost_tiles.specs.Answers.{flatCreated, flatChanged, layerAfter, flatMany, flatCounted, flatNamed, flatTile, flatTileCounted}
-
--- no refusal's number is the 0 of an accepted call
-never-zero : (k : Refusal) → eqb (numberOf k) 0 ≡ false
-never-zero k = ne-eqb (numberOf k) 0 (λ e. omega (arith, numbered k))
 
 module _ (r : Created) where
   pub created-done : (s : Layer) (c : BpLayer) → r ≡ CreatedDone s → c ≡ layerTo s → _≡_ {A = BpChanged} (record { refusal = 0; layer = c }) (flatCreated (saidCreated r))

@@ -1,6 +1,7 @@
 pub mod Traces
 pub mod Commands
 pub mod Readings
+pub mod Ids
 pub mod Stepping
 mod Examples
 mod Heads

@@ -14,7 +14,7 @@ use Rattle.refusal.specs.declared.Refusal.{Refusal}
 use Rattle.refusal.specs.declared.Refusal.the-variants.{State, Coord, Room}
 use Rattle.refusal.specs.Refusals.{numberOf}
 use Rattle.refusal.specs.Said.{Said, refused}
-use Rattle.refusal.proofs.Laws.{numbered}
+use Rattle.refusal.proofs.Laws.{numbered, not-zero, never-zero}
 use Rattle.clip.specs.declared.Pt.{Pt}
 use Rattle.clip.specs.Domain.{isCoord}
 use Rattle.clip.specs.Numbers.{edgeNumber}
@@ -50,9 +50,6 @@ module _ (s : GeomEncoder) (p : Pt) (n : ℕ) (v : Bool) (e : v ≡ valid s n) w
     for-room k = rw (yes-of v (valid s n) e h, yes-of t (isCoord p) f k)
 
 -- ---- the returns of `add_point`
-not-zero : (r : Refusal) → numberOf r ≡ 0 → ⊥
-not-zero r e = omega (arith, numbered r)
-
 module _ (s : GeomEncoder) (p : Pt) (i : ℕ) (out l : List ℕ) where
   pub no-entries : length l / 2 ≤ i → (r : Refusal) → r ≡ unroomed s p (length out) → Gives (edged s p i (lists out l)) (turned r s) (lists out l)
   unfolding edged
@@ -110,7 +107,7 @@ module _ (c : Call) (cs : List Call) (n : ℕ) (s t : GeomEncoder) (m l : Lists)
 
   module _ (k : Refusal) (g : Gives (call c n s m) (turned k t) l) where
     pub go-off : go (c ∷ cs) n s m ≡ kept (off (refused k n)) m
-    go-off = rw (sym (g .answer), ne-eqb (numberOf k) 0 (not-zero k))
+    go-off = rw (sym (g .answer), never-zero k)
 
     pub off-lists : l ≡ m
     off-lists = g .memory ∙ keeps s m c n (λ e. not-zero k (ap (λ (a : Said Counted). a .number) (g .answer) ∙ e))

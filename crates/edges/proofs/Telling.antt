@@ -4,14 +4,13 @@ use mathlib.Core.List.{List}
 use Prim.Native.Nat.{ℕ, _+_, _*_, _≤_}
 use native.Mathlib.Nat.{min-le-left}
 use native.Mathlib.Omega.{arith}
-use borrow.Author.Tests.{ne-eqb}
 use lib.ListN.{length, take, length-take}
 use lib.Seq.{length-take-le}
 use Rattle.promise.specs.Answers.{Written, Gives}
 use Rattle.refusal.specs.declared.Refusal.{Refusal}
 use Rattle.refusal.specs.Refusals.{numberOf}
 use Rattle.refusal.specs.Said.{Said, accepted, refused}
-use Rattle.refusal.proofs.Laws.{numbered}
+use Rattle.refusal.proofs.Laws.{never-zero}
 use Rattle.edge_job.specs.EdgeJobs.{Lists}
 use Rattle.printed.specs.Printed.{Told, shown, refusedText, refusedRoom}
 use Rattle.printed.specs.Pairs.{edgesText, edgesRoom}
@@ -21,28 +20,21 @@ use Rattle.job_file.specs.JobFile.{pointCount, jobFileEdges}
 use Rattle.job_file.proofs.Taking.{count-within}
 use Rattle.edges.specs.Program.{fileText}
 
--- an answer by what it was found to be
-pub found : {R A M : Type 0} (f : R → A) {w : Written A M} {m : M} (r x : R) → r ≡ x → Gives w (f r) m → Gives w (f x) m
-found f r x e g = rw e at g
-
 -- two edges for each point of a file are not more than its numbers
 pub within : (k : ℕ) (nums : List ℕ) (points room : ℕ) → points ≡ pointCount (take k nums) → k ≤ room → 2 * points ≤ room
 within k nums points room e h = omega (arith, e, count-within (take k nums), length-take k nums, min-le-left k (length nums))
 
-not-zero : (x : Refusal) → numberOf x ≡ 0 → ⊥
-not-zero x e = omega (arith, numbered x)
-
 module _ (n : Written (Said ℕ) (List ℕ)) (m : Lists) (text : List ℕ) (r : ℕ) (l : List ℕ) (nums : List ℕ) where
   -- the numbers were refused
   pub no-numbers : (x : Refusal) → refusedRoom ≤ length text → Gives n (refused x 0) nums → Gives (shown refusedRoom (refusedText (numberOf x) 0) text) r l → Told (fileText n m) r l
-  no-numbers x h g k = rw (← g .answer, ne-eqb (numberOf x) 0 (not-zero x)) (told refusedRoom (refusedText (numberOf x) 0) text r l h (refused-short (numberOf x) 0) k)
+  no-numbers x h g k = rw (← g .answer, never-zero x) (told refusedRoom (refusedText (numberOf x) 0) text r l h (refused-short (numberOf x) 0) k)
 
   module _ (k : ℕ) (g : Gives n (accepted k) nums) (after : Lists) where
     -- the job was refused
     pub no-job : (x : Refusal) (p : ℕ) → refusedRoom ≤ length text → Gives (jobFileEdges (take k nums) m) (refused x p) after
         → Gives (shown refusedRoom (refusedText (numberOf x) p) text) r l → Told (fileText n m) r l
     no-job x p h j q =
-        rw (← g .answer, ← g .memory, ← j .answer, ← j .memory, ne-eqb (numberOf x) 0 (not-zero x)) (told refusedRoom (refusedText (numberOf x) p) text r l h (refused-short (numberOf x) p) q)
+        rw (← g .answer, ← g .memory, ← j .answer, ← j .memory, never-zero x) (told refusedRoom (refusedText (numberOf x) p) text r l h (refused-short (numberOf x) p) q)
 
     -- the job is accepted
     pub all-edges : (u points : ℕ) → points ≡ pointCount (take k nums) → 2 * points ≤ length (after .edges) → 27 + 21 * length (after .edges) ≤ length text

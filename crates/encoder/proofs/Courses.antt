@@ -7,21 +7,16 @@ use mathlib.Core.Bool.{Bool, true, false, cond}
 use mathlib.Core.List.{List, [], _∷_, _++_}
 use Prim.Native.Nat.{ℕ}
 use native.Mathlib.Omega.{arith}
-use borrow.Author.Tests.{ne-eqb}
 use lib.Dec.{eqb}
 use Rattle.promise.specs.Answers.{Written, Gives, kept}
 use Rattle.refusal.specs.declared.Refusal.{Refusal}
-use Rattle.refusal.specs.Refusals.{numberOf}
 use Rattle.refusal.specs.Said.{Said, refused}
-use Rattle.refusal.proofs.Laws.{numbered}
+use Rattle.refusal.proofs.Laws.{not-zero, never-zero}
 use Rattle.encoder.specs.declared.GeomEncoder.{GeomEncoder}
 use Rattle.encoder.specs.Answers.{Counted, done, turned}
 use Rattle.encoder.specs.Calls.{Call, call}
 use Rattle.encoder.proofs.Accepted.{refused-keeps}
 use Rattle.encoder.specs.Jobs.{Outcome, on, off, taken, stopped, go}
-
-not-zero : (r : Refusal) → numberOf r ≡ 0 → ⊥
-not-zero r e = omega (arith, numbered r)
 
 -- ---- an outcome that goes on is none that stopped, and is known by its state
 state-in : GeomEncoder → Outcome → GeomEncoder
@@ -47,7 +42,7 @@ module _ (c : Call) (cs : List Call) (n : ℕ) (s t : GeomEncoder) (out l : List
 
   module _ (k : Refusal) (g : Gives (call c s out) (turned k t) l) where
     pub go-off : go (c ∷ cs) n s out ≡ kept (off (refused k n)) out
-    go-off = rw (sym (g .answer), ne-eqb (numberOf k) 0 (not-zero k))
+    go-off = rw (sym (g .answer), never-zero k)
 
     pub off-list : l ≡ out
     off-list = g .memory ∙ refused-keeps c s out (λ e. not-zero k (ap (λ (a : Said Counted). a .number) (g .answer) ∙ e))

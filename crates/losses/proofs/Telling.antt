@@ -2,14 +2,13 @@
 use mathlib.Core.Path.{_≡_, sym}
 use mathlib.Core.List.{List}
 use Prim.Native.Nat.{ℕ, _+_, _≤_}
-use native.Mathlib.Omega.{arith}
-use borrow.Author.Tests.{ne-eqb}
 use lib.ListN.{length, take}
 use Rattle.promise.specs.Answers.{Written, Gives}
+use Rattle.promise.proofs.Cases.{found}
 use Rattle.refusal.specs.declared.Refusal.{Refusal}
 use Rattle.refusal.specs.Refusals.{numberOf}
 use Rattle.refusal.specs.Said.{Said, accepted, refused}
-use Rattle.refusal.proofs.Laws.{numbered}
+use Rattle.refusal.proofs.Laws.{never-zero}
 use Rattle.encoder.specs.declared.GeomEncoder.{GeomEncoder}
 use Rattle.encoder.specs.declared.whole_job.Course.{Course}
 use Rattle.encoder.specs.declared.whole_job.Course.the-variants.{On, Off}
@@ -21,13 +20,6 @@ use Rattle.job_file.specs.JobFile.{jobFileFinished, fileEnd}
 use Rattle.job_file.proofs.Taking.{file-balanced}
 use Rattle.losses.specs.Program.{verticesOf, tallyText, fileText}
 
--- an answer by what it was found to be
-pub found : {R A M : Type 0} (f : R → A) {w : Written A M} {m : M} (r x : R) → r ≡ x → Gives w (f r) m → Gives w (f x) m
-found f r x e g = rw e at g
-
-not-zero : (x : Refusal) → numberOf x ≡ 0 → ⊥
-not-zero x e = omega (arith, numbered x)
-
 -- an accepted file's state: no more points are lost than were given
 pub balanced : (file words l : List ℕ) (r : Course) (s : GeomEncoder) → r ≡ On s → Gives (jobFileFinished file words) (fileEnd file r) l
     → s .tally .skipped + s .tally .«taken_out» ≤ s .tally .taken + s .tally .boundary
@@ -36,7 +28,7 @@ balanced file words l r s e g = file-balanced file words _ s (sym (found (fileEn
 module _ (n : Written (Said ℕ) (List ℕ)) (words text : List ℕ) (r : ℕ) (l : List ℕ) (nums : List ℕ) where
   -- the numbers were refused
   pub no-numbers : (x : Refusal) → refusedRoom ≤ length text → Gives n (refused x 0) nums → Gives (shown refusedRoom (refusedText (numberOf x) 0) text) r l → Told (fileText n words) r l
-  no-numbers x h g k = rw (← g .answer, ne-eqb (numberOf x) 0 (not-zero x)) (told refusedRoom (refusedText (numberOf x) 0) text r l h (refused-short (numberOf x) 0) k)
+  no-numbers x h g k = rw (← g .answer, never-zero x) (told refusedRoom (refusedText (numberOf x) 0) text r l h (refused-short (numberOf x) 0) k)
 
   module _ (k : ℕ) (g : Gives n (accepted k) nums) (m : List ℕ) where
     -- the job was refused

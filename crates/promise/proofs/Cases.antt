@@ -36,3 +36,7 @@ module _ (t b : Bool) (e : t ≡ b) where
 pub ruleset tests = (lt-ltb, le-ltb, le-leb, lt-leb, eq-eqb, ne-eqb)
 
 pub ruleset cases = (is-yes, is-no, gives-yes, gives-no, gives-kept, tests, not-true, not-false, told-yes, told-no)
+
+-- an answer by what it was found to be
+pub found : {R A M : Type 0} (f : R → A) {w : Written A M} {m : M} (r x : R) → r ≡ x → Gives w (f r) m → Gives w (f x) m
+found f r x e g = rw e at g

@@ -4,7 +4,6 @@ use mathlib.Core.Bool.{true}
 use mathlib.Core.List.{List}
 use Prim.Native.Nat.{ℕ, _+_, _*_, _/_, _≤_}
 use native.Mathlib.Omega.{arith}
-use borrow.Author.Tests.{ne-eqb}
 use lib.IntN.{ℤ}
 use lib.ListN.{length, take}
 use lib.Seq.{length-take-le}
@@ -15,7 +14,7 @@ use Rattle.refusal.specs.declared.Refusal.{Refusal}
 use Rattle.refusal.specs.declared.Fault.{Fault}
 use Rattle.refusal.specs.Refusals.{numberOf}
 use Rattle.refusal.specs.Said.{Said, accepted, refused, refusedAt}
-use Rattle.refusal.proofs.Laws.{numbered}
+use Rattle.refusal.proofs.Laws.{never-zero}
 use Rattle.decoder.specs.Vertices.{numbers}
 use Rattle.decoder.specs.ReadingWords.{reading}
 use Rattle.decoder.proofs.Traces.{numbers-length}
@@ -27,14 +26,7 @@ use Rattle.printed.proofs.Columns.{told}
 use Rattle.printed.proofs.Placing.{fault-short}
 use Rattle.printed.proofs.Triples.{vertices-told}
 use Rattle.read_words.specs.Program.{readText, fileText}
-use Rattle.read_words.proofs.Ids.{read-ids}
-
--- an answer by what it was found to be
-pub found : {R A M : Type 0} (f : R → A) {w : Written A M} {m : M} (r x : R) → r ≡ x → Gives w (f r) m → Gives w (f x) m
-found f r x e g = rw e at g
-
-not-zero : (x : Refusal) → numberOf x ≡ 0 → ⊥
-not-zero x e = omega (arith, numbered x)
+use Rattle.read_words.proofs.Ids.{read-digits}
 
 -- ---- what was read: three numbers a vertex in the list, with ids of one digit
 module _ (ws : List ℕ) (out m : List ℤ) (v : ℕ) (g : Gives (reading ws out) (accepted v) m) where
@@ -53,16 +45,16 @@ module _ (ws : List ℕ) (out m : List ℤ) (v : ℕ) (g : Gives (reading ws out
   read-inside : 3 * v ≤ length m
   read-inside = omega (arith, read-long, is .room)
 
-  read-digits : digitIds (take (3 * v) m) ≡ true
-  read-digits =
+  numbers-digits : digitIds (take (3 * v) m) ≡ true
+  numbers-digits =
       let e : 3 * v ≡ 0 + length (numbers (is .vs)) = omega (arith, numbers-length (is .vs), is .count) in
       let t : take (3 * v) m ≡ numbers (is .vs) =
       ap (take (3 * v)) (is .memory) ∙ ap (λ (k : ℕ). take k (lay 0 (numbers (is .vs)) out)) e ∙ take-lay 0 (numbers (is .vs)) out fits in
-      ap digitIds t ∙ read-ids ws (is .vs) (is .end) (is .is)
+      ap digitIds t ∙ read-digits ws (is .vs) (is .end) (is .is)
 
 -- ---- the text by what the parts answered
 read-refused : (w : Written (Said ℕ) (List ℤ)) (f : Fault) (m : List ℤ) → Gives w (refusedAt f 0) m → readText w ≡ faultText (numberOf (f .refusal)) (f .place)
-read-refused w f m j = rw (← j .answer, ne-eqb (numberOf (f .refusal)) 0 (not-zero (f .refusal)))
+read-refused w f m j = rw (← j .answer, never-zero (f .refusal))
 
 read-whole : (w : Written (Said ℕ) (List ℤ)) (v : ℕ) (m : List ℤ) → Gives w (accepted v) m → readText w ≡ verticesText (take (3 * v) m)
 read-whole w v m j = rw (← j .answer, ← j .memory)
@@ -74,7 +66,7 @@ module _ (n : Written (Said ℕ) (List ℕ)) (out : List ℤ) (text : List ℕ) 
   -- the numbers were refused
   pub no-numbers : (x : Refusal) → refusedRoom ≤ length text → Gives n (refused x 0) nums → Gives (shown refusedRoom (faultText (numberOf x) 0) text) r l → Told (fileText n out) r l
   no-numbers x h g k =
-      let e : fileText n out ≡ faultText (numberOf x) 0 = rw (← g .answer, ne-eqb (numberOf x) 0 (not-zero x)) in
+      let e : fileText n out ≡ faultText (numberOf x) 0 = rw (← g .answer, never-zero x) in
       told-as e (told refusedRoom (faultText (numberOf x) 0) text r l h (fault-short (numberOf x) 0) k)
 
   module _ (k : ℕ) (g : Gives n (accepted k) nums) (m : List ℤ) where
@@ -94,4 +86,4 @@ module _ (n : Written (Said ℕ) (List ℕ)) (out : List ℤ) (text : List ℕ) 
     all-vertices v h j q s =
         let i = read-inside (take k nums) out m v j in
         let w : verticesRoom (take (3 * v) m) ≤ length text = omega (arith, length-take-le (3 * v) m i, read-long (take k nums) out m v j) in
-        told-as (on ∙ read-whole (reading (take k nums) out) v m j) (vertices-told (take (3 * v) m) text r l (read-digits (take k nums) out m v j) w q s)
+        told-as (on ∙ read-whole (reading (take k nums) out) v m j) (vertices-told (take (3 * v) m) text r l (numbers-digits (take k nums) out m v j) w q s)

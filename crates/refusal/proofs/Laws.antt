@@ -1,8 +1,9 @@
 -- A refusal is known by what it says: no two say the same, and none says what an accepted answer says. With these, an answer enum's `said…` leaves one value for each answer.
 use mathlib.Core.Path.{_≡_, refl, sym, _∙_, ap}
-use mathlib.Core.Bool.{cond}
+use mathlib.Core.Bool.{false, cond}
 use Prim.Native.Nat.{ℕ, _≤_}
 use native.Mathlib.Omega.{arith}
+use borrow.Author.Tests.{ne-eqb}
 use lib.Dec.{eqb}
 use Rattle.refusal.specs.declared.Refusal.{Refusal}
 use Rattle.refusal.specs.declared.Refusal.the-variants.{Job, Kind, Box, State, Coord, Empty, Room, Command, Step, Text, Turn, Extent, Name, Count, NoParams, CutParams}
@@ -70,6 +71,13 @@ numbered Count = omega arith
 numbered NoParams = omega arith
 numbered CutParams = omega arith
 
+-- an accepted call has 0
+pub not-zero : (r : Refusal) → numberOf r ≡ 0 → ⊥
+not-zero r e = omega (arith, numbered r)
+
+pub never-zero : (r : Refusal) → eqb (numberOf r) 0 ≡ false
+never-zero r = ne-eqb (numberOf r) 0 (not-zero r)
+
 -- no call gives 9, which was CUT
 pub never-nine : (r : Refusal) → numberOf r ≡ 9 → ⊥
 never-nine Job e = omega arith
@@ -96,7 +104,7 @@ module _ {X : Type 0} {v v′ : X} where
       λ i. record { refusal = r i; place = e i .place }
 
   pub never-fault : (f : Fault) → accepted v ≡ refusedAt f v′ → ⊥
-  never-fault f e = let z : 0 ≡ numberOf (f .refusal) = ap (λ (s : Said X). s .number) e in omega (arith, numbered (f .refusal))
+  never-fault f e = not-zero (f .refusal) (sym (ap (λ (s : Said X). s .number) e))
 
   pub one-refusal : (r r′ : Refusal) → refused r v ≡ refused r′ v′ → r ≡ r′
   one-refusal r r′ e = ap (λ (f : Fault). f .refusal) (one-fault (plain r) (plain r′) e)

@@ -4,7 +4,7 @@ use mathlib.Core.Bool.{Bool, true, false}
 use mathlib.Core.List.{List, [], _∷_}
 use Prim.Native.Nat.{ℕ, _≤_}
 use native.Mathlib.Omega.{arith}
-use borrow.Author.Tests.{ne-eqb, leb-true}
+use borrow.Author.Tests.{leb-true}
 use lib.Dec.{leb}
 use lib.ListN.{length, take, length-append}
 use Rattle.promise.specs.Answers.{Written, Gives}
@@ -12,7 +12,7 @@ use Rattle.refusal.specs.declared.Refusal.{Refusal}
 use Rattle.refusal.specs.declared.Refusal.the-variants.{Room}
 use Rattle.refusal.specs.Refusals.{numberOf}
 use Rattle.refusal.specs.Said.{Said, accepted, refused}
-use Rattle.refusal.proofs.Laws.{numbered}
+use Rattle.refusal.proofs.Laws.{never-zero}
 use Rattle.printed.specs.Printed.{Told, shown}
 use Rattle.printed.specs.Tiles.{tileText, tileRoom}
 use Rattle.printed.proofs.Columns.{told}
@@ -20,9 +20,6 @@ use Rattle.printed.proofs.Rows.{tile-short}
 use Rattle.tile_run.specs.Operations.{Lists}
 use Rattle.tile_run.specs.Running.{RunLists, Counts, counts, ranScript}
 use Rattle.tiles.specs.Program.{noText, tileShown, fileText}
-
-not-zero : (x : Refusal) → numberOf x ≡ 0 → ⊥
-not-zero x e = omega (arith, numbered x)
 
 -- what is shown of outcomes and bytes that have their room
 tile-told : (os bs text : List ℕ) (r : ℕ) (l : List ℕ) → tileRoom os bs ≤ length text → Gives (shown (tileRoom os bs) (tileText os bs) text) r l → Told (tileText os bs) r l
@@ -66,7 +63,7 @@ module _ (n : Written (Said ℕ) (List ℕ)) (file os : List ℕ) (m : Lists) (t
   -- the numbers were refused
   pub no-numbers : (x : Refusal) {a : Said ℕ} → a ≡ refused x 0 → Gives n a nums
       → Gives (shown (tileRoom (numberOf x ∷ []) []) (tileText (numberOf x ∷ []) []) text) r l → Told (fileText size n file os m) r l
-  no-numbers x e g k = rw (← parted e g .answer, ne-eqb (numberOf x) 0 (not-zero x)) (no-told (numberOf x) text r l room k)
+  no-numbers x e g k = rw (← parted e g .answer, never-zero x) (no-told (numberOf x) text r l room k)
 
   module _ (k : ℕ) {a : Said ℕ} (e : a ≡ accepted k) (g : Gives n a nums) (s : RunLists) {ns : List ℕ} (f : ns ≡ take k nums) {b : Said Counts} where
     -- the script that was run is the file's numbers
@@ -78,7 +75,7 @@ module _ (n : Written (Said ℕ) (List ℕ)) (file os : List ℕ) (m : Lists) (t
         → Gives (shown (tileRoom (numberOf x ∷ []) []) (tileText (numberOf x ∷ []) []) text) r l → Told (fileText size n file os m) r l
     no-run x d j q =
         let h = parted e g in
-        rw (← h .answer, ← h .memory, ← parted d (ran j) .answer, ne-eqb (numberOf x) 0 (not-zero x)) (no-told (numberOf x) text r l room q)
+        rw (← h .answer, ← h .memory, ← parted d (ran j) .answer, never-zero x) (no-told (numberOf x) text r l room q)
 
     -- the script was run
     pub all-run : (u v : ℕ) → b ≡ accepted (counts u v) → Gives (ranScript file ns os m) b s

@@ -9,7 +9,8 @@ use Rattle.number_file.specs.Numbers.{saidNumbers}
 use Rattle.encoder.specs.Jobs.{saidEncoded}
 use Rattle.edge_job.specs.EdgeJobs.{lists}
 use Rattle.edges.specs.Program.{printed}
-use Rattle.edges.proofs.Telling.{found, within, no-numbers, no-job, all-edges}
+use Rattle.promise.proofs.Cases.{found}
+use Rattle.edges.proofs.Telling.{within, no-numbers, no-job, all-edges}
 use borrow.Author.Needs.{needs}
 use Rattle.edges.proofs.answer.Statement.{statement}
 use Rattle.edges.proofs.answer.Tie as tie

@@ -7,7 +7,8 @@ use lib.Seq.{length-take-le}
 use Rattle.number_file.proofs.Places.{read-within}
 use Rattle.number_file.specs.Numbers.{saidNumbers}
 use Rattle.losses.specs.Program.{printed}
-use Rattle.losses.proofs.Telling.{found, balanced, no-numbers, no-job, all-lines}
+use Rattle.promise.proofs.Cases.{found}
+use Rattle.losses.proofs.Telling.{balanced, no-numbers, no-job, all-lines}
 use borrow.Author.Needs.{needs}
 use Rattle.losses.proofs.answer.Statement.{statement}
 use Rattle.losses.proofs.answer.Tie as tie

@@ -8,7 +8,8 @@ use Rattle.number_file.proofs.Places.{read-within}
 use Rattle.number_file.specs.Numbers.{saidNumbers}
 use Rattle.decoder.specs.ReadingWords.{saidReading}
 use Rattle.read_words.specs.Program.{printed}
-use Rattle.read_words.proofs.Telling.{found, read-room, no-numbers, no-reading, all-vertices}
+use Rattle.promise.proofs.Cases.{found}
+use Rattle.read_words.proofs.Telling.{read-room, no-numbers, no-reading, all-vertices}
 use borrow.Author.Needs.{needs}
 use Rattle.read_words.proofs.answer.Statement.{statement}
 use Rattle.read_words.proofs.answer.Tie as tie
