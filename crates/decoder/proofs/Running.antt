@@ -18,11 +18,11 @@ use Rattle.words.specs.Params.{unparam}
 use Rattle.decoder.specs.declared.pen.Pen.{Pen}
 use Rattle.decoder.specs.declared.passes.Ran.the-variants.{Over, Out}
 use Rattle.decoder.specs.Vertices.{Cursor, Vertex, Trace, traced, faulty, vertex, onto, numbers}
-use Rattle.decoder.specs.ReadingWords.{inI32, within}
+use Rattle.decoder.specs.ReadingWords.{within}
 use Rattle.decoder.specs.Stepping.{penAt, cursorOf, Stands, pairsOf}
 use Rattle.decoder.specs.Passing.{ranOf, ledTo, behind, Leads, HasRoom, Filled}
 use Rattle.decoder.proofs.Traces.{onto-nil, onto-onto, numbers-length, numbers-append}
-use Rattle.decoder.proofs.Steps.{both, in-i32}
+use Rattle.decoder.proofs.Steps.{within-fits}
 use Rattle.decoder.proofs.Pairs.{pairs-none, behind-stands, behind-same, pairs-one}
 
 -- each pair leaves one less
@@ -70,14 +70,14 @@ module _ (start : Pen) (ws : List ℕ) (pen : Pen) (R : Running start ws pen) (n
 module _ (pen : Pen) (ws : List ℕ) (P : Leads pen ws) where
   module _ (fx : mag (pen .x) < 2 ^ 31) (dx : ℤ) (mx : mag dx < 2 ^ 31) (ex : dx ≡ unparam (getD ws (pen .at) 0)) where
     x-fits : SFits w32 (pen .x +ℤ dx)
-    x-fits = let (a, b) = both (inI32 (ledTo pen ws .x)) (inI32 (ledTo pen ws .y)) (P .inside) in rw ex (in-i32 (ledTo pen ws .x) a)
+    x-fits = let (f, g) = within-fits (ledTo pen ws) (P .inside) in rw ex f
 
     pub follow-x : SFits w32 (toZ w32 (ofZ w32 (pen .x)) +ℤ toZ w32 (ofZ w32 dx))
     follow-x = rw (i32-back (pen .x) fx, i32-back dx mx) x-fits
 
     module _ (fy : mag (pen .y) < 2 ^ 31) (dy : ℤ) (my : mag dy < 2 ^ 31) (ey : dy ≡ unparam (getD ws (pen .at + 1) 0)) where
       y-fits : SFits w32 (pen .y +ℤ dy)
-      y-fits = let (a, b) = both (inI32 (ledTo pen ws .x)) (inI32 (ledTo pen ws .y)) (P .inside) in rw ey (in-i32 (ledTo pen ws .y) b)
+      y-fits = let (f, g) = within-fits (ledTo pen ws) (P .inside) in rw ey g
 
       pub follow-y : SFits w32 (toZ w32 (ofZ w32 (pen .y)) +ℤ toZ w32 (ofZ w32 dy))
       follow-y = rw (i32-back (pen .y) fy, i32-back dy my) y-fits

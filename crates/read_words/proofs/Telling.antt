@@ -2,7 +2,7 @@
 use mathlib.Core.Path.{_≡_, _∙_, ap}
 use mathlib.Core.Bool.{true}
 use mathlib.Core.List.{List}
-use Prim.Native.Nat.{ℕ, _+_, _*_, _/_, _≤_}
+use Prim.Native.Nat.{ℕ, _+_, _*_, _≤_}
 use native.Mathlib.Omega.{arith}
 use lib.IntN.{ℤ}
 use lib.ListN.{length, take}
@@ -81,7 +81,7 @@ module _ (n : Written (Said ℕ) (List ℕ)) (out : List ℤ) (text : List ℕ) 
         (told refusedRoom (faultText (numberOf (f .refusal)) (f .place)) text r l h (fault-short (numberOf (f .refusal)) (f .place)) q)
 
     -- the words were read
-    pub all-vertices : (v : ℕ) → 70 + 26 * (length out / 3) ≤ length text → Gives (reading (take k nums) out) (accepted v) m
+    pub all-vertices : (v : ℕ) → verticesRoom out ≤ length text → Gives (reading (take k nums) out) (accepted v) m
         → Gives (verticesShown (take (3 * v) m) text) r l → r ≤ length text → Told (fileText n out) r l
     all-vertices v h j q s =
         let i = read-inside (take k nums) out m v j in

@@ -1,7 +1,8 @@
 // The program: takes the words of one geometry from standard input and prints its vertices, or its refusal (RULES 11).
-ghost use Prim.Native.Nat.{_*_, _+_, _/_, _≤_};
+ghost use Prim.Native.Nat.{_≤_};
 ghost use lib.ListN.{length};
 ghost use Rattle.printed.specs.Lending.{Tells};
+ghost use Rattle.printed.specs.Vertices.{verticesRoom};
 ghost use Rattle.read_words.specs.Program.{printed};
 use decoder::Reading;
 use number_file::Numbers;
@@ -10,7 +11,7 @@ use printed::faults::show_fault;
 
 // What the program prints for a file, at the front of `text`: how many bytes it is. The lists are the program's own, and large enough.
 fn answer(file: &[u8], words: &mut [u32], out: &mut [i32], text: &mut [u8]) -> usize
-    requires { ⌜ 70 + 26 * (length (now out) / 3) ≤ length (now text) ⌝ }
+    requires { ⌜ verticesRoom (now out) ≤ length (now text) ⌝ }
     ensures { λ r. ⌜ Tells (printed (now (file .entry)) (now (words .entry)) (now (out .entry))) r text ⌝ }
 {
     match number_file::read_numbers(file, words) {
