@@ -276,6 +276,10 @@ FLOATS = [0, 0x8000_0000, 0x3F80_0000, 0xBF80_0000, 1, 0x7F80_0000, 0xFF80_0000,
           0x7FC0_0001, 0xFFC0_0000]
 DOUBLES = [0, 2**63, 0x3FF0 << 48, 0xBFF0 << 48, 1, 0x7FF0 << 48, 0x7FF8 << 48, (0x7FF8 << 48) + 1]
 TEXTS = [b"", b"a", b"b", b"ab", b"abc", b"abcd", b"name", "\u00e9".encode(), "\u65e5\u672c".encode()]
+# No texts: bytes of Latin-1, bytes that only continue, longer forms than needed, a surrogate, sequences that are cut, and what
+# lies beyond U+10FFFF.
+ILL_FORMED = [b"\xe9", b"\x80", b"\xc0\xaf", b"\xc3", b"\xe0\x80\xaf", b"\xed\xa0\x80", b"\xe2\x82", b"\xf0\x80\x80\xaf",
+              b"\xf4\x90\x80\x80", b"\xf5\x80\x80\x80", b"abcd\xff", b"nam\xe9s"]
 EXTENTS = [0, 1, 127, 128, 4096, 2**32 - 1]
 
 
@@ -385,17 +389,20 @@ def sample_tiles():
     yield script(create(b"\xe9"), ADD)
     yield script(create(b"a"), point, tag(b"k", 8, 0), CLOSE, ADD)
     yield script(create(b"a"), point, tag(b"k", BOOL, 2), CLOSE, ADD)
+    # No text as a layer's name, as a key and as a value, and the calls after it.
+    for bad in ILL_FORMED:
+        yield script(create(b"a"), create(bad), point, tag(bad, INT, 1), tag(b"k", TEXT, bad), tag(b"k", INT, 1), CLOSE, ADD)
     yield script(create(b"a"), le([0]))
     yield script(create(b"a"), le([8]))
     yield b""
 
 
-def random_tile(random):
+def random_tile(random, texts=TEXTS):
     extent = random.pick(EXTENTS)
     operations = []
     for _ in range(random.between(1, 3)):
         other = random.chance(5)
-        operations.append(create(random.pick(TEXTS), random.pick(EXTENTS) if other else extent))
+        operations.append(create(random.pick(texts), random.pick(EXTENTS) if other else extent))
         for _ in range(random.below(4)):
             words = [random.pick([random.below(200), random.below(2**32)]) for _ in range(random.below(8))]
             operations.append(open_feature(random.between(1, 3), words))
@@ -403,7 +410,8 @@ def random_tile(random):
                 operations.append(set_id(random.pick(LONGS)))
             for _ in range(random.below(5)):
                 kind = random.between(TEXT, BOOL)
-                operations.append(tag(random.pick(TEXTS), kind, random.pick(contents(kind))))
+                values = texts if kind == TEXT else contents(kind)
+                operations.append(tag(random.pick(texts), kind, random.pick(values)))
             operations.append(ABANDON if random.chance(3) else CLOSE)
         operations.append(ADD)
     return script(*operations, extent=extent)
@@ -422,7 +430,8 @@ def damaged_tile(random, good):
 def tiles(random, count):
     yield from sample_tiles()
     for at in range(count):
-        good = random_tile(random)
+        # Three of 64 have names, keys and values that are no texts; the 60 that are kept come before them.
+        good = random_tile(random, TEXTS * 3 + ILL_FORMED if at % 64 in (60, 61, 62) else TEXTS)
         yield damaged_tile(random, good) if at % 8 == 7 else good
 
 

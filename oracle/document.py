@@ -1,4 +1,4 @@
-"""The rules of document 01, written out without regard for speed: what each call answers, refusals too.
+"""The rules of document 01, written out without regard for speed: what each call answers, refusals too; UTF8 is request (viii)'s.
 
 They follow document 01's text and not our Rattle code. Who wrote them had read the Rust too, so a passage of document 01
 that can be read two ways may have been read the Rust's way. A refused call raises Refused; its checks stand in the order
@@ -11,10 +11,12 @@ from fractions import Fraction
 from math import floor
 
 from cases import FILE_LIMIT, LIMIT, le
+from utf8 import is_text
 
 POINT, LINE, POLYGON = 1, 2, 3
 JOB, KIND, BOX, STATE, COORD, EMPTY, ROOM, COMMAND = range(1, 9)
 TEXT, TURN, EXTENT, NAME = range(11, 15)
+UTF8 = 22
 
 MAX_WORDS = 1_048_576  # of a geometry
 MAX_COUNT = 2**29 - 1  # of a command: a word has 29 bits beside the id
@@ -284,9 +286,15 @@ def same_zero(kind, content):
     return 0 if (kind, content) in ((2, 2**31), (3, 2**63)) else content
 
 
+def check_texts(*texts):
+    """TEXT of all that are given comes before UTF8."""
+    check(all(len(text) <= MAX_TEXT for text in texts), TEXT)
+    check(all(is_text(text) for text in texts), UTF8)
+
+
 class Layer:
     def __init__(self, extent, name):
-        check(len(name) <= MAX_TEXT, TEXT)
+        check_texts(name)
         self.extent, self.name = extent, name
         self.keys, self.values, self.features = [], [], []
         self.feature = None  # the open one
@@ -303,7 +311,7 @@ class Layer:
 
     def tag(self, key, kind, content):
         """The key's and the value's index."""
-        check(len(key) <= MAX_TEXT and (kind != 1 or len(content) <= MAX_TEXT), TEXT)
+        check_texts(key, *([content] if kind == 1 else []))
         check(self.feature is not None, TURN)
         if key not in self.keys:
             self.keys.append(key)

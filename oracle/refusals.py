@@ -178,6 +178,7 @@ def tiles():
     yield script(create(b"a"), point, point, ADD, good, CLOSE, set_id(1), good, CLOSE, ADD, ADD)  # TURN, and on
     yield script(create(b"a", 1), point, ADD, CLOSE, ADD, create(b"a"), ADD, create(b"a", 1), ADD, ADD)  # TURN, EXTENT, NAME in this order
     yield script(create(b"a"), ADD, create(b"a"), point, ADD, CLOSE, ADD, ADD)
+    yield from ill_formed_tiles(point, good)
     # What cannot be read ends the script; the bytes so far follow.
     added = [create(b"a"), point, good, CLOSE, ADD]
     for damage in (le([0]), le([8]), le([2**32 - 1]), le([1, 4096]), le([1, 4096, 5, 0]), le([1, 4096, 1, 0x6161]),
@@ -185,6 +186,25 @@ def tiles():
                    tag(b"k", 8, 0), tag(b"k", BOOL, 2), tag(b"k", INT, 1)[:-4]):
         yield script(*added, damage)
     yield b""
+
+
+def ill_formed_tiles(point, good):
+    """Texts that are not UTF-8; cases.py has others, each as name, key and value."""
+    latin, utf8 = b"stra\xdfe", "stra\u00dfe".encode()
+    yield script(create(latin), point, create(utf8), point, good, CLOSE, ADD)  # no layer yet
+    yield script(create(b"a"), point, tag(latin, TEXT, b"\xe9" * 1025), good, CLOSE, ADD)  # TEXT of the text before UTF8 of the key and of the text
+    # UTF8 before TURN, TURN alone, and where no layer is at hand there is no call: TURN.
+    yield script(create(b"a"), tag(latin, INT, 2), tag(b"k", TEXT, latin), tag(utf8, TEXT, utf8), point, good, CLOSE, ADD, tag(latin, INT, 2))
+    # A refused layer leaves the one at hand, with its feature open.
+    yield script(create(b"a"), point, good, create(latin), tag(utf8, TEXT, utf8), CLOSE, ADD, create(latin, 1), ADD)
+    # A refused tag leaves the tables: its key is new behind it, and a good key beside an ill-formed text too.
+    yield script(create(b"a"), point, tag(b"new", TEXT, latin), tag(latin, TEXT, b"new"), tag(b"new", TEXT, b"new"), good, CLOSE, ADD)
+    yield script(create(b"a"), point, *(tag(key, kind, 1) for kind in range(2, 8) for key in (latin, utf8)), CLOSE, ADD)  # every call looks at the key
+    # The ends of the table's rows, both sides: a surrogate and its neighbours, the shortest and the longest form, the last scalar value.
+    for texts in ((b"\x7f", b"\x80", b"\xc1\xbf", b"\xc2\x80", b"\xdf\xbf"), (b"\xe0\x9f\xbf", b"\xe0\xa0\x80", b"\xed\x9f\xbf", b"\xed\xa0\x80"),
+                  (b"\xed\xbf\xbf", b"\xee\x80\x80", b"\xef\xbf\xbf", b"\xf0\x8f\xbf\xbf", b"\xf0\x90\x80\x80"),
+                  (b"\xf4\x8f\xbf\xbf", b"\xf4\x90\x80\x80", b"\xef\xbb\xbf", b"\x00", b"abc\xe2\x82", b"abc\xe2\x82\xac")):
+        yield script(create(b"a"), point, *(tag(b"k", TEXT, text) for text in texts), CLOSE, ADD)
 
 
 KINDS = {f.__name__: f for f in (jobs, clips, commands, states, readings, tiles)}

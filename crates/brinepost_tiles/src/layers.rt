@@ -15,7 +15,7 @@ use layer::Layer;
 use layer::whole_feature::Head;
 use layer::whole_feature::add_feature;
 
-// TEXT, ROOM, else a layer without features, its name the first text.
+// TEXT, UTF8, ROOM, else a layer without features, its name the first text.
 #[no_mangle]
 pub extern "C" fn bp_layer_new(name: &[u8], extent: u32, texts: &mut [u8]) -> BpChanged
     ensures { λ r. ⌜ Gives (told flatCreated (created (now (name .entry)) extent (now (texts .entry)))) r (now (texts .exit)) ⌝ }
@@ -91,7 +91,7 @@ pub extern "C" fn bp_abandon(
     changed(given, r)
 }
 
-// JOB, KIND, STATE, TEXT, TURN, ROOM, of all that it is given, else a whole feature, with an id where has_id is not 0. A tag is five words: where its key
+// JOB, KIND, STATE, TEXT, UTF8, TURN, ROOM, of all that it is given, else a whole feature, with an id where has_id is not 0. A tag is five words: where its key
 // starts in bytes and how long it is, the kind of its value, and where the text starts and how long it is or the low and the high half of the content.
 #[no_mangle]
 pub extern "C" fn bp_add_feature(

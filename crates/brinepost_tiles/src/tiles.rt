@@ -30,7 +30,7 @@ pub extern "C" fn bp_tile_new(extent: u32) -> BpTile
     tile_to(t)
 }
 
-// TEXT, ROOM, else a layer of the tile's extent, without features.
+// TEXT, UTF8, ROOM, else a layer of the tile's extent, without features.
 #[no_mangle]
 pub extern "C" fn bp_create_layer(tile: BpTile, name: &[u8], texts: &mut [u8]) -> BpChanged
     ensures { λ r. ⌜ Gives (told flatCreated (created (now (name .entry)) (tile .extent) (now (texts .entry)))) r (now (texts .exit)) ⌝ }

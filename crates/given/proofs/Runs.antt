@@ -15,6 +15,7 @@ use Rattle.refusal.specs.Refusals.{numberOf}
 use Rattle.refusal.specs.Said.{Said, accepted, refused}
 use Rattle.refusal.proofs.Laws.{numbered}
 use Rattle.table.specs.Texts.{shortText}
+use Rattle.utf8.specs.Utf8.{isUtf8}
 use Rattle.layer.specs.declared.Layer.{Layer}
 use Rattle.layer.specs.declared.Open.the-variants.{Shut}
 use Rattle.layer.specs.Held.{Memory, mem, Seen, seen, Change, refuses, holds, next, smaller, maxTexts, written, onto}
@@ -130,21 +131,23 @@ all-stand (c ∷ cs) g p S = all-stand cs (g .1) (stepped c p) (step-stands c (g
 
 -- ---- a new layer
 room-for : (name : List ℕ) (extent : ℕ) (ts : List ℕ) → created name extent ts .answer .number ≡ 0 → length name ≤ length ts
-room-for name extent ts e = by (shortText (length name)) (leb (length name) (smaller (length ts) maxTexts)) refl refl
+room-for name extent ts e = by (shortText (length name)) (isUtf8 name) (leb (length name) (smaller (length ts) maxTexts)) refl refl refl
   where
-    by : (a b : Bool) → shortText (length name) ≡ a → leb (length name) (smaller (length ts) maxTexts) ≡ b → length name ≤ length ts
-    by true true p q = omega (arith, leb-true (length name) (smaller (length ts) maxTexts) q, smaller-le (length ts) maxTexts)
-    by true false p q = absurd (let z : _≡_ {A = ℕ} 7 0 = rw (p, q) at e in omega arith)
-    by false b p q = absurd (let z : _≡_ {A = ℕ} 11 0 = rw p at e in omega arith)
+    by : (a b c : Bool) → shortText (length name) ≡ a → isUtf8 name ≡ b → leb (length name) (smaller (length ts) maxTexts) ≡ c → length name ≤ length ts
+    by true true true p u q = omega (arith, leb-true (length name) (smaller (length ts) maxTexts) q, smaller-le (length ts) maxTexts)
+    by true true false p u q = absurd (let z : _≡_ {A = ℕ} 7 0 = rw (p, u, q) at e in omega arith)
+    by true false c p u q = absurd (let z : _≡_ {A = ℕ} 22 0 = rw (p, u) at e in omega arith)
+    by false b c p u q = absurd (let z : _≡_ {A = ℕ} 11 0 = rw p at e in omega arith)
 
 -- what is begun with is what creating answered and left
 pub begun-is : (p : Plan) → created (p .name) (p .extent) (p .lent .texts) .answer .number ≡ 0 → created (p .name) (p .extent) (p .lent .texts) ≡ record { answer = accepted (begun p .layer ∷ []); memory = begun p .memory .texts }
-begun-is p e = by (shortText (length (p .name))) (leb (length (p .name)) (smaller (length (p .lent .texts)) maxTexts)) refl refl
+begun-is p e = by (shortText (length (p .name))) (isUtf8 (p .name)) (leb (length (p .name)) (smaller (length (p .lent .texts)) maxTexts)) refl refl refl
   where
-    by : (a b : Bool) → shortText (length (p .name)) ≡ a → leb (length (p .name)) (smaller (length (p .lent .texts)) maxTexts) ≡ b → created (p .name) (p .extent) (p .lent .texts) ≡ record { answer = accepted (begun p .layer ∷ []); memory = begun p .memory .texts }
-    by true true x y = rw (x, y)
-    by true false x y = absurd (let z : _≡_ {A = ℕ} 7 0 = rw (x, y) at e in omega arith)
-    by false b x y = absurd (let z : _≡_ {A = ℕ} 11 0 = rw x at e in omega arith)
+    by : (a b c : Bool) → shortText (length (p .name)) ≡ a → isUtf8 (p .name) ≡ b → leb (length (p .name)) (smaller (length (p .lent .texts)) maxTexts) ≡ c → created (p .name) (p .extent) (p .lent .texts) ≡ record { answer = accepted (begun p .layer ∷ []); memory = begun p .memory .texts }
+    by true true true x u y = rw (x, u, y)
+    by true true false x u y = absurd (let z : _≡_ {A = ℕ} 7 0 = rw (x, u, y) at e in omega arith)
+    by true false c x u y = absurd (let z : _≡_ {A = ℕ} 22 0 = rw (x, u) at e in omega arith)
+    by false b c x u y = absurd (let z : _≡_ {A = ℕ} 11 0 = rw x at e in omega arith)
 
 pub begun-stands : (p : Plan) → created (p .name) (p .extent) (p .lent .texts) .answer .number ≡ 0 → PageStands (begun p)
 begun-stands p e =

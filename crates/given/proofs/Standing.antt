@@ -20,6 +20,7 @@ use Rattle.layer.specs.State.{valid}
 use Rattle.layer.specs.Calls.{Tag as Stored, isShut, moreWords, withUsed, withFeatures, recordWith, keyFound, valueFound, tagPut}
 use Rattle.layer.proofs.Standing.{parts as valid-parts}
 use Rattle.layer.proofs.Keeping.{Lengths, All, sound, by-check, by-open, is-shut, opening-in}
+use Rattle.layer.proofs.Checked.{by-tag}
 use Rattle.layer.proofs.Growth.{fits-before}
 use Rattle.tile.specs.Holding.{sameBytes}
 use Rattle.given.specs.Given.{Content, Tag, Feature, Drawing, Call, opens, identifies, tags, closes, abandons, same, among, placeOf, allTags, keysOf, valuesOf, drawn, identified, tagged, after}
@@ -176,12 +177,7 @@ module _ (v : Seen) (d : Drawing) (S : Stands v d) where
       by-open P (v .layer .feature) _ tt (λ o f. record { stands = id-stands v d S o f n; room = valid-parts v e .room }))
   call-stands (tags key c) g =
       let P = Kept (after (tags key c) d) v in
-      by-check P (valid v) State _ tt (λ e.
-      by-check P (shortText (length (tagOf key c .key))) TextRefusal _ tt (λ a.
-      by-check P (shortText (length (tagOf key c .text))) TextRefusal _ tt (λ b.
-      by-open P (v .layer .feature) _ tt (λ o f.
-      by-check P (fits (tagPut o (tagOf key c) v .layer .used) (v .room)) Room _ tt (λ h.
-      record { stands = tag-stands v d S o f key c g; room = h })))))
+      by-tag P (tagOf key c) v (λ q n. tt) (λ e o f h. record { stands = tag-stands v d S o f key c g; room = h })
   call-stands closes g =
       let P = Kept (after closes d) v in
       by-check P (valid v) State _ tt (λ e.

@@ -26,6 +26,7 @@ use Rattle.layer.proofs.Fitting.{both, never}
 use Rattle.layer.proofs.Listing.{yes}
 use Rattle.layer.proofs.Growth.{same-feature}
 use Rattle.layer.proofs.Keeping.{by-check, is-shut}
+use Rattle.layer.proofs.Checked.{by-feature}
 use Rattle.layer.proofs.Features.{feature-room}
 use Rattle.given.specs.Given.{Content, Tag, Feature, Drawing, drawn, onOpen, tagged, after, tags, added}
 use Rattle.given.specs.Asked.{tagOf, contentAt, tagsGiven, idGiven, featureGiven, Int64, Fine, Words}
@@ -141,13 +142,6 @@ module _ (f : Head) (words ws bytes : List ℕ) (g : Words ws) (v : Seen) (d : D
   pub whole-stands : Kept (added (featureGiven f words ws bytes) d) v (addFeature f words ws bytes v)
   whole-stands =
       let P = Kept (added (featureGiven f words ws bytes) d) v in
-      let W = featurePut f words (tagsOf bytes ws) v in
-      by-check P (tagsOk (length bytes) ws) Job _ tt (λ e.
-      by-check P (isKind (f .kind)) Kind _ tt (λ k.
-      by-check P (valid v) State _ tt (λ x.
-      by-check P (tagsShort ws) TextRefusal _ tt (λ y.
-      by-check P (isShut (v .layer .feature)) Turn _ tt (λ s.
-      by-check P (leb (length words) maxWords) Room _ tt (λ m.
-      by-check P (fits (W .layer .used) (W .room)) Room _ tt (λ r.
-      let C = put-stands e (is-shut (v .layer .feature) s) in
-      record { stands = record { extent-is = C .extent-is; parts = C .parts }; room = rw (feature-room f words (tagsOf bytes ws) v) at r })))))))
+      by-feature P f words ws bytes v (λ q. tt) (λ e k x s r.
+      let C = put-stands e s in
+      record { stands = record { extent-is = C .extent-is; parts = C .parts }; room = rw (feature-room f words (tagsOf bytes ws) v) at r })

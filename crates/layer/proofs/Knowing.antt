@@ -56,10 +56,10 @@ module _ (bytes vs ts vx earlier : List ℕ) (v : Value) (room : ℕ) (at : Text
 
 module _ (w : Figures) (ws : List ℕ) (i : ℕ) (bytes : List ℕ) (room : Figures) (ks vs ts kx vx : List ℕ) (N : NeedAsked w ws i bytes room ks vs ts kx vx) (p : Place) (e : p ≡ placeAt ws i) where
   pub key-asked : KeyAsked (p .key .start) (p .key .len) (length bytes) kx (room .keys) ks ts
-  key-asked = record { there = key-room bytes ws i (N .there) p e; keys = N .keys }
+  key-asked = record { there = key-room bytes ws i (N .there .ok) p e; keys = N .keys }
 
   pub value-asked : ValueAsked (p .text .start) (p .text .len) (length bytes) vx (room .values) vs ts
-  value-asked = record { there = text-room bytes ws i (N .there) p e; values = N .values }
+  value-asked = record { there = text-room bytes ws i (N .there .ok) p e; values = N .values }
 
   pub need-small : Small w (p .key .len) (p .text .len)
   need-small = small-tag w ws i p (N .capped) (N .there .short) e

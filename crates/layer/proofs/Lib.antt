@@ -12,10 +12,12 @@ pub mod Tagging
 pub mod ByKind
 pub mod Noting
 pub mod Keeping
+pub mod Checked
 pub mod After
 pub mod Indexing
 pub mod Listing
 pub mod Placing
+pub mod Scanning
 pub mod ByIndex
 pub mod Growth
 pub mod Filled

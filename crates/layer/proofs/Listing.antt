@@ -1,12 +1,12 @@
--- A lent list of tags, five words at a time: `tagsOk` at each turn of the loop of `is_tag_list`.
+-- A lent list of tags, five words at a time: `tagsOk` at each turn of the loop of `is_tag_list`, and then the tests of each tag of such a list.
 use Prim.Native.Nat.{ℕ, _+_, _-_, _≤_, _<_, zero-le}
 use mathlib.Core.Path.{_≡_, refl, sym, _∙_}
 use mathlib.Core.Bool.{Bool, true, false, cond, not, _&&_}
 use mathlib.Core.List.{List, [], _∷_}
 use native.Mathlib.Omega.{arith}
 use lib.ListN.{length, getD, drop, drop-of-length-le, length-drop}
-use lib.Dec.{leb}
-use borrow.Author.Tests.{leb-true, leb-false, not-true, not-false}
+use lib.Dec.{leb, eqb}
+use borrow.Author.Tests.{leb-true, leb-false, eqb-true, eqb-false, not-true, not-false}
 use Rattle.table.specs.Values.{valueOk, valuesIn}
 use Rattle.table.proofs.Steps.{next}
 use Rattle.layer.specs.TagLists.{tagOk, tagsOk, okAt, shortAt, tagsShort}
@@ -77,11 +77,13 @@ pub start : (bytes : ℕ) (ws : List ℕ) → Inv bytes ws 0
 start bytes ws = record { at = zero-le; rest = refl }
 
 module _ (bytes : ℕ) (ws : List ℕ) (i : ℕ) (I : Inv bytes ws i) where
-  pub ends-short : i < length ws → length ws - i < 5 → false ≡ tagsOk bytes ws
-  ends-short z h = rw (I .rest, few bytes (drop i ws) (rw length-drop (omega arith)) (rw length-drop h))
-
-  pub ends : length ws ≤ i → true ≡ tagsOk bytes ws
-  ends h = rw (I .rest, drop-of-length-le ws {i = i} h)
+  -- behind the last five words there is nothing, or too few for a tag
+  pub ends : length ws - i < 5 → eqb i (length ws) ≡ tagsOk bytes ws
+  ends h = by (eqb i (length ws)) refl
+    where
+      by : (t : Bool) → eqb i (length ws) ≡ t → t ≡ tagsOk bytes ws
+      by true q = let e = eqb-true i (length ws) q in rw (I .rest, drop-of-length-le ws {i = i} (omega (arith, e)))
+      by false q = let n = eqb-false i (length ws) q in rw (I .rest, few bytes (drop i ws) (rw length-drop (omega (arith, n, I .at))) (rw length-drop h))
 
   module _ (t : Bool) (g : t ≡ okAt bytes ws i) (h : 5 ≤ length ws - i) where
     pub past : not t ≡ true → false ≡ tagsOk bytes ws
@@ -90,38 +92,35 @@ module _ (bytes : ℕ) (ws : List ℕ) (i : ℕ) (I : Inv bytes ws i) where
     pub further : not t ≡ false → Inv bytes ws (i + 5)
     further n = record { at = omega arith; rest = rw (step bytes ws i (omega arith), ← g, not-false t n) at (I .rest) }
 
--- ---- the loop of `are_short`
-short-few : (l : List ℕ) → length l < 5 → tagsShort l ≡ true
-short-few [] h = refl
-short-few (a ∷ []) h = refl
-short-few (a ∷ b ∷ []) h = refl
-short-few (a ∷ b ∷ c ∷ []) h = refl
-short-few (a ∷ b ∷ c ∷ d ∷ []) h = refl
-short-few (a ∷ b ∷ c ∷ d ∷ e ∷ l) h = absurd (omega arith)
+-- ---- a test of every tag of a list, tag by tag: all of them pass where those from i on do
+pub record Each (bytes : ℕ) (ws : List ℕ) (all : List ℕ → Bool) (i : ℕ) : Type 0 where
+  pub list : tagsOk bytes (drop i ws) ≡ true
+  pub rest : all ws ≡ all (drop i ws)
 
+module _ {bytes : ℕ} {ws : List ℕ} {all : List ℕ → Bool} where
+  pub each-start : tagsOk bytes ws ≡ true → Each bytes ws all 0
+  each-start e = record { list = e; rest = refl }
+
+  module _ {i : ℕ} (E : Each bytes ws all i) where
+    pub each-room : i < length ws → i + 5 ≤ length ws
+    each-room h = five-left bytes ws i (E .list) h
+
+    pub each-ok : i < length ws → okAt bytes ws i ≡ true
+    each-ok h = ok-at bytes ws i (E .list) h
+
+    pub each-done : all [] ≡ true → length ws ≤ i → true ≡ all ws
+    each-done e h = sym (E .rest ∙ rw (drop-of-length-le ws {i = i} h) e)
+
+    module _ (h : i < length ws) (b : Bool) (s : all (drop i ws) ≡ cond b (all (drop (i + 5) ws)) false) (t : Bool) (g : t ≡ b) where
+      pub each-fails : not t ≡ true → false ≡ all ws
+      each-fails y = sym (E .rest ∙ s ∙ rw (← g, not-true t y))
+
+      pub each-on : not t ≡ false → Each bytes ws all (i + 5)
+      each-on n = record { list = ok-after bytes ws i (E .list) h; rest = E .rest ∙ s ∙ rw (← g, not-false t n) }
+
+-- ---- TEXT
 pub short-step : (ws : List ℕ) (i : ℕ) → i + 5 ≤ length ws → tagsShort (drop i ws) ≡ cond (shortAt ws i) (tagsShort (drop (i + 5) ws)) false
 short-step ws i h = rw (five ws i h)
-
-pub record Short (ws : List ℕ) (i : ℕ) : Type 0 where
-  pub at : i ≤ length ws
-  pub rest : tagsShort ws ≡ tagsShort (drop i ws)
-
-pub short-start : (ws : List ℕ) → Short ws 0
-short-start ws = record { at = zero-le; rest = refl }
-
-module _ (ws : List ℕ) (i : ℕ) (I : Short ws i) where
-  pub short-ends : length ws - i < 5 → true ≡ tagsShort ws
-  short-ends h = rw (I .rest, short-few (drop i ws) (rw length-drop h))
-
-  pub short-done : length ws ≤ i → true ≡ tagsShort ws
-  short-done h = rw (I .rest, drop-of-length-le ws {i = i} h)
-
-  module _ (t : Bool) (g : t ≡ shortAt ws i) (h : 5 ≤ length ws - i) where
-    pub too-long : not t ≡ true → false ≡ tagsShort ws
-    too-long y = rw (I .rest, short-step ws i (omega arith), ← g, not-true t y)
-
-    pub short-on : not t ≡ false → Short ws (i + 5)
-    short-on n = record { at = omega arith; rest = rw (short-step ws i (omega arith), ← g, not-false t n) at (I .rest) }
 
 -- of a list whose tags are short: the five words at an index, and the rest
 module _ (ws : List ℕ) (i : ℕ) (e : tagsShort (drop i ws) ≡ true) (h : i + 5 ≤ length ws) where

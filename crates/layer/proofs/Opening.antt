@@ -13,8 +13,9 @@ use Rattle.promise.proofs.Laying.{length-lay, lay-next}
 use Rattle.words.specs.Geometries.{maxWords}
 use Rattle.runs.specs.Fitting.{laidIn}
 use Rattle.runs.proofs.Laws.{laid-fits}
-use Rattle.refusal.specs.declared.Refusal.the-variants.{Room, Text as TextRefusal}
+use Rattle.refusal.specs.declared.Refusal.the-variants.{Room, Text as TextRefusal, Utf8}
 use Rattle.table.specs.Texts.{shortText}
+use Rattle.utf8.specs.Utf8.{isUtf8}
 use Rattle.layer.specs.declared.Open.the-variants.{Since}
 use Rattle.layer.specs.declared.Layer.{Layer}
 use Rattle.layer.specs.declared.Changed.the-variants.{Done, Refused}
@@ -64,12 +65,16 @@ module _ (name : List ℕ) (extent : ℕ) (ts : List ℕ) (t : Bool) (g : t ≡ 
   pub name-long : not t ≡ true → Gives (created name extent ts) (saidCreated (CreatedRefused TextRefusal)) ts
   name-long h = rw (← g, not-true t h) (record { answer = refl; memory = refl })
 
-  module _ (h : not t ≡ false) (n : ℕ) (e : n ≡ smaller (length ts) maxTexts) where
-    pub name-full : n < length name → Gives (created name extent ts) (saidCreated (CreatedRefused Room)) ts
-    name-full l = rw (← g, not-false t h, ← e, lt-leb _ _ l) (record { answer = refl; memory = refl })
+  module _ (h : not t ≡ false) (u : Bool) (k : u ≡ isUtf8 name) where
+    pub name-ill : not u ≡ true → Gives (created name extent ts) (saidCreated (CreatedRefused Utf8)) ts
+    name-ill i = rw (← g, not-false t h, ← k, not-true u i) (record { answer = refl; memory = refl })
 
-    name-fits : length name ≤ n → 0 + length name ≤ length ts
-    name-fits l = omega (arith, smaller-le (length ts) maxTexts)
+    module _ (i : not u ≡ false) (n : ℕ) (e : n ≡ smaller (length ts) maxTexts) where
+      pub name-full : n < length name → Gives (created name extent ts) (saidCreated (CreatedRefused Room)) ts
+      name-full l = rw (← g, not-false t h, ← k, not-false u i, ← e, lt-leb _ _ l) (record { answer = refl; memory = refl })
 
-    pub name-done : length name ≤ n → (ts₂ : List ℕ) → ts₂ ≡ laidIn 0 name ts → Gives (created name extent ts) (saidCreated (CreatedDone (newLayer name extent))) ts₂
-    name-done l ts₂ p = rw (← g, not-false t h, ← e, le-leb _ _ l) (record { answer = refl; memory = laid-fits 0 name ts (name-fits l) ts₂ p })
+      name-fits : length name ≤ n → 0 + length name ≤ length ts
+      name-fits l = omega (arith, smaller-le (length ts) maxTexts)
+
+      pub name-done : length name ≤ n → (ts₂ : List ℕ) → ts₂ ≡ laidIn 0 name ts → Gives (created name extent ts) (saidCreated (CreatedDone (newLayer name extent))) ts₂
+      name-done l ts₂ p = rw (← g, not-false t h, ← k, not-false u i, ← e, le-leb _ _ l) (record { answer = refl; memory = laid-fits 0 name ts (name-fits l) ts₂ p })

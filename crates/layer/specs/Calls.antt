@@ -8,7 +8,8 @@ pub use Rattle.whole.specs.Twos.{bitsOf}
 use Rattle.promise.specs.Answers.{Written, kept}
 use Rattle.promise.specs.Laid.{lay}
 use Rattle.refusal.specs.Said.{Said, accepted, refused}
-use Rattle.refusal.specs.declared.Refusal.the-variants.{Kind, State, Room, Text as TextRefusal, Turn}
+use Rattle.refusal.specs.declared.Refusal.the-variants.{Kind, State, Room, Text as TextRefusal, Utf8, Turn}
+use Rattle.utf8.specs.Utf8.{isUtf8}
 use Rattle.table.specs.declared.Found.{Found}
 use Rattle.table.specs.declared.Found.the-variants.{At, Nothing}
 use Rattle.table.specs.declared.Value.{Value}
@@ -81,7 +82,7 @@ abandoned v =
     check (valid v) State
     (whenOpen (v .layer .feature) (λ o. holds (withUsed (v .layer) o Shut) (heldBy o (v .held))))
 
--- ---- a tag: STATE, TEXT, TURN, ROOM
+-- ---- a tag: STATE, TEXT, UTF8, TURN, ROOM
 -- a key, and a value with its text, which is empty but for a text
 pub record Tag : Type 0 where
   pub key : List ℕ
@@ -172,7 +173,9 @@ addTag t v =
     check (valid v) State
     (check (shortText (length (t .key))) TextRefusal
     (check (shortText (length (t .text))) TextRefusal
-    (whenOpen (v .layer .feature) (λ o. tagged t v o))))
+    (check (isUtf8 (t .key)) Utf8
+    (check (isUtf8 (t .text)) Utf8
+    (whenOpen (v .layer .feature) (λ o. tagged t v o))))))
 
 -- the seven kinds of value. A whole number is 64 bits, of which a negative one takes the two's complement
 abbrev pub valueOf : ℕ → ℕ → Value
@@ -187,16 +190,18 @@ tagString key text = record { key = key; value = record { kind = textKind; low =
 abbrev pub tagBits : ℕ → List ℕ → ℕ → Tag
 tagBits kind key bits = record { key = key; value = valueOf kind bits; text = [] }
 
--- ---- creating a layer: TEXT, ROOM. The name is the first text
+-- ---- creating a layer: TEXT, UTF8, ROOM. The name is the first text
 abbrev pub newLayer : List ℕ → ℕ → Layer
 newLayer name extent = record { extent = extent; name = length name; used = record { keys = 0; values = 0; texts = length name; features = 0 }; feature = Shut }
 
 abbrev pub created : List ℕ → ℕ → List ℕ → Written (Said (List Layer)) (List ℕ)
 created name extent ts =
     cond (shortText (length name))
+    (cond (isUtf8 name)
     (cond (leb (length name) (smaller (length ts) maxTexts))
     (record { answer = accepted (newLayer name extent ∷ []); memory = lay 0 name ts })
     (kept (refused Room []) ts))
+    (kept (refused Utf8 []) ts))
     (kept (refused TextRefusal []) ts)
 
 -- ---- asking: STATE, and of an open feature TURN

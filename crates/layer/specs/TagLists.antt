@@ -9,6 +9,7 @@ use Rattle.table.specs.declared.Text.{Text}
 use Rattle.table.specs.declared.Value.{Value}
 use Rattle.table.specs.Texts.{inside, shortText, textOf}
 use Rattle.table.specs.Values.{textKind, valueOk}
+use Rattle.utf8.specs.Utf8.{isUtf8}
 use Rattle.layer.specs.Calls.{Tag}
 
 -- how many words, and where they stand behind the key's start
@@ -87,3 +88,11 @@ tagsShort (start ∷ len ∷ kind ∷ low ∷ high ∷ ws) = cond (shortTag len 
 
 abbrev pub shortAt : List ℕ → ℕ → Bool
 shortAt ws i = shortTag (getD ws (i + lenAt) 0) (getD ws (i + kindAt) 0) (getD ws (i + lowAt) 0) (getD ws (i + highAt) 0)
+
+-- UTF8: every key and every text is
+abbrev pub tagUtf8 : Tag → Bool
+tagUtf8 t = isUtf8 (t .key) && isUtf8 (t .text)
+
+abbrev pub tagsUtf8 : List Tag → Bool
+tagsUtf8 [] = true
+tagsUtf8 (t ∷ ts) = cond (tagUtf8 t) (tagsUtf8 ts) false

@@ -126,6 +126,9 @@ impl Layer {
         if !Text::may_have(len) {
             return Created::Refused(Refusal::Text);
         }
+        if !utf8::is_utf8(name) {
+            return Created::Refused(Refusal::Utf8);
+        }
         if smaller(texts.len(), Layer::MAX_TEXTS) < len {
             return Created::Refused(Refusal::Room);
         }

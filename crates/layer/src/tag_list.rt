@@ -1,12 +1,14 @@
 // A lent list of tags, five words each: where the key starts and how long it is, the value's kind, and then where its text starts and how long it is, or the
 // low and the high half of its content. The texts stand in a lent list of bytes.
 ghost use mathlib.Core.Path.{_≡_};
+ghost use mathlib.Core.Bool.{true};
 ghost use Prim.Native.Nat.{_+_, _≤_};
 ghost use lib.ListN.{length};
-ghost use Rattle.layer.specs.TagLists.{okAt, tagsOk, shortAt, tagsShort, valueGiven, textPlace};
+ghost use Rattle.layer.specs.TagLists.{okAt, tagsOk, shortAt, tagsShort, tagAt, tagsOf, tagUtf8, tagsUtf8, valueGiven, textPlace};
 ghost use Rattle.layer.specs.WholeSteps.{placeAt};
 use table::Text;
 use table::Value;
+use utf8::is_utf8;
 
 // Where the parts of a tag stand.
 pub(crate) struct Place {
@@ -49,16 +51,13 @@ pub(crate) fn is_tag_list(tags: &[u32], bytes: usize) -> bool
     ensures { λ r. ⌜ r ≡ tagsOk bytes (now (tags .entry)) ⌝ }
 {
     let mut i = 0;
-    while i < tags.len() {
-        if tags.len() - i < Place::WORDS {
-            return false;
-        }
+    while Place::WORDS <= tags.len() - i {
         if !tag_ok(tags, i, bytes) {
             return false;
         }
         i += Place::WORDS;
     }
-    true
+    i == tags.len()
 }
 
 // The value of three words as its tag call makes it. Where a text stands is found when it is stored.
@@ -97,24 +96,24 @@ fn is_short(tags: &[u32], i: usize) -> bool
     requires { ⌜ i + 5 ≤ length (now tags) ⌝ }
     ensures { λ r. ⌜ r ≡ shortAt (now (tags .entry)) i ⌝ }
 {
-    let len = number::wide(tags[i + Place::LEN]);
-    let text = text_of(
-        tags[i + Place::KIND],
-        tags[i + Place::LOW],
-        tags[i + Place::HIGH],
-    );
-    Text::may_have(len) & Text::may_have(text.len)
+    let key = number::wide(tags[i + Place::LEN]);
+    if !Text::may_have(key) {
+        return false;
+    }
+    if tags[i + Place::KIND] != Value::TEXT {
+        return true;
+    }
+    let text = number::wide(tags[i + Place::HIGH]);
+    Text::may_have(text)
 }
 
-// The same of every tag.
-pub(crate) fn are_short(tags: &[u32]) -> bool
+// The same of every tag of a list.
+pub(crate) fn are_short(tags: &[u32], bytes: usize) -> bool
+    requires { ⌜ tagsOk bytes (now tags) ≡ true ⌝ }
     ensures { λ r. ⌜ r ≡ tagsShort (now (tags .entry)) ⌝ }
 {
     let mut i = 0;
     while i < tags.len() {
-        if tags.len() - i < Place::WORDS {
-            return true;
-        }
         if !is_short(tags, i) {
             return false;
         }
@@ -141,4 +140,38 @@ pub(crate) fn place_at(tags: &[u32], i: usize) -> Place
         value: value_given(kind, low, high),
         text: text_of(kind, low, high),
     }
+}
+
+// Whether the key and the text of the five words at index i are UTF-8. What is no text has none to be asked.
+fn is_tag_utf8(tags: &[u32], i: usize, bytes: &[u8]) -> bool
+    requires { ⌜ i + 5 ≤ length (now tags) ⌝ }
+    requires { ⌜ okAt (length (now bytes)) (now tags) i ≡ true ⌝ }
+    ensures { λ r. ⌜ r ≡ tagUtf8 (tagAt (now (bytes .entry)) (now (tags .entry)) i) ⌝ }
+{
+    let a = number::wide(tags[i]);
+    let b = a + number::wide(tags[i + Place::LEN]);
+    if !is_utf8(&bytes[a..b]) {
+        return false;
+    }
+    if tags[i + Place::KIND] != Value::TEXT {
+        return true;
+    }
+    let c = number::wide(tags[i + Place::LOW]);
+    let d = c + number::wide(tags[i + Place::HIGH]);
+    is_utf8(&bytes[c..d])
+}
+
+// The same of every tag of a list.
+pub(crate) fn are_utf8(tags: &[u32], bytes: &[u8]) -> bool
+    requires { ⌜ tagsOk (length (now bytes)) (now tags) ≡ true ⌝ }
+    ensures { λ r. ⌜ r ≡ tagsUtf8 (tagsOf (now (bytes .entry)) (now (tags .entry))) ⌝ }
+{
+    let mut i = 0;
+    while i < tags.len() {
+        if !is_tag_utf8(tags, i, bytes) {
+            return false;
+        }
+        i += Place::WORDS;
+    }
+    true
 }

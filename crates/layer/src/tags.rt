@@ -1,10 +1,13 @@
 // The tags of a layer's open feature (in the Rust: add_tag_string to add_tag_bool of Feature): one call for each kind of value. Floats and doubles are
 // given by their bits, since values are equal by bits. Each call costs its STATE check, which reads the used part of every list once, and a scan of the
 // keys and of the values.
+ghost use lib.ListN.{length};
 ghost use Rattle.table.specs.Values.{floatKind, doubleKind, intKind, uintKind, sintKind, boolKind};
-ghost use Rattle.layer.specs.Calls.{addTag, bitsOf, bitOf, tagString, tagBits};
-ghost use Rattle.layer.specs.Lending.{Does, given};
+ghost use Rattle.layer.specs.Calls.{tagged, addTag, bitsOf, bitOf, tagString, tagBits};
+ghost use Rattle.layer.specs.Steps.{Ready};
+ghost use Rattle.layer.specs.Lending.{Does, given, lists};
 use crate::Changed;
+use crate::Figures;
 use crate::Layer;
 use crate::Open;
 use crate::putting::grown;
@@ -16,6 +19,42 @@ use number::bits_of;
 use refusal::Refusal;
 use table::Text;
 use table::Value;
+use utf8::is_utf8;
+
+// A tag of the feature opened at o, if it has room.
+fn tag_open(
+    s: Layer,
+    o: Figures,
+    key: &[u8],
+    v: Value,
+    text: &[u8],
+    keys: &mut [u32],
+    values: &mut [u32],
+    texts: &mut [u8],
+    features: &mut [u32],
+) -> Changed
+    requires { ⌜ Ready s o (length (now key)) (length (now text)) (lists keys values texts features) ⌝ }
+    ensures { λ r. ⌜ Does (λ w. tagged (given key v text) w o) s r keys values texts features ⌝ }
+{
+    let u = s.used;
+    let k = u.keys * 2;
+    let e = u.values * 3;
+    let t = u.texts;
+    let kf = table::key_pos(&keys[..k], &texts[..t], key);
+    let vf = table::val_pos(&values[..e], &texts[..t], v, text);
+    let after = grown(u, kf, vf, key.len(), text.len());
+    if !Layer::has_room_for(after, keys.len(), values.len(), texts.len(), features.len()) {
+        return Changed::Refused(Refusal::Room, s);
+    }
+    put_tag(u, o, kf, vf, key, v, text, keys, values, texts, features);
+    let open = s.feature;
+    Changed::Done(Layer {
+        extent: s.extent,
+        name: s.name,
+        used: after,
+        feature: open,
+    })
+}
 
 // The one tag call behind the seven: v is the value, and text its text where it is one.
 fn add_tag(
@@ -39,28 +78,17 @@ fn add_tag(
     if !Text::may_have(text.len()) {
         return Changed::Refused(Refusal::Text, s);
     }
+    if !is_utf8(key) {
+        return Changed::Refused(Refusal::Utf8, s);
+    }
+    if !is_utf8(text) {
+        return Changed::Refused(Refusal::Utf8, s);
+    }
     let f = s.feature;
     let Open::Since(o) = f else {
         return Changed::Refused(Refusal::Turn, s);
     };
-    let u = s.used;
-    let k = u.keys * 2;
-    let e = u.values * 3;
-    let t = u.texts;
-    let kf = table::key_pos(&keys[..k], &texts[..t], key);
-    let vf = table::val_pos(&values[..e], &texts[..t], v, text);
-    let after = grown(u, kf, vf, key.len(), text.len());
-    if !Layer::has_room_for(after, keys.len(), values.len(), texts.len(), features.len()) {
-        return Changed::Refused(Refusal::Room, s);
-    }
-    put_tag(u, o, kf, vf, key, v, text, keys, values, texts, features);
-    let open = s.feature;
-    Changed::Done(Layer {
-        extent: s.extent,
-        name: s.name,
-        used: after,
-        feature: open,
-    })
+    tag_open(s, o, key, v, text, keys, values, texts, features)
 }
 
 // The six whose value is no text: its content is given by its 64 bits.

@@ -19,6 +19,7 @@ use crate::need::has_room;
 use crate::state::is_valid;
 use crate::tag_list::Place;
 use crate::tag_list::are_short;
+use crate::tag_list::are_utf8;
 use crate::tag_list::is_tag_list;
 use records::Record;
 use refusal::Refusal;
@@ -60,11 +61,11 @@ fn first_refusal(
     kind: u32,
     words: usize,
     tags: &[u32],
-    bytes: usize,
+    bytes: &[u8],
 ) -> Asked
-    ensures { λ r. ⌜ r ≡ asks f stands kind words (now (tags .entry)) bytes ⌝ }
+    ensures { λ r. ⌜ r ≡ asks f stands kind words (now (tags .entry)) (now (bytes .entry)) ⌝ }
 {
-    if !is_tag_list(tags, bytes) {
+    if !is_tag_list(tags, bytes.len()) {
         return Asked::Barred(Refusal::Job);
     }
     let geometry = Geometry { kind: kind };
@@ -74,8 +75,11 @@ fn first_refusal(
     if !stands {
         return Asked::Barred(Refusal::State);
     }
-    if !are_short(tags) {
+    if !are_short(tags, bytes.len()) {
         return Asked::Barred(Refusal::Text);
+    }
+    if !are_utf8(tags, bytes) {
+        return Asked::Barred(Refusal::Utf8);
     }
     if !f.is_shut() {
         return Asked::Barred(Refusal::Turn);
@@ -183,7 +187,7 @@ pub(crate) fn add_known(
     ensures { λ r. ⌜ DoesIndexed (addFeature f (now (words .entry)) (now (tags .entry)) (now (bytes .entry))) s r keys values texts features ki vi ⌝ }
 {
     let q = s.feature;
-    match first_refusal(q, stands, f.kind, words.len(), tags, bytes.len()) {
+    match first_refusal(q, stands, f.kind, words.len(), tags, bytes) {
         Asked::Barred(r) => return Changed::Refused(r, s),
         Asked::Fine => {}
     }

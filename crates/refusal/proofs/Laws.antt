@@ -6,7 +6,7 @@ use native.Mathlib.Omega.{arith}
 use borrow.Author.Tests.{ne-eqb}
 use lib.Dec.{eqb}
 use Rattle.refusal.specs.declared.Refusal.{Refusal}
-use Rattle.refusal.specs.declared.Refusal.the-variants.{Job, Kind, Box, State, Coord, Empty, Room, Command, Step, Text, Turn, Extent, Name, Count, NoParams, CutParams}
+use Rattle.refusal.specs.declared.Refusal.the-variants.{Job, Kind, Box, State, Coord, Empty, Room, Command, Step, Text, Turn, Extent, Name, Count, NoParams, CutParams, Utf8}
 use Rattle.refusal.specs.declared.Fault.{Fault}
 use Rattle.refusal.specs.Refusals.{numberOf}
 use Rattle.refusal.specs.Said.{Said, accepted, refused, refusedAt, plain}
@@ -29,7 +29,8 @@ refusalOf n =
     cond (eqb n 14) Name (
     cond (eqb n 16) Count (
     cond (eqb n 17) NoParams (
-    CutParams)))))))))))))))
+    cond (eqb n 18) CutParams (
+    Utf8))))))))))))))))
 
 read-back : (r : Refusal) → refusalOf (numberOf r) ≡ r
 unfolding refusalOf
@@ -49,6 +50,7 @@ read-back Name = refl
 read-back Count = refl
 read-back NoParams = refl
 read-back CutParams = refl
+read-back Utf8 = refl
 
 pub same-refusal : (r r′ : Refusal) → numberOf r ≡ numberOf r′ → r ≡ r′
 same-refusal r r′ e = sym (read-back r) ∙ ap refusalOf e ∙ read-back r′
@@ -70,6 +72,11 @@ numbered Name = omega arith
 numbered Count = omega arith
 numbered NoParams = omega arith
 numbered CutParams = omega arith
+numbered Utf8 = omega arith
+
+-- `number`: the number of what it was told to be
+pub is-numbered : {r x : Refusal} → r ≡ x → numberOf x ≡ numberOf r
+is-numbered e = sym (ap numberOf e)
 
 -- an accepted call has 0
 pub not-zero : (r : Refusal) → numberOf r ≡ 0 → ⊥
@@ -96,6 +103,7 @@ never-nine Name e = omega arith
 never-nine Count e = omega arith
 never-nine NoParams e = omega arith
 never-nine CutParams e = omega arith
+never-nine Utf8 e = omega arith
 
 module _ {X : Type 0} {v v′ : X} where
   pub one-fault : (f f′ : Fault) → refusedAt f v ≡ refusedAt f′ v′ → f ≡ f′

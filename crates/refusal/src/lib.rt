@@ -20,6 +20,7 @@ pub enum Refusal {
     Count,
     NoParams,
     CutParams,
+    Utf8,
 }
 
 // A refusal and where it was met, for the answers that tell a place; it is 0 where there is none. A variant that carries the place would make every
@@ -50,5 +51,6 @@ pub fn number(r: Refusal) -> u32
         Refusal::Count => 16,
         Refusal::NoParams => 17,
         Refusal::CutParams => 18,
+        Refusal::Utf8 => 22,
     }
 }

@@ -17,6 +17,7 @@ use Rattle.layer.specs.State.{valid}
 use Rattle.layer.specs.Calls.{isShut, moreWords, withUsed, withFeatures, newRecord, Tag, isValue, keyFound, valueFound, tagPut}
 use Rattle.layer.proofs.Standing.{parts}
 use Rattle.layer.proofs.Keeping.{Lengths, Fine, sound, fine, by-check, by-open, is-shut, opened-sound, marked-sound, tag-sound, closed-sound}
+use Rattle.layer.proofs.Checked.{by-tag}
 use Rattle.rollback.specs.Runs.{Call, opens, marks, tags, closes, abandons, does}
 
 -- of a change: nothing, where it refuses
@@ -51,12 +52,7 @@ good (marks low high) v L n =
     by-check (λ (x : Change). All Fine x v) (valid v) State _ tt (λ e.
     by-open (λ (x : Change). All Fine x v) (v .layer .feature) _ tt (λ o f. marked-fine v (L e) e o f low high))
 good (tags t g) v L n =
-    by-check (λ (x : Change). All Fine x v) (valid v) State _ tt (λ e.
-    by-check (λ (x : Change). All Fine x v) (shortText (length (t .key))) TextRefusal _ tt (λ a.
-    by-check (λ (x : Change). All Fine x v) (shortText (length (t .text))) TextRefusal _ tt (λ b.
-    by-open (λ (x : Change). All Fine x v) (v .layer .feature) _ tt (λ o f.
-    by-check (λ (x : Change). All Fine x v) (fits (tagPut o t v .layer .used) (v .room)) Room _ tt (λ h.
-    tag-fine v (L e) e o f t g h)))))
+    by-tag (λ (x : Change). All Fine x v) t v (λ q n. tt) (λ e o f h. tag-fine v (L e) e o f t g h)
 good closes v L n =
     by-check (λ (x : Change). All Fine x v) (valid v) State _ tt (λ e.
     by-open (λ (x : Change). All Fine x v) (v .layer .feature) _ tt (λ o f. closed-fine v (L e) e o f))

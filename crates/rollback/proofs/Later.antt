@@ -22,6 +22,7 @@ use Rattle.layer.specs.Whole.{featurePut, addFeature}
 use Rattle.layer.specs.Lookup.{Index, indexed}
 use Rattle.layer.specs.Many.{Many, headOf, headsOk, andNext, addAll, done, addFeatures}
 use Rattle.layer.proofs.Keeping.{Lengths, sound, by-check, is-shut}
+use Rattle.layer.proofs.Checked.{by-feature}
 use Rattle.layer.proofs.After.{Sized, seen-lengths}
 use Rattle.layer.proofs.Features.{feature-sound, feature-room}
 use Rattle.tile.specs.Asking.{layerSize}
@@ -36,16 +37,9 @@ use Rattle.rollback.proofs.Rolled.{unseen}
 -- ---- a whole feature leaves parts within the room
 feature-sized : (f : Head) (words ws bytes : List ℕ) (v : Seen) → (valid v ≡ true → Lengths v) → All Sized (addFeature f words ws bytes v) v
 feature-sized f words ws bytes v L =
-    let w = featurePut f words (tagsOf bytes ws) v in
-    by-check (λ (x : Change). All Sized x v) (tagsOk (length bytes) ws) Job _ tt (λ list.
-    by-check (λ (x : Change). All Sized x v) (isKind (f .kind)) Kind _ tt (λ kind.
-    by-check (λ (x : Change). All Sized x v) (valid v) State _ tt (λ e.
-    by-check (λ (x : Change). All Sized x v) (tagsShort ws) TextRefusal _ tt (λ short.
-    by-check (λ (x : Change). All Sized x v) (isShut (v .layer .feature)) Turn _ tt (λ s.
-    by-check (λ (x : Change). All Sized x v) (leb (length words) maxWords) Room _ tt (λ few.
-    by-check (λ (x : Change). All Sized x v) (fits (w .layer .used) (w .room)) Room _ tt (λ h.
-    let S = feature-sound f words ws bytes v (sound v e (L e)) list kind (is-shut (v .layer .feature) s) in
-    record { lengths = record { keys = S .lengths .keys; values = S .lengths .values; texts = S .lengths .texts; features = S .lengths .features }; room = rw (feature-room f words (tagsOf bytes ws) v) at h })))))))
+    by-feature (λ (x : Change). All Sized x v) f words ws bytes v (λ q. tt) (λ list kind e shut h.
+    let S = feature-sound f words ws bytes v (sound v e (L e)) list kind shut in
+    record { lengths = record { keys = S .lengths .keys; values = S .lengths .values; texts = S .lengths .texts; features = S .lengths .features }; room = rw (feature-room f words (tagsOf bytes ws) v) at h })
 
 -- ---- a change that hangs on what is seen
 module _ (F : Seen → Change) (in-room : (v : Seen) → (valid v ≡ true → Lengths v) → All Sized (F v) v) (g g₂ : Given) (e : seenOf g ≡ seenOf g₂) where

@@ -12,6 +12,7 @@ use lib.ListN.{length}
 use lib.Seq.{take-at, take-all, take-append-le, length-take-le}
 use borrow.Author.Tests.{le-leb, eq-eqb}
 use Rattle.promise.specs.Laid.{lay}
+use Rattle.refusal.specs.declared.Refusal.{Refusal}
 use Rattle.refusal.specs.declared.Refusal.the-variants.{Kind, State, Room, Text as TextRefusal, Turn}
 use Rattle.table.specs.Texts.{shortText}
 use Rattle.words.specs.Geometries.{isKind, maxWords}
@@ -25,6 +26,7 @@ use Rattle.layer.proofs.Fitting.{both, Within, fits-yes, smaller-le}
 use Rattle.layer.proofs.Standing.{whole}
 use Rattle.rollback.specs.Runs.{Call, opens, marks, tags, closes, abandons, does, isOpenEnded, openEnded, answers, layerAfter, memoryAfter}
 use Rattle.layer.proofs.Keeping.{Lengths, Fine, sound, by-check, by-open, is-shut, take-lay-before, opening-in, marked-in, tag-take}
+use Rattle.layer.proofs.Checked.{by-tag}
 use Rattle.layer.proofs.After.{seen-lengths}
 use Rattle.rollback.proofs.Good.{opened-fine, closed-fine, marked-fine, tag-fine}
 use Rattle.rollback.proofs.Seen.{seenAfter, after-seen, same-used}
@@ -62,10 +64,7 @@ module _ (v₀ : Seen) (L : valid v₀ ≡ true → Lengths v₀) (s : v₀ .lay
       by-check (λ (x : Change). Stage v₀ (next x v₀)) (valid v₀) State _ (inl refl) (λ e.
       by-open (λ (x : Change). Stage v₀ (next x v₀)) (v₀ .layer .feature) _ (inl refl) (λ o f. not-open o f))
   start (tags t g) n =
-      by-check (λ (x : Change). Stage v₀ (next x v₀)) (valid v₀) State _ (inl refl) (λ e.
-      by-check (λ (x : Change). Stage v₀ (next x v₀)) (shortText (length (t .key))) TextRefusal _ (inl refl) (λ a.
-      by-check (λ (x : Change). Stage v₀ (next x v₀)) (shortText (length (t .text))) TextRefusal _ (inl refl) (λ b.
-      by-open (λ (x : Change). Stage v₀ (next x v₀)) (v₀ .layer .feature) _ (inl refl) (λ o f. not-open o f))))
+      by-tag (λ (x : Change). Stage v₀ (next x v₀)) t v₀ (λ q n. inl refl) (λ e o f h. not-open o f)
   start closes n = absurd (let z : _≡_ {A = ℕ} 0 1 = cc in omega arith)
   start abandons n =
       by-check (λ (x : Change). Stage v₀ (next x v₀)) (valid v₀) State _ (inl refl) (λ e.
@@ -127,12 +126,7 @@ module _ (v₀ : Seen) (L : valid v₀ ≡ true → Lengths v₀) (s : v₀ .lay
         by-check (λ (x : Change). Stage v₀ (next x v)) (valid v) State _ (inr F) (λ e.
         by-open (λ (x : Change). Stage v₀ (next x v)) (v .layer .feature) _ (inr F) (λ o f. inr (marked-from o f low high)))
     onward (tags t g) n =
-        by-check (λ (x : Change). Stage v₀ (next x v)) (valid v) State _ (inr F) (λ e.
-        by-check (λ (x : Change). Stage v₀ (next x v)) (shortText (length (t .key))) TextRefusal _ (inr F) (λ a.
-        by-check (λ (x : Change). Stage v₀ (next x v)) (shortText (length (t .text))) TextRefusal _ (inr F) (λ b.
-        by-open (λ (x : Change). Stage v₀ (next x v)) (v .layer .feature) _ (inr F) (λ o f.
-        by-check (λ (x : Change). Stage v₀ (next x v)) (fits (tagPut o t v .layer .used) (v .room)) Room _ (inr F) (λ h.
-        inr (tag-from o f t g h))))))
+        by-tag (λ (x : Change). Stage v₀ (next x v)) t v (λ q n. inr F) (λ e o f h. inr (tag-from o f t g h))
     onward closes n = absurd (let z : _≡_ {A = ℕ} 0 1 = cc in omega arith)
     onward abandons n = inl back
 
@@ -198,6 +192,10 @@ sound-after [] v S = S
 sound-after (c ∷ cs) v S = sound-after cs (next (does c v) v) (sound-next c v S)
 
 -- so no call of a run is refused as STATE
+abbrev refusalOf : Change → Refusal
+refusalOf (refuses q) = q
+refusalOf (holds t h) = State
+
 abbrev OtherThanState : Change → Type 0
 OtherThanState x = x ≡ refuses State → ⊥
 
@@ -213,12 +211,7 @@ never-state (marks low high) v S =
     rw (S .fine .stands)
     (by-open OtherThanState (v .layer .feature) _ (λ e. let z : _≡_ {A = ℕ} 0 1 = cc in omega arith) (λ o f e. let z : _≡_ {A = ℕ} 0 1 = cc in omega arith))
 never-state (tags t g) v S =
-    rw (S .fine .stands)
-    (by-check OtherThanState (shortText (length (t .key))) TextRefusal _ (λ e. let z : _≡_ {A = ℕ} 0 1 = cc in omega arith) (λ a.
-    by-check OtherThanState (shortText (length (t .text))) TextRefusal _ (λ e. let z : _≡_ {A = ℕ} 0 1 = cc in omega arith) (λ b.
-    by-open OtherThanState (v .layer .feature) _ (λ e. let z : _≡_ {A = ℕ} 0 1 = cc in omega arith) (λ o f.
-    by-check OtherThanState (fits (tagPut o t v .layer .used) (v .room)) Room _ (λ e. let z : _≡_ {A = ℕ} 0 1 = cc in omega arith) (λ h e.
-    let z : _≡_ {A = ℕ} 0 1 = cc in omega arith)))))
+    by-tag OtherThanState t v (λ q n e. let y : valid v ≡ false = n (ap refusalOf e) in let s = S .fine .stands in let z : _≡_ {A = ℕ} 0 1 = cc in omega arith) (λ e o f h k. let z : _≡_ {A = ℕ} 0 1 = cc in omega arith)
 never-state closes v S =
     rw (S .fine .stands)
     (by-open OtherThanState (v .layer .feature) _ (λ e. let z : _≡_ {A = ℕ} 0 1 = cc in omega arith) (λ o f e. let z : _≡_ {A = ℕ} 0 1 = cc in omega arith))

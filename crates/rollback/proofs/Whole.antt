@@ -10,8 +10,9 @@ use borrow.Author.Tests.{le-leb, leb-true}
 use Rattle.promise.specs.Laid.{lay}
 use Rattle.promise.proofs.Laying.{lay-behind}
 use Rattle.refusal.specs.declared.Refusal.{Refusal}
-use Rattle.refusal.specs.declared.Refusal.the-variants.{Job, Kind, State, Room, Text as TextRefusal, Turn}
+use Rattle.refusal.specs.declared.Refusal.the-variants.{Job, Kind, State, Room, Text as TextRefusal, Utf8, Turn}
 use Rattle.table.specs.Texts.{inside, shortText, maxBytes}
+use Rattle.utf8.specs.Utf8.{isUtf8}
 use Rattle.table.specs.Values.{valueOk}
 use Rattle.words.specs.Geometries.{isKind, maxWords}
 use Rattle.layer.specs.declared.Figures.{Figures}
@@ -21,7 +22,7 @@ use Rattle.layer.specs.declared.whole_feature.Head.{Head}
 use Rattle.layer.specs.Held.{Memory, Seen, Change, holds, check, fits, next}
 use Rattle.layer.specs.State.{valid}
 use Rattle.layer.specs.Calls.{isShut, moreWords, withUsed, withFeatures, newRecord, recordWith, Tag, isValue, keyFound, valueFound, tagPut}
-use Rattle.layer.specs.TagLists.{tagOk, tagsOk, textPlace, shortTag, tagsShort, tagOf, tagsOf}
+use Rattle.layer.specs.TagLists.{tagOk, tagsOk, textPlace, shortTag, tagsShort, tagUtf8, tagsUtf8, tagOf, tagsOf}
 use Rattle.layer.specs.Whole.{featureOpened, tagsPut, featurePut, addFeature}
 use Rattle.layer.proofs.Fitting.{both}
 use Rattle.layer.proofs.Keeping.{Lengths, Sound, sound, fine, is-shut, tag-sound, opened-sound}
@@ -45,32 +46,34 @@ one-call t false e rest h = absurd (let z : _≡_ {A = ℕ} 0 1 = cc in omega ar
 short-key : (bytes : List ℕ) (start len : ℕ) → shortText len ≡ true → shortText (length (take len (drop start bytes))) ≡ true
 short-key bytes start len h = le-leb (length (take len (drop start bytes))) maxBytes (omega (arith, length-take len (drop start bytes), leb-true len maxBytes h))
 
-module _ (t : Tag) (u : Seen) (o : Figures) (S : Sound u) (f : u .layer .feature ≡ Since o) (k : shortText (length (t .key)) ≡ true) (x : shortText (length (t .text)) ≡ true) (h : fits (tagPut o t u .layer .used) (u .room) ≡ true) (b : fits (u .layer .used) (u .room) ≡ true) where
+module _ (t : Tag) (u : Seen) (o : Figures) (S : Sound u) (f : u .layer .feature ≡ Since o) (k : shortText (length (t .key)) ≡ true) (x : shortText (length (t .text)) ≡ true) (y : isUtf8 (t .key) ≡ true) (z : isUtf8 (t .text) ≡ true) (h : fits (tagPut o t u .layer .used) (u .room) ≡ true) (b : fits (u .layer .used) (u .room) ≡ true) where
   tag-does : (g : isValue (t .value) ≡ true) → does (tags t g) u ≡ holds (tagPut o t u .layer) (tagPut o t u .held)
-  tag-does g = rw (fine u S b .stands, k, x, f, h)
+  tag-does g = rw (fine u S b .stands, k, x, y, z, f, h)
 
-tags-run : (bytes ws : List ℕ) → tagsOk (length bytes) ws ≡ true → tagsShort ws ≡ true → (o : Figures) (u : Seen) → u .layer .feature ≡ Since o → Sound u → fits (tagsPut o (tagsOf bytes ws) u .layer .used) (u .room) ≡ true → (rest : List Call) → runs (tagCalls (tagsOf bytes ws) ++ rest) u ≡ runs rest (tagsPut o (tagsOf bytes ws) u)
-tags-run bytes [] e s o u f S h rest = refl
-tags-run bytes (a ∷ []) e s o u f S h rest = refl
-tags-run bytes (a ∷ b ∷ []) e s o u f S h rest = refl
-tags-run bytes (a ∷ b ∷ c ∷ []) e s o u f S h rest = refl
-tags-run bytes (a ∷ b ∷ c ∷ d ∷ []) e s o u f S h rest = refl
-tags-run bytes (start ∷ len ∷ kind ∷ low ∷ high ∷ ws) e s o u f S h rest =
+tags-run : (bytes ws : List ℕ) → tagsOk (length bytes) ws ≡ true → tagsShort ws ≡ true → tagsUtf8 (tagsOf bytes ws) ≡ true → (o : Figures) (u : Seen) → u .layer .feature ≡ Since o → Sound u → fits (tagsPut o (tagsOf bytes ws) u .layer .used) (u .room) ≡ true → (rest : List Call) → runs (tagCalls (tagsOf bytes ws) ++ rest) u ≡ runs rest (tagsPut o (tagsOf bytes ws) u)
+tags-run bytes [] e s w o u f S h rest = refl
+tags-run bytes (a ∷ []) e s w o u f S h rest = refl
+tags-run bytes (a ∷ b ∷ []) e s w o u f S h rest = refl
+tags-run bytes (a ∷ b ∷ c ∷ []) e s w o u f S h rest = refl
+tags-run bytes (a ∷ b ∷ c ∷ d ∷ []) e s w o u f S h rest = refl
+tags-run bytes (start ∷ len ∷ kind ∷ low ∷ high ∷ ws) e s y o u f S h rest =
     let t = tagOf bytes start len kind low high in
     let w = tagPut o t u in
     let p = yes (tagOk (length bytes) start len kind low high) (tagsOk (length bytes) ws) e in
     let q = yes (shortTag len kind low high) (tagsShort ws) s in
     let z = both (shortText len) (shortText (textPlace kind low high .len)) (q .0) in
+    let x = yes (tagUtf8 t) (tagsUtf8 (tagsOf bytes ws)) y in
+    let well = both (isUtf8 (t .key)) (isUtf8 (t .text)) (x .0) in
     let g = value-given (length bytes) kind low high (eqb kind 1) refl (both (inside (length bytes) start len) (valueOk (length bytes) kind low high) (p .0) .1) in
     let r = one-call t (isValue (t .value)) refl (tagCalls (tagsOf bytes ws) ++ rest) g in
     let H : fits (w .layer .used) (u .room) ≡ true = fits-before (w .layer .used) (tagsPut o (tagsOf bytes ws) w .layer .used) (u .room) (tags-grow o (tagsOf bytes ws) w) h in
     let B : fits (u .layer .used) (u .room) ≡ true = fits-before (u .layer .used) (w .layer .used) (u .room) (tags-grow o (t ∷ []) u) H in
-    let d = tag-does t u o S f (short-key bytes start len (z .0)) (short-key bytes (textPlace kind low high .start) (textPlace kind low high .len) (z .1)) H B (r .0) in
+    let d = tag-does t u o S f (short-key bytes start len (z .0)) (short-key bytes (textPlace kind low high .start) (textPlace kind low high .len) (z .1)) (well .0) (well .1) H B (r .0) in
     let j : tagCall t (isValue (t .value)) refl ++ tagCalls (tagsOf bytes ws) ++ rest ≡ tags t (r .0) ∷ (tagCalls (tagsOf bytes ws) ++ rest) =
     append-assoc (tagCall t (isValue (t .value)) refl) (tagCalls (tagsOf bytes ws)) rest ∙ r .1 in
     ap (λ (l : List Call). runs l u) j
     ∙ ap (λ (c : Change). andThen c u (λ v. runs (tagCalls (tagsOf bytes ws) ++ rest) v)) d
-    ∙ tags-run bytes ws (p .1) (q .1) o w f (tag-sound u S o f t (r .0) (keyFound t u) (valueFound t u)) h rest
+    ∙ tags-run bytes ws (p .1) (q .1) (x .1) o w f (tag-sound u S o f t (r .0) (keyFound t u) (valueFound t u)) h rest
 
 -- ---- the id
 module _ (f : Head) (words : List ℕ) (v : Seen) (S : Sound v) (k : isKind (f .kind) ≡ true) (s : v .layer .feature ≡ Shut) where
@@ -102,7 +105,8 @@ module _ (f : Head) (words ws bytes : List ℕ) (v : Seen) (L : valid v ≡ true
       let b = passed (isKind (f .kind)) Kind _ t h (a .1) in
       let c = passed (valid v) State _ t h (b .1) in
       let d = passed (tagsShort ws) TextRefusal _ t h (c .1) in
-      let g = passed (isShut (v .layer .feature)) Turn _ t h (d .1) in
+      let y = passed (tagsUtf8 (tagsOf bytes ws)) Utf8 _ t h (d .1) in
+      let g = passed (isShut (v .layer .feature)) Turn _ t h (y .1) in
       let m = passed (leb (length words) maxWords) Room _ t h (g .1) in
       let r = passed (fits (W .layer .used) (W .room)) Room (holds (W .layer) (W .held)) t h (m .1) in
       let S = sound v (c .0) (L (c .0)) in
@@ -117,6 +121,6 @@ module _ (f : Head) (words ws bytes : List ℕ) (v : Seen) (L : valid v ≡ true
       let closing : does closes all ≡ holds (W .layer) (W .held) = rw (fine all A (r .0) .stands, same-feature o ts u) in
       ap (λ (k : Change). andThen k v (λ w. runs (idCalls (f .«has_id») (f .id) ++ (tagCalls ts ++ (closes ∷ []))) w)) opening
       ∙ id-run f words v S (b .0) s B (f .«has_id») (f .id) (tagCalls ts ++ (closes ∷ []))
-      ∙ tags-run bytes ws (a .0) (d .0) o u refl (feature-opened f words ws bytes v S (a .0) (b .0) s) H (closes ∷ [])
+      ∙ tags-run bytes ws (a .0) (d .0) (y .0) o u refl (feature-opened f words ws bytes v S (a .0) (b .0) s) H (closes ∷ [])
       ∙ ap (λ (k : Change). andThen k all (λ w. runs [] w)) closing
       ∙ r .1

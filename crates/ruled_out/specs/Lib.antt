@@ -13,6 +13,7 @@ pub mod Stepping
 pub mod Tables
 pub mod Layers
 pub mod TagCalls
+pub mod IllFormed
 pub mod Features
 pub mod Wire
 pub mod LayerMessages

@@ -6,12 +6,13 @@ use mathlib.Core.List.{List, [], _∷_, _++_}
 use lib.IntN.{ℤ, pos, negsuc, natAbs}
 use lib.ListN.{length, getD, set, replicate}
 use native.Mathlib.Omega.{arith}
-use Rattle.refusal.specs.declared.Refusal.the-variants.{State, Text as TextRefusal}
+use Rattle.refusal.specs.declared.Refusal.the-variants.{State, Text as TextRefusal, Utf8}
 use Rattle.words.specs.Params.{param}
 use Rattle.table.specs.declared.Found.{Found}
 use Rattle.table.specs.declared.Found.the-variants.{At, Nothing}
 use Rattle.table.specs.declared.Value.{Value}
 use Rattle.table.specs.Texts.{shortText}
+use Rattle.utf8.specs.Utf8.{isUtf8}
 use Rattle.table.specs.Keys.{findKey}
 use Rattle.table.specs.Values.{findValue}
 use Rattle.layer.specs.declared.Figures.{Figures}
@@ -69,13 +70,14 @@ value-not-shared h = let e : _≡_ {A = ℕ} 1 2 = ap (λ c. usedAfter c .values
 -- ---- the tag calls: their checks
 -- TURN is asked before TEXT
 pub turn-before-text : ((t : Tag) (v : Seen) → addTag t v ≡ check (valid v) State (whenOpen (v .layer .feature)
-    (λ o. check (shortText (length (t .key))) TextRefusal (check (shortText (length (t .text))) TextRefusal (tagged t v o))))) → ⊥
+    (λ o. check (shortText (length (t .key))) TextRefusal (check (shortText (length (t .text))) TextRefusal
+    (check (isUtf8 (t .key)) Utf8 (check (isUtf8 (t .text)) Utf8 (tagged t v o))))))) → ⊥
 unfolding valid
 turn-before-text h = let e : _≡_ {A = ℕ} 11 12 = ap refusalOf (h (tagString (replicate 1025 0) []) whole) in omega arith
 
 -- a value's text of more than 1,024 bytes is taken
 pub long-value-taken : ((t : Tag) (v : Seen) → addTag t v ≡ check (valid v) State (check (shortText (length (t .key))) TextRefusal
-    (whenOpen (v .layer .feature) (λ o. tagged t v o)))) → ⊥
+    (check (isUtf8 (t .key)) Utf8 (check (isUtf8 (t .text)) Utf8 (whenOpen (v .layer .feature) (λ o. tagged t v o)))))) → ⊥
 unfolding valid
 long-value-taken h = let e : _≡_ {A = ℕ} 11 12 = ap refusalOf (h (tagString [] (replicate 1025 0)) whole) in omega arith
 

@@ -3,4 +3,4 @@
 use Prim.Native.Nat.{ℕ}
 
 abbrev pub interfaceVersion : ℕ
-interfaceVersion = 4
+interfaceVersion = 5

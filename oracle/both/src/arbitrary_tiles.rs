@@ -1,14 +1,15 @@
 //! Arbitrary layers, tiles and lists through our library: no crash, every guard unharmed, a refused call writes nothing and gives its state back.
 //! Most are valid ones with something damaged. The refusals before ROOM are held against document 01's rules (`held`); whole features in everything that they
-//! answer and write (`whole`), by turns with lists about as long as they need.
+//! answer and write (`whole`), by turns with lists about as long as they need. Texts that are given may be no UTF-8, which is refused; those
+//! that are stored may be none too, and no call looks into them.
 
 use crate::held::{Held, STATE};
-use crate::judge::{KIND, ROOM};
+use crate::judge::{JOB, KIND, ROOM};
 use crate::lent::Watched;
 use crate::many::{self, Together};
 use crate::random::Random;
 use crate::report::{Difference, Tally};
-use crate::tile_judge::{Memory, EXTENT, NAME, TEXT, TEXT_LIMIT, TURN};
+use crate::tile_judge::{refuses_texts, Memory, EXTENT, NAME, TEXT, TURN, UTF8};
 use crate::whole::Whole;
 use ours::tiles::{self, Changed, Counted, Figures, Head, Indexes, Layer, Tile, Value};
 
@@ -23,9 +24,10 @@ fn number(random: &mut Random) -> u32 {
 }
 
 fn bytes(random: &mut Random, most: usize) -> Vec<u8> {
-    // Few different ones, so that texts are found again.
+    // Few different ones, so that texts are found again; of the second three not all that is made of them is UTF-8.
+    let few = random.pick(&[[0, 1, 2], [0, 1, 2], [b'a', 0xc3, 0xa9]]);
     (0..random.below(most + 1))
-        .map(|_| random.below(3) as u8)
+        .map(|_| random.pick(&few))
         .collect()
 }
 
@@ -313,10 +315,11 @@ fn counted(call: &'static str, given: Counted, first: u32) -> Said {
     }
 }
 
-/// A text: short, or about as long as the limit.
+/// A text: short, or about as long as the limit; or bytes that are none.
 fn text(random: &mut Random) -> Vec<u8> {
     if random.chance(12) {
-        return vec![1; random.between(1023, 1026) as usize];
+        let byte = random.pick(&[1, 1, 1, 0xe9]);
+        return vec![byte; random.between(1023, 1026) as usize];
     }
     bytes(random, 4)
 }
@@ -331,11 +334,11 @@ fn tag(random: &mut Random, held: &Held, memory: &mut Memory) -> Said {
     };
     let (mut lists, _) = memory.lent();
     let given = held.layer.add_tag(&key, value, &mut lists);
-    let long = key.len() > TEXT_LIMIT || kind == 1 && content.len() > TEXT_LIMIT;
-    let first = match state_or_turn(held, 1) {
-        STATE => STATE,
-        _ if long => TEXT,
-        refusal => refusal,
+    let texts = if kind == 1 { &content[..] } else { &[] };
+    let first = match (state_or_turn(held, 1), refuses_texts(&[&key, texts])) {
+        (STATE, _) => STATE,
+        (turn, 0) => turn,
+        (_, refusal) => refusal,
     };
     changed(held, "tags", given, first, &[ROOM], "kvtf")
 }
@@ -491,12 +494,9 @@ fn create(random: &mut Random, held: &Held, memory: &mut Memory) -> Said {
     } else {
         tiles::layer(&name, number(random), lists.texts)
     };
-    let first = if name.len() > TEXT_LIMIT {
-        TEXT
-    } else if name.len() > held.texts.len() {
-        ROOM
-    } else {
-        0
+    let first = match refuses_texts(&[&name]) {
+        0 if name.len() > held.texts.len() => ROOM,
+        refusal => refusal,
     };
     let mut said = changed(held, "layers created", given, first, &[], "t");
     said.back = given.layer == Layer::refused();
@@ -705,34 +705,28 @@ pub fn run(seed: u64, count: usize, tally: &mut Tally) -> Option<Difference> {
         tally.add("calls", 1);
         tally.add(how, 1);
         tally.add(said.call, 1);
-        tally.add(NAMES[said.refusal as usize], 1);
+        let [name, of_whole] = names(said.refusal);
+        tally.add(name, 1);
         if [WHOLE, SEVERAL].contains(&said.call) {
-            tally.add(OF_WHOLE[said.refusal as usize], 1);
+            tally.add(of_whole, 1);
         }
     }
     None
 }
 
-const NAMES: [&str; 15] = [
-    "accepted", "JOB", "KIND", "", "STATE", "", "", "ROOM", "", "", "", "TEXT", "TURN", "EXTENT",
-    "NAME",
-];
-
-/// The same of the calls that take whole features.
-const OF_WHOLE: [&str; 15] = [
-    "features accepted",
-    "features JOB",
-    "features KIND",
-    "",
-    "features STATE",
-    "",
-    "",
-    "features ROOM",
-    "",
-    "",
-    "",
-    "features TEXT",
-    "features TURN",
-    "",
-    "",
-];
+/// A refusal by its name, and that of a call that takes whole features.
+fn names(refusal: u32) -> [&'static str; 2] {
+    match refusal {
+        0 => ["accepted", "features accepted"],
+        JOB => ["JOB", "features JOB"],
+        KIND => ["KIND", "features KIND"],
+        STATE => ["STATE", "features STATE"],
+        ROOM => ["ROOM", "features ROOM"],
+        TEXT => ["TEXT", "features TEXT"],
+        TURN => ["TURN", "features TURN"],
+        EXTENT => ["EXTENT", ""],
+        NAME => ["NAME", ""],
+        UTF8 => ["UTF8", "features UTF8"],
+        _ => panic!("refusal {refusal} is in no rule"),
+    }
+}

@@ -23,6 +23,8 @@ mod recount;
 mod report;
 mod scripts;
 mod shrink;
+mod text_lists;
+mod texts;
 mod tile_judge;
 mod tiles;
 mod varints;
@@ -33,7 +35,7 @@ use jobs::Spoil;
 use report::{Difference, Tally};
 use std::process::exit;
 
-const USAGE: &str = "usage: both jobs|clips|counts|laws|readings|tiles|varints|arbitrary|arbitrary-tiles|spoiled-jobs|spoiled-clips|spoiled-turned|spoiled-moved|spoiled-edges|spoiled-calls|spoiled-taken|spoiled-boundary|spoiled-skipped|spoiled-taken-out|spoiled-refused|spoiled-most|spoiled-vertices|spoiled-finished|spoiled-readings|spoiled-place|spoiled-cuts|spoiled-command-count|spoiled-close|spoiled-nought|spoiled-written|spoiled-behind|spoiled-tiles|spoiled-varints|spoiled-arbitrary SEED COUNT, or both cases jobs|large_jobs|clips|tiles|large_tiles|readings SEED COUNT";
+const USAGE: &str = "usage: both jobs|clips|counts|laws|readings|texts|tiles|varints|arbitrary|arbitrary-tiles|spoiled-jobs|spoiled-clips|spoiled-turned|spoiled-moved|spoiled-edges|spoiled-calls|spoiled-taken|spoiled-boundary|spoiled-skipped|spoiled-taken-out|spoiled-refused|spoiled-most|spoiled-vertices|spoiled-finished|spoiled-readings|spoiled-place|spoiled-cuts|spoiled-command-count|spoiled-close|spoiled-nought|spoiled-written|spoiled-behind|spoiled-texts|spoiled-text-calls|spoiled-text-order|spoiled-tiles|spoiled-varints|spoiled-arbitrary SEED COUNT, or both cases jobs|large_jobs|clips|tiles|large_tiles|readings|texts SEED COUNT";
 
 fn run(kind: &str, seed: u64, count: usize, tally: &mut Tally) -> Option<Difference> {
     match kind {
@@ -73,9 +75,14 @@ fn run(kind: &str, seed: u64, count: usize, tally: &mut Tally) -> Option<Differe
         "spoiled-nought" => readings::compare(seed, count, readings::Spoil::Nought, tally),
         "spoiled-written" => readings::compare(seed, count, readings::Spoil::Written, tally),
         "spoiled-behind" => readings::compare(seed, count, readings::Spoil::Behind, tally),
-        "tiles" => tiles::compare(seed, count, false, tally),
+        "texts" => texts::compare(seed, count, texts::Spoil::Nothing, tally),
+        // The same: a surrogate is accepted, UTF8 is said to be TEXT by calls on a layer, and to be TURN where more than one check fails.
+        "spoiled-texts" => texts::compare(seed, count, texts::Spoil::Surrogate, tally),
+        "spoiled-text-calls" => texts::compare(seed, count, texts::Spoil::Call, tally),
+        "spoiled-text-order" => texts::compare(seed, count, texts::Spoil::Order, tally),
+        "tiles" => tiles::compare(seed, count, tiles::Spoil::Nothing, tally),
         // The same: a byte of ours is changed.
-        "spoiled-tiles" => tiles::compare(seed, count, true, tally),
+        "spoiled-tiles" => tiles::compare(seed, count, tiles::Spoil::Byte, tally),
         "varints" => varints::compare(seed, count, false, tally),
         // The same: our size is one more.
         "spoiled-varints" => varints::compare(seed, count, true, tally),

@@ -1,8 +1,9 @@
 //! Scripts of whole features for lists that are just as long as they need, or too short by an element or an entry. Keys and values come again within a feature and from
-//! feature to feature, and zeros of both signs in one, so that a feature needs less than a new key and a new value for each tag.
+//! feature to feature, and zeros of both signs in one, so that a feature needs less than a new key and a new value for each tag. A feature with a text that
+//! is not UTF-8 may stand between them: it is refused as that though there is no room for it, and takes none.
 
 use crate::random::Random;
-use crate::scripts::{Operation, Value};
+use crate::scripts::{Operation, Value, ILL_FORMED};
 use crate::tile_judge::Rooms;
 
 const TEXTS: [&[u8]; 5] = [b"", b"a", b"b", b"ab", b"ba"];
@@ -23,14 +24,43 @@ const BITS: [(u32, u64); 12] = [
     (7, 1),
 ];
 
-fn tag(random: &mut Random) -> Operation {
-    let value = if random.chance(3) {
+fn value(random: &mut Random) -> Value {
+    if random.chance(3) {
         Value::Text(random.pick(&TEXTS).to_vec())
     } else {
         let (kind, bits) = random.pick(&BITS);
         Value::Bits(kind, bits)
-    };
+    }
+}
+
+fn tag(random: &mut Random) -> Operation {
+    let value = value(random);
     Operation::Tag(random.pick(&TEXTS).to_vec(), value)
+}
+
+/// A tag whose key or text is not UTF-8.
+fn ill_formed_tag(random: &mut Random) -> Operation {
+    let bad = random.pick(&ILL_FORMED).to_vec();
+    if random.chance(2) {
+        Operation::Tag(bad, value(random))
+    } else {
+        Operation::Tag(random.pick(&TEXTS).to_vec(), Value::Text(bad))
+    }
+}
+
+/// A script with one more feature before one of its own or behind them, of one to five tags; one of them is ill-formed.
+pub fn disturbed(random: &mut Random, mut operations: Vec<Operation>) -> Vec<Operation> {
+    let places: Vec<usize> = (0..operations.len())
+        .filter(|at| matches!(operations[*at], Operation::Open(..) | Operation::Add))
+        .collect();
+    let mut tags: Vec<Operation> = (0..random.below(5)).map(|_| tag(random)).collect();
+    tags.insert(random.below(tags.len() + 1), ill_formed_tag(random));
+    let mut feature = vec![Operation::Open(1, Vec::new())];
+    feature.extend(tags);
+    feature.push(Operation::Close);
+    let at = random.pick(&places);
+    operations.splice(at..at, feature);
+    operations
 }
 
 /// A layer of one to four features, which is added to its tile.

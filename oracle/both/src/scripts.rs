@@ -25,6 +25,21 @@ const TEXTS: [&[u8]; 9] = [
     "\u{e9}".as_bytes(),
     "\u{65e5}\u{672c}".as_bytes(),
 ];
+/// No texts: bytes of Latin-1, bytes that only continue, longer forms than needed, a surrogate, sequences that are cut, and what lies beyond U+10FFFF.
+pub const ILL_FORMED: [&[u8]; 12] = [
+    b"\xe9",
+    b"\x80",
+    b"\xc0\xaf",
+    b"\xc3",
+    b"\xe0\x80\xaf",
+    b"\xed\xa0\x80",
+    b"\xe2\x82",
+    b"\xf0\x80\x80\xaf",
+    b"\xf4\x90\x80\x80",
+    b"\xf5\x80\x80\x80",
+    b"abcd\xff",
+    b"nam\xe9s",
+];
 const FLOATS: [u64; 10] = [
     0,
     0x8000_0000,
@@ -159,10 +174,10 @@ fn longs() -> Vec<u64> {
     found
 }
 
-/// The values of a kind.
-fn values(kind: u32) -> Vec<Value> {
+/// The values of a kind; the texts are these.
+fn values(kind: u32, texts: &[&[u8]]) -> Vec<Value> {
     let bits: Vec<u64> = match kind {
-        TEXT => return TEXTS.iter().map(|t| Value::Text(t.to_vec())).collect(),
+        TEXT => return texts.iter().map(|t| Value::Text(t.to_vec())).collect(),
         FLOAT => FLOATS.to_vec(),
         DOUBLE => DOUBLES.to_vec(),
         BOOL => vec![0, 1],
@@ -227,7 +242,7 @@ pub fn fixed_tiles() -> Vec<Vec<u8>> {
         Add,
     ]);
     for kind in TEXT..=BOOL {
-        let tags: Vec<Operation> = values(kind)
+        let tags: Vec<Operation> = values(kind, &TEXTS)
             .into_iter()
             .map(|value| Operation::Tag(b"k".to_vec(), value))
             .collect();
@@ -244,6 +259,7 @@ pub fn fixed_tiles() -> Vec<Vec<u8>> {
     abandoned(&mut more);
     sizes(&mut more);
     outside(&mut more);
+    ill_formed(&mut more);
     let a = create(b"a", 4096);
     all.push([script(4096, &[a.clone()]), le(&[0])].concat());
     all.push([script(4096, &[a]), le(&[8])].concat());
@@ -340,12 +356,23 @@ fn outside(more: &mut impl FnMut(&[Operation])) {
     more(&[a(), point(), tag(b"k", BOOL, 2), Close, Add]);
 }
 
-fn random_tile(random: &mut Random) -> Vec<u8> {
+/// No text as a layer's name, as a key and as a value, and the calls after it.
+fn ill_formed(more: &mut impl FnMut(&[Operation])) {
+    let a = || create(b"a", 4096);
+    let point = || open(POINT, &[9, 10, 14]);
+    for bad in ILL_FORMED {
+        let tags = [tag(bad, INT, 1), tag_text(b"k", bad), tag(b"k", INT, 1)];
+        let feature = [vec![a(), create(bad, 4096), point()], tags.to_vec()].concat();
+        more(&[feature, vec![Close, Add]].concat());
+    }
+}
+
+fn random_tile(random: &mut Random, texts: &[&[u8]]) -> Vec<u8> {
     let extent = random.pick(&EXTENTS);
     let mut operations = Vec::new();
     for _ in 0..random.between(1, 3) {
         let other = random.chance(5);
-        let name = random.pick(&TEXTS);
+        let name = random.pick(texts);
         let own = if other { random.pick(&EXTENTS) } else { extent };
         operations.push(create(name, own));
         for _ in 0..random.below(4) {
@@ -361,8 +388,8 @@ fn random_tile(random: &mut Random) -> Vec<u8> {
             }
             for _ in 0..random.below(5) {
                 let kind = random.between(i64::from(TEXT), i64::from(BOOL)) as u32;
-                let key = random.pick(&TEXTS).to_vec();
-                let values = values(kind);
+                let key = random.pick(texts).to_vec();
+                let values = values(kind, texts);
                 let value = values[random.below(values.len())].clone();
                 operations.push(Operation::Tag(key, value));
             }
@@ -385,9 +412,13 @@ fn damaged_tile(random: &mut Random, mut good: Vec<u8>) -> Vec<u8> {
     good
 }
 
-/// The random script of that place in the run.
+/// The random script of that place in the run. Three of 64 have names, keys and values that are no texts; the 60 that are kept come before them.
 pub fn next_tile(random: &mut Random, at: usize) -> Vec<u8> {
-    let good = random_tile(random);
+    if (60..63).contains(&(at % 64)) {
+        let texts = [&TEXTS[..], &TEXTS, &TEXTS, &ILL_FORMED].concat();
+        return random_tile(random, &texts);
+    }
+    let good = random_tile(random, &TEXTS);
     if at % 8 == 7 {
         damaged_tile(random, good)
     } else {

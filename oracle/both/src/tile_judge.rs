@@ -11,11 +11,29 @@ pub const TEXT: u32 = 11;
 pub const TURN: u32 = 12;
 pub const EXTENT: u32 = 13;
 pub const NAME: u32 = 14;
+/// A text that is not well-formed UTF-8: request (viii).
+pub const UTF8: u32 = 22;
 
 /// The most bytes of a text, from document 01.
 pub const TEXT_LIMIT: usize = 1_024;
 /// The most keys of a layer, and the most values.
 pub const MAX_ENTRIES: usize = 65_536;
+
+/// Whether the Rust takes these bytes for a text: its `&str` is well-formed UTF-8.
+pub fn is_text(bytes: &[u8]) -> bool {
+    std::str::from_utf8(bytes).is_ok()
+}
+
+/// TEXT or UTF8 of the texts that a call is given, or 0: all lengths come first.
+pub fn refuses_texts(texts: &[&[u8]]) -> u32 {
+    if texts.iter().any(|text| text.len() > TEXT_LIMIT) {
+        TEXT
+    } else if !texts.iter().all(|text| is_text(text)) {
+        UTF8
+    } else {
+        0
+    }
+}
 
 /// The lengths of the lists: keys, values, texts, features, names, bytes.
 pub type Rooms = [usize; 6];
@@ -99,7 +117,7 @@ enum Hand {
 }
 
 fn utf8(text: &[u8]) -> &str {
-    std::str::from_utf8(text).expect("texts that are not UTF-8 are left out before")
+    std::str::from_utf8(text).expect("texts that are not UTF-8 are refused before")
 }
 
 /// An accepted operation on the Rust's layer. Adding is not one of them.
@@ -247,7 +265,8 @@ impl TileJudge {
         refusal
     }
 
-    /// What a whole feature is refused for, or 0: KIND, TEXT, TURN, and last ROOM, of exactly what it needs. A key or a value that comes twice in it is stored once.
+    /// What a whole feature is refused for, or 0: KIND, TEXT, UTF8, TURN, and last ROOM, of exactly what it needs. A key or a value that comes twice in it is
+    /// stored once.
     pub fn refuses_whole(
         &self,
         kind: u32,
@@ -255,15 +274,16 @@ impl TileJudge {
         tags: &[(&[u8], &Value)],
         memory: &Memory,
     ) -> u32 {
-        let long = |text: &[u8]| text.len() > TEXT_LIMIT;
         if !(1..=3).contains(&kind) {
             return KIND;
         }
-        if tags
+        let texts: Vec<&[u8]> = tags
             .iter()
-            .any(|(key, value)| long(key) || long(value.text()))
-        {
-            return TEXT;
+            .flat_map(|(key, value)| [*key, value.text()])
+            .collect();
+        let refusal = refuses_texts(&texts);
+        if refusal != 0 {
+            return refusal;
         }
         if self.layer.is_open == 1 {
             return TURN;
@@ -319,8 +339,9 @@ impl TileJudge {
     }
 
     fn create(&mut self, extent: u32, name: &[u8], memory: &mut Memory) -> u32 {
-        if name.len() > TEXT_LIMIT {
-            return TEXT;
+        let refusal = refuses_texts(&[name]);
+        if refusal != 0 {
+            return refusal;
         }
         if name.len() > memory.texts.room() {
             return ROOM;
@@ -369,11 +390,12 @@ impl TileJudge {
         self.values.truncate(used.values);
     }
 
-    /// TEXT, TURN, ROOM; else the tag's entries are stored if they are new, and its indices stand behind the open feature.
+    /// TEXT, UTF8, TURN, ROOM; else the tag's entries are stored if they are new, and its indices stand behind the open feature.
     fn tag(&mut self, key: &[u8], value: &Value, memory: &mut Memory) -> u32 {
         let text = value.text();
-        if key.len() > TEXT_LIMIT || text.len() > TEXT_LIMIT {
-            return TEXT;
+        let refusal = refuses_texts(&[key, text]);
+        if refusal != 0 {
+            return refusal;
         }
         if self.layer.is_open == 0 {
             return TURN;

@@ -8,8 +8,18 @@ use crate::random::Random;
 use crate::report::{Difference, Tally};
 use crate::scripts::{self, Operation, Value};
 use crate::shrink;
-use crate::tile_judge::{Memory, Rooms, TileJudge};
+use crate::tile_judge::{is_text, Memory, Rooms, TileJudge, TEXT, UTF8};
 use ours::tiles::{self, Head, Indexes, Layer, Tile};
+
+/// What is changed of ours before it is compared, to show that it is found.
+#[derive(Clone, Copy, PartialEq)]
+pub enum Spoil {
+    Nothing,
+    /// A byte of the tile.
+    Byte,
+    /// UTF8 is said to be TEXT.
+    Text,
+}
 
 #[derive(Clone, Debug)]
 struct Script {
@@ -25,11 +35,12 @@ struct Script {
 
 /// What was compared.
 #[derive(Default)]
-struct Counts {
-    calls: usize,
+pub struct Counts {
+    pub calls: usize,
     whole: usize,
     many: usize,
-    refused: [usize; 15],
+    /// By the refusal's number; 0 is accepted.
+    pub refused: [usize; 23],
     no_layer: usize,
     tags: usize,
     bytes: usize,
@@ -99,28 +110,30 @@ impl<'a> Feature<'a> {
         calls
     }
 
-    /// Its tags, five words each, and the bytes of their texts.
     fn lists(&self) -> (Vec<u32>, Vec<u8>) {
-        let (mut words, mut bytes) = (Vec::new(), Vec::new());
-        let mut put = |text: &[u8]| {
-            let place = [bytes.len() as u32, text.len() as u32];
-            bytes.extend(text);
-            place
-        };
-        for (key, value) in &self.tags {
-            words.extend(put(key));
-            match value {
-                Value::Text(text) => {
-                    words.push(scripts::TEXT);
-                    words.extend(put(text));
-                }
-                Value::Bits(kind, bits) => {
-                    words.extend([*kind, *bits as u32, (*bits >> 32) as u32])
-                }
-            }
-        }
-        (words, bytes)
+        tag_lists(&self.tags)
     }
+}
+
+/// Tags as one call takes them, five words each, and the bytes of their texts.
+pub fn tag_lists(tags: &[(&[u8], &Value)]) -> (Vec<u32>, Vec<u8>) {
+    let (mut words, mut bytes) = (Vec::new(), Vec::new());
+    let mut put = |text: &[u8]| {
+        let place = [bytes.len() as u32, text.len() as u32];
+        bytes.extend(text);
+        place
+    };
+    for (key, value) in tags {
+        words.extend(put(key));
+        match value {
+            Value::Text(text) => {
+                words.push(scripts::TEXT);
+                words.extend(put(text));
+            }
+            Value::Bits(kind, bits) => words.extend([*kind, *bits as u32, (*bits >> 32) as u32]),
+        }
+    }
+    (words, bytes)
 }
 
 /// A run of both sides.
@@ -132,7 +145,7 @@ struct Run {
     counts: Counts,
     /// The turn at the first call.
     turn: usize,
-    spoil: bool,
+    spoil: Spoil,
 }
 
 impl Run {
@@ -171,7 +184,7 @@ impl Run {
             Operation::Abandon => layer.abandon(lent),
             Operation::Add => {
                 let added = tile.add_layer(layer, lent, &mut tile_lists);
-                if self.spoil && added.refusal == 0 && added.tile.used > 12 {
+                if self.spoil == Spoil::Byte && added.refusal == 0 && added.tile.used > 12 {
                     tile_lists.bytes[12] ^= 1;
                 }
                 return (added.refusal, layer, added.tile);
@@ -258,9 +271,12 @@ impl Run {
     fn compared(
         &mut self,
         what: &str,
-        said: (u32, Layer, Tile),
+        mut said: (u32, Layer, Tile),
         refusal: u32,
     ) -> Result<(), String> {
+        if self.spoil == Spoil::Text && said.0 == UTF8 {
+            said.0 = TEXT;
+        }
         let wanted = (refusal, self.judge.layer, self.judge.tile);
         // A layer that there is not is not looked at.
         if said != wanted && (said.0 != wanted.0 || self.judge.has_layer() || said.2 != wanted.2) {
@@ -314,7 +330,7 @@ impl Run {
     }
 }
 
-fn run(script: &Script, spoil: bool) -> Result<Counts, String> {
+fn run(script: &Script, spoil: Spoil) -> Result<Counts, String> {
     let mut run = Run {
         judge: TileJudge::new(script.extent),
         memory: Memory::new(script.rooms),
@@ -366,11 +382,28 @@ fn run(script: &Script, spoil: bool) -> Result<Counts, String> {
     Ok(run.counts)
 }
 
-fn tried(script: &Script, spoil: bool) -> Result<Counts, String> {
+fn tried(script: &Script, spoil: Spoil) -> Result<Counts, String> {
     std::panic::catch_unwind(|| run(script, spoil)).unwrap_or_else(|panic| {
         let text = panic.downcast_ref::<String>().cloned();
         Err(format!("panic: {}", text.unwrap_or_default()))
     })
+}
+
+/// A script with more room than it can use: what was compared, or what differs.
+pub fn answers(
+    operations: Vec<Operation>,
+    whole: bool,
+    turn: usize,
+    spoil: Spoil,
+) -> Result<Counts, String> {
+    let script = Script {
+        extent: 4096,
+        rooms: bounds(&operations),
+        operations,
+        whole,
+        turn,
+    };
+    tried(&script, spoil)
 }
 
 /// More than a script can use of each list.
@@ -459,10 +492,11 @@ fn simpler(script: &Script) -> Vec<Script> {
 
 fn smaller(operation: &Operation) -> Vec<Operation> {
     let shorter = |text: &[u8]| -> Vec<Vec<u8>> {
-        // Cut where what is left is a text.
+        // A text is cut where what is left is one.
+        let good = is_text(text);
         [0, text.len() / 2, text.len().saturating_sub(1)]
             .into_iter()
-            .filter(|cut| *cut < text.len() && std::str::from_utf8(&text[..*cut]).is_ok())
+            .filter(|cut| *cut < text.len() && (!good || is_text(&text[..*cut])))
             .map(|cut| text[..cut].to_vec())
             .collect()
     };
@@ -534,9 +568,14 @@ fn disordered(random: &mut Random, mut operations: Vec<Operation>) -> Vec<Operat
     operations
 }
 
-/// A kind that is none, or a text about as long as the limit.
+/// A kind that is none, or a text that is not UTF-8, about as long as the limit, or both.
 fn spoil(random: &mut Random, operation: &mut Operation) {
-    let text = vec![b't'; random.between(1023, 1026) as usize];
+    let mut text = vec![b't'; random.between(1023, 1026) as usize];
+    match random.below(4) {
+        0 => text[0] = 0xe9,
+        1 => text = random.pick(&scripts::ILL_FORMED).to_vec(),
+        _ => {}
+    }
     match operation {
         Operation::Create(_, name) => *name = text,
         Operation::Open(kind, _) => *kind = random.pick(&[0, 4, 7, u32::MAX]),
@@ -546,21 +585,21 @@ fn spoil(random: &mut Random, operation: &mut Operation) {
     }
 }
 
-/// Whether the Rust can be asked: its texts are UTF-8.
-fn is_text(operation: &Operation) -> bool {
-    let good = |text: &[u8]| std::str::from_utf8(text).is_ok();
+/// Whether all its texts are UTF-8.
+fn has_texts(operation: &Operation) -> bool {
     match operation {
-        Operation::Create(_, name) => good(name),
-        Operation::Tag(key, value) => good(key) && good(value.text()),
+        Operation::Create(_, name) => is_text(name),
+        Operation::Tag(key, value) => is_text(key) && is_text(value.text()),
         _ => true,
     }
 }
 
-const REFUSALS: [(usize, &str); 7] = [
+const REFUSALS: [(usize, &str); 8] = [
     (0, "accepted"),
     (2, "KIND"),
     (7, "ROOM"),
     (11, "TEXT"),
+    (22, "UTF8"),
     (12, "TURN"),
     (13, "EXTENT"),
     (14, "NAME"),
@@ -571,7 +610,7 @@ fn one(
     file: &[u8],
     random: &mut Random,
     at: usize,
-    spoil: bool,
+    spoil: Spoil,
     tally: &mut Tally,
 ) -> Option<Difference> {
     let Some((extent, mut operations, read)) = scripts::taken_apart(file) else {
@@ -580,10 +619,6 @@ fn one(
     };
     if !read {
         tally.add("scripts compared as far as they can be read", 1);
-    }
-    if let Some(cut) = operations.iter().position(|o| !is_text(o)) {
-        operations.truncate(cut);
-        tally.add("scripts compared up to a text that is not UTF-8", 1);
     }
     if at % 5 == 4 {
         operations = disordered(random, operations);
@@ -598,7 +633,7 @@ fn held_against(
     operations: Vec<Operation>,
     random: &mut Random,
     at: usize,
-    spoil: bool,
+    spoil: Spoil,
     tally: &mut Tally,
 ) -> Option<Difference> {
     let rooms = rooms(peaks(extent, &operations), random, at);
@@ -617,13 +652,16 @@ fn held_against(
 fn tallied(
     script: Script,
     how: &'static str,
-    spoil: bool,
+    spoil: Spoil,
     tally: &mut Tally,
 ) -> Option<Difference> {
     match tried(&script, spoil) {
         Ok(counts) => {
             tally.add("scripts", 1);
             tally.add(how, 1);
+            if !script.operations.iter().all(has_texts) {
+                tally.add("with a text that is not UTF-8", 1);
+            }
             tally.add("calls", counts.calls);
             tally.add("of them whole features", counts.whole);
             tally.add("of them several features at once", counts.many);
@@ -650,11 +688,15 @@ fn tallied(
 }
 
 /// Scripts of whole features alone, in lists just as long as they need and in shorter ones.
-fn near_full(seed: u64, count: usize, spoil: bool, tally: &mut Tally) -> Option<Difference> {
+fn near_full(seed: u64, count: usize, spoil: Spoil, tally: &mut Tally) -> Option<Difference> {
     let mut random = Random::new(seed ^ 0xF011);
     for _ in 0..count {
-        let (operations, turn) = (near::script(&mut random), random.below(16));
-        for rooms in near::rooms(peaks(4096, &operations)) {
+        let (mut operations, turn) = (near::script(&mut random), random.below(16));
+        let needed = peaks(4096, &operations);
+        if random.chance(4) {
+            operations = near::disturbed(&mut random, operations);
+        }
+        for rooms in near::rooms(needed) {
             let script = Script {
                 extent: 4096,
                 operations: operations.clone(),
@@ -672,7 +714,7 @@ fn near_full(seed: u64, count: usize, spoil: bool, tally: &mut Tally) -> Option<
 }
 
 /// A geometry that is too wide though there is room for it, by its own call and as a whole feature.
-fn too_wide(spoil: bool, tally: &mut Tally) -> Option<Difference> {
+fn too_wide(spoil: Spoil, tally: &mut Tally) -> Option<Difference> {
     for operations in scripts::widest_tiles() {
         for turn in 0..4 {
             let script = Script {
@@ -691,7 +733,7 @@ fn too_wide(spoil: bool, tally: &mut Tally) -> Option<Difference> {
 }
 
 /// The fixed and the large scripts in each of the three rooms, with single calls and whole features; the widest ones and the caps; whole features in lists that are nearly full; then the random ones.
-pub fn compare(seed: u64, count: usize, spoil: bool, tally: &mut Tally) -> Option<Difference> {
+pub fn compare(seed: u64, count: usize, spoil: Spoil, tally: &mut Tally) -> Option<Difference> {
     let mut rooms = Random::new(seed ^ 0x5EED);
     for file in scripts::fixed_tiles()
         .into_iter()

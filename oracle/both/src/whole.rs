@@ -1,9 +1,9 @@
 //! Whole features by the rules, written out: what a call with one of them, or with many, answers, and what the layer and its lists are after it.
-//! JOB, KIND, STATE, TEXT, TURN, and ROOM last, of the exact need; only then is anything written, so that a refused feature changes nothing.
+//! JOB, KIND, STATE, TEXT, UTF8, TURN, and ROOM last, of the exact need; only then is anything written, so that a refused feature changes nothing.
 
 use crate::held::{inside, is_value, Held, STATE};
 use crate::judge::{JOB, KIND, MAX_WORDS, ROOM};
-use crate::tile_judge::{MAX_ENTRIES, TEXT, TEXT_LIMIT, TURN};
+use crate::tile_judge::{is_text, MAX_ENTRIES, TEXT, TEXT_LIMIT, TURN, UTF8};
 use ours::tiles::{Features, Figures, Head, Layer};
 
 /// A feature with its geometry words, its tags of five words each, and the bytes of their texts.
@@ -29,6 +29,14 @@ impl Whole<'_> {
         self.tags
             .chunks(5)
             .any(|tag| long(tag[1]) || tag[2] == 1 && long(tag[4]))
+    }
+
+    /// Whether a key or a text is not well-formed.
+    fn is_ill_formed(&self) -> bool {
+        let bad = |start: u32, len: u32| !is_text(text(self.bytes, start, len));
+        self.tags
+            .chunks(5)
+            .any(|tag| bad(tag[0], tag[1]) || tag[2] == 1 && bad(tag[3], tag[4]))
     }
 }
 
@@ -136,6 +144,9 @@ impl Held {
         }
         if whole.is_long() {
             return TEXT;
+        }
+        if whole.is_ill_formed() {
+            return UTF8;
         }
         if self.layer.is_open == 1 {
             return TURN;

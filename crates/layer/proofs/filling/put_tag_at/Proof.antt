@@ -65,10 +65,10 @@ at-fit : (c : tie.After-place-at) → let g = start c .args in Fit (g .s .used) 
 at-fit c = let g = start c .args in let p = c .place-at .result in may-fit (g .s) (g .o) (part (g .bytes .now) (p .key)) (p .value) (part (g .bytes .now) (p .text)) (g .keys .now) (g .values .now) (g .texts .now) (g .features .now) (g .ki .now) (g .vi .now) (may c)
 
 key-in : (c : tie.After-place-at) → c .place-at .result .key .start + c .place-at .result .key .len ≤ length (start c .args .bytes .now)
-key-in c = let s = start c in key-room (s .args .bytes .now) (s .args .tags .now) (s .args .i) (s .pre .0) _ (c .place-at .ensures)
+key-in c = let s = start c in key-room (s .args .bytes .now) (s .args .tags .now) (s .args .i) (s .pre .0 .ok) _ (c .place-at .ensures)
 
 text-in : (c : tie.After-place-at) → c .place-at .result .text .start + c .place-at .result .text .len ≤ length (start c .args .bytes .now)
-text-in c = let s = start c in text-room (s .args .bytes .now) (s .args .tags .now) (s .args .i) (s .pre .0) _ (c .place-at .ensures)
+text-in c = let s = start c in text-room (s .args .bytes .now) (s .args .tags .now) (s .args .i) (s .pre .0 .ok) _ (c .place-at .ensures)
 
 place-at-requires : tie.Need-place-at-requires
 place-at-requires c κs = search needs

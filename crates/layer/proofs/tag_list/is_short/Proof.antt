@@ -1,5 +1,5 @@
--- Both lengths are read off the words, and each is asked.
-use Rattle.layer.proofs.Placing.{short-read}
+-- Both lengths are read off the words, the text's where there is one, and each is asked.
+use Rattle.layer.proofs.Placing.{long-key, no-long-text, text-length}
 use borrow.Author.Needs.{needs}
 use Rattle.layer.proofs.tag_list.is_short.Statement.{statement}
 use Rattle.layer.proofs.tag_list.is_short.Tie as tie
@@ -16,44 +16,41 @@ shared-slice-read-wide c = search needs
 wide-requires : tie.Need-wide-requires
 wide-requires c κs = search needs
 
-add-text-of : tie.Need-add-text-of
-add-text-of c = search needs
-
-mul-text-of : tie.Need-mul-text-of
-mul-text-of c = search needs
-
-shared-slice-read-text-of : tie.Need-shared-slice-read-text-of
-shared-slice-read-text-of c = search needs
-
-add-text-of-2 : tie.Need-add-text-of-2
-add-text-of-2 c = search needs
-
-mul-text-of-2 : tie.Need-mul-text-of-2
-mul-text-of-2 c = search needs
-
-shared-slice-read-text-of-2 : tie.Need-shared-slice-read-text-of-2
-shared-slice-read-text-of-2 c = search needs
-
-add-text-of-3 : tie.Need-add-text-of-3
-add-text-of-3 c = search needs
-
-mul-text-of-3 : tie.Need-mul-text-of-3
-mul-text-of-3 c = search needs
-
-shared-slice-read-text-of-3 : tie.Need-shared-slice-read-text-of-3
-shared-slice-read-text-of-3 c = search needs
-
-text-of-requires : tie.Need-text-of-requires
-text-of-requires c κs = search needs
-
 may-have-requires : tie.Need-may-have-requires
 may-have-requires c κs = search needs
+
+returns : tie.Need-returns
+returns c = search (needs, long-key)
+
+add-if2 : tie.Need-add-if2
+add-if2 c = search needs
+
+mul-if2 : tie.Need-mul-if2
+mul-if2 c = search needs
+
+shared-slice-read-if2 : tie.Need-shared-slice-read-if2
+shared-slice-read-if2 c = search needs
+
+returns-2 : tie.Need-returns-2
+returns-2 c = search (needs, no-long-text)
+
+add-wide-2 : tie.Need-add-wide-2
+add-wide-2 c = search needs
+
+mul-wide-2 : tie.Need-mul-wide-2
+mul-wide-2 c = search needs
+
+shared-slice-read-wide-2 : tie.Need-shared-slice-read-wide-2
+shared-slice-read-wide-2 c = search needs
+
+wide-requires-2 : tie.Need-wide-requires-2
+wide-requires-2 c κs = search needs
 
 may-have-requires-2 : tie.Need-may-have-requires-2
 may-have-requires-2 c κs = search needs
 
-returns : tie.Need-returns
-returns c = search (needs, short-read)
+returns-3 : tie.Need-returns-3
+returns-3 c = search (needs, text-length)
 
 pub is-short-spec : {M : Type 1} → statement M
 is-short-spec =
@@ -63,16 +60,15 @@ is-short-spec =
     mul-wide
     shared-slice-read-wide
     wide-requires
-    add-text-of
-    mul-text-of
-    shared-slice-read-text-of
-    add-text-of-2
-    mul-text-of-2
-    shared-slice-read-text-of-2
-    add-text-of-3
-    mul-text-of-3
-    shared-slice-read-text-of-3
-    text-of-requires
     may-have-requires
+    returns
+    add-if2
+    mul-if2
+    shared-slice-read-if2
+    returns-2
+    add-wide-2
+    mul-wide-2
+    shared-slice-read-wide-2
+    wide-requires-2
     may-have-requires-2
-    returns)
+    returns-3)

@@ -1,7 +1,7 @@
--- The loop's invariant: the list is one where its part from i on is one.
-use Rattle.layer.proofs.Listing.{Inv, start, ends-short, ends, past, further}
-use lib.ListN.{length}
+-- The loop's invariant: the list is one of tags where what is from i on is.
 use Prim.Native.Nat.{_-_}
+use lib.ListN.{length}
+use Rattle.layer.proofs.Listing.{Inv, start, ends, past, further}
 use borrow.Author.Needs.{needs}
 use Rattle.layer.proofs.tag_list.is_tag_list.Statement.{statement}
 use Rattle.layer.proofs.tag_list.is_tag_list.Tie as tie
@@ -15,17 +15,14 @@ abbrev μ-loop : tie.MeasureT-loop
 loop-holds : tie.Need-loop-holds Inv-loop μ-loop
 loop-holds c = start _ _
 
-sub-if1 : tie.Need-sub-if1 Inv-loop μ-loop
-sub-if1 c = search needs
-
-returns : tie.Need-returns Inv-loop μ-loop
-returns c = search (needs, ends-short)
+sub-loop : tie.Need-sub-loop Inv-loop μ-loop
+sub-loop c = search needs
 
 tag-ok-requires : tie.Need-tag-ok-requires Inv-loop μ-loop
 tag-ok-requires c κs = search needs
 
-returns-2 : tie.Need-returns-2 Inv-loop μ-loop
-returns-2 c = search (needs, past)
+returns : tie.Need-returns Inv-loop μ-loop
+returns c = past _ _ _ (c .before .before .before .loop .inv) _ (c .before .tag-ok .ensures) (search needs) (c .if1 .taken)
 
 add-i : tie.Need-add-i Inv-loop μ-loop
 add-i c = search needs
@@ -34,10 +31,10 @@ loop-less : tie.Need-loop-less Inv-loop μ-loop
 loop-less c = search needs
 
 loop-again : tie.Need-loop-again Inv-loop μ-loop
-loop-again c = further _ _ _ (c .before .before .before .before .loop .inv) _ (c .before .tag-ok .ensures) (c .before .before .if1 .left) (c .if2 .left)
+loop-again c = further _ _ _ (c .before .before .before .loop .inv) _ (c .before .tag-ok .ensures) (search needs) (c .if1 .left)
 
-returns-3 : tie.Need-returns-3 Inv-loop μ-loop
-returns-3 c = search (needs, ends)
+returns-2 : tie.Need-returns-2 Inv-loop μ-loop
+returns-2 c = search (needs, ends)
 
 pub is-tag-list-spec : {M : Type 1} → statement M
 is-tag-list-spec =
@@ -46,11 +43,10 @@ is-tag-list-spec =
     Inv-loop
     μ-loop
     loop-holds
-    sub-if1
-    returns
+    sub-loop
     tag-ok-requires
-    returns-2
+    returns
     add-i
     loop-less
     loop-again
-    returns-3)
+    returns-2)

@@ -1,63 +1,22 @@
--- The refusals are the chain's. The used parts are there; the figures after the tag decide on ROOM, and then it is put.
-use lib.ListN.{length}
-use lib.Seq.{length-take-le}
-use mathlib.Core.Path.{sym}
-use native.Mathlib.Omega.{arith}
-use Rattle.layer.specs.declared.Figures.{Figures}
-use Rattle.layer.specs.Held.{mem}
-use Rattle.layer.specs.Steps.{Ready}
+-- The refusals are the chain's, and behind them it is what `tag_open` makes of an open feature.
 use Rattle.layer.proofs.Chains.{chain}
-use Rattle.layer.proofs.Fitting.{Fit}
 use Rattle.layer.proofs.Standing.{tag-ready}
-use Rattle.layer.proofs.Tagging.{ready-fit, ready-small, tag-full, tag-room, tag-done}
 use borrow.Author.Needs.{needs}
 use Rattle.layer.proofs.tags.add_tag.Statement.{statement}
 use Rattle.layer.proofs.tags.add_tag.Tie as tie
 
 -- the places on the way
-abbrev else1-before-f : tie.After-f → tie.Else1
-else1-before-f c = c .before .before .before .before .before .before
+abbrev at-match-keys1-before-tag-open-arg4 : tie.After-tag-open-arg4 → tie.At-match-keys1
+at-match-keys1-before-tag-open-arg4 c = c .before .before .before .before .before .before
 
-abbrev slice-known4-before-else1 : tie.Else1 → tie.After-slice-known4
-slice-known4-before-else1 c = c .before .before .before .before .before .before
+abbrev may-have2-before-at-match-keys1 : tie.At-match-keys1 → tie.After-may-have2
+may-have2-before-at-match-keys1 c = c .before .before .before .before .before .before
 
-abbrev start-before-slice-known4 : tie.After-slice-known4 → tie.Start
-start-before-slice-known4 c = c .before .before .before .before .before .before
+abbrev is-valid-arg3-before-may-have2 : tie.After-may-have2 → tie.After-is-valid-arg3
+is-valid-arg3-before-may-have2 c = c .before .before .before .before .before .before
 
-abbrev known-told-before-key-pos : tie.After-key-pos → tie.After-known-told
-known-told-before-key-pos c = c .before .before .before .before .before .before
-
-abbrev struct-known-before-val-pos-arg2 : tie.After-val-pos-arg2 → tie.After-struct-known
-struct-known-before-val-pos-arg2 c = c .before .before .before .before .before .before
-
-abbrev key-pos-arg2-before-has-room-for : tie.After-has-room-for → tie.After-key-pos-arg2
-key-pos-arg2-before-has-room-for c = c .before .before .before .before .before .before
-
-abbrev val-pos-arg2-before-put-tag-arg2 : tie.After-put-tag-arg2 → tie.After-val-pos-arg2
-val-pos-arg2-before-put-tag-arg2 c = c .before .before .before .before .before .before
-
-abbrev val-pos-before-put-tag-arg3 : tie.After-put-tag-arg3 → tie.After-val-pos
-val-pos-before-put-tag-arg3 c = c .before .before .before .before .before .before
-
-abbrev put-tag-before-slice-known7 : tie.After-slice-known7 → tie.After-put-tag
-put-tag-before-slice-known7 c = c .before .before .before .before .before .before
-
-abbrev has-room-for-before-put-tag : tie.After-put-tag → tie.After-has-room-for
-has-room-for-before-put-tag c = c .before .before .before .before .before .before
-
-abbrev start : tie.After-known-told → tie.Start
-start c = start-before-slice-known4 (slice-known4-before-else1 (else1-before-f (c .before)))
-
-abbrev opened-at : tie.After-known-told → Figures
-opened-at c = c .before .f .given .0 .0
-
-ready : (c : tie.After-known-told) → let g = start c .args in Ready (g .s) (opened-at c) (length (g .key .now)) (length (g .text .now)) (mem (g .keys .now) (g .values .now) (g .texts .now) (g .features .now))
-ready c =
-    let g = start c .args in
-    tag-ready (g .s) (g .keys .now) (g .values .now) (g .texts .now) (g .features .now) _ (else1-before-f (c .before) .before .is-valid .ensures) (else1-before-f (c .before) .if1 .left) _ _ _ _ (c .before .before .before .before .before .before .may-have .ensures) (c .before .before .before .before .before .if2 .left) (c .before .before .before .before .may-have2 .ensures) (c .before .before .before .if3 .left) _ (c .before .f .given .1)
-
-at-fit : (c : tie.After-known-told) → let g = start c .args in Fit (g .s .used) (length (g .keys .now)) (length (g .values .now)) (length (g .texts .now)) (length (g .features .now))
-at-fit c = let g = start c .args in let o = opened-at c in ready-fit (g .s) o (g .key .now) (g .v) (g .text .now) (g .keys .now) (g .values .now) (g .texts .now) (g .features .now) (ready c)
+abbrev slice-known-before-is-valid-arg3 : tie.After-is-valid-arg3 → tie.After-slice-known
+slice-known-before-is-valid-arg3 c = c .before .before .before .before .before .before
 
 is-valid-requires : tie.Need-is-valid-requires
 is-valid-requires c κs = search needs
@@ -113,11 +72,8 @@ same-length-12 c = search needs
 returns-3 : tie.Need-returns-3
 returns-3 c = search (needs, chain)
 
-enum-known-f : tie.Need-enum-known-f
-enum-known-f c = search needs
-
-enum-told : tie.Need-enum-told
-enum-told c = search needs
+is-utf8-requires : tie.Need-is-utf8-requires
+is-utf8-requires c κs = search needs
 
 same-length-13 : tie.Need-same-length-13
 same-length-13 c = search needs
@@ -134,51 +90,8 @@ same-length-16 c = search needs
 returns-4 : tie.Need-returns-4
 returns-4 c = search (needs, chain)
 
-mul-k : tie.Need-mul-k
-mul-k c = record { fits = omega (arith, at-fit (c .before .before)) }
-
-mul-e : tie.Need-mul-e
-mul-e c = record { fits = omega (arith, at-fit (c .before .before .before)) }
-
-slice-reshare-prefix-key-pos : tie.Need-slice-reshare-prefix-key-pos
-slice-reshare-prefix-key-pos c = at-fit (c .before .before .before) .in-keys
-
-slice-aggregate-key-pos : tie.Need-slice-aggregate-key-pos
-slice-aggregate-key-pos c = sym (length-take-le _ _ (at-fit (c .before .before .before .before) .in-keys))
-
-slice-reshare-prefix-key-pos-2 : tie.Need-slice-reshare-prefix-key-pos-2
-slice-reshare-prefix-key-pos-2 c = at-fit (c .before .before .before .before) .in-texts
-
-slice-aggregate-key-pos-2 : tie.Need-slice-aggregate-key-pos-2
-slice-aggregate-key-pos-2 c = sym (length-take-le _ _ (at-fit (c .before .before .before .before .before) .in-texts))
-
-key-pos-requires : tie.Need-key-pos-requires
-key-pos-requires c κs = search needs
-
-slice-reshare-prefix-val-pos : tie.Need-slice-reshare-prefix-val-pos
-slice-reshare-prefix-val-pos c = at-fit (c .before .before .before .before .before .before) .in-values
-
-slice-aggregate-val-pos : tie.Need-slice-aggregate-val-pos
-slice-aggregate-val-pos c = sym (length-take-le _ _ (at-fit (known-told-before-key-pos (c .before)) .in-values))
-
-slice-reshare-prefix-val-pos-2 : tie.Need-slice-reshare-prefix-val-pos-2
-slice-reshare-prefix-val-pos-2 c = at-fit (known-told-before-key-pos (c .before)) .in-texts
-
-slice-aggregate-val-pos-2 : tie.Need-slice-aggregate-val-pos-2
-slice-aggregate-val-pos-2 c = sym (length-take-le _ _ (at-fit (struct-known-before-val-pos-arg2 c .before .before) .in-texts))
-
-val-pos-requires : tie.Need-val-pos-requires
-val-pos-requires c κs = search needs
-
-grown-requires : tie.Need-grown-requires
-grown-requires c κs =
-    let w = struct-known-before-val-pos-arg2 (c .before) .before .before in
-    let g = start w .args in
-    let o = opened-at w in
-    ready-small (g .s) o (g .key .now) (g .v) (g .text .now) (g .keys .now) (g .values .now) (g .texts .now) (g .features .now) (ready w)
-
-has-room-for-requires : tie.Need-has-room-for-requires
-has-room-for-requires c κs = search needs
+is-utf8-requires-2 : tie.Need-is-utf8-requires-2
+is-utf8-requires-2 c κs = search needs
 
 same-length-17 : tie.Need-same-length-17
 same-length-17 c = search needs
@@ -193,19 +106,13 @@ same-length-20 : tie.Need-same-length-20
 same-length-20 c = search needs
 
 returns-5 : tie.Need-returns-5
-returns-5 c =
-    let w = key-pos-arg2-before-has-room-for (c .before) .before .before .before .before .before in
-    let g = start w .args in
-    let o = opened-at w in
-    let d = tag-full (g .s) o (g .key .now) (g .v) (g .text .now) (g .keys .now) (g .values .now) (g .texts .now) (g .features .now) (ready w) _ _ (c .before .before .before .before .before .before .key-pos .ensures) (c .before .before .before .val-pos .ensures) _ (c .before .before .grown .ensures) _ (c .before .has-room-for .ensures) (c .if4 .taken) in
-    search (needs, chain)
+returns-5 c = search (needs, chain) depth 12
 
-put-tag-requires : tie.Need-put-tag-requires
-put-tag-requires c κs =
-    let w = struct-known-before-val-pos-arg2 (val-pos-arg2-before-put-tag-arg2 (c .before .before)) .before .before in
-    let g = start w .args in
-    let o = opened-at w in
-    tag-room (g .s) o (g .key .now) (g .v) (g .text .now) (g .keys .now) (g .values .now) (g .texts .now) (g .features .now) (ready w) _ _ (val-pos-arg2-before-put-tag-arg2 (c .before .before) .before .before .key-pos .ensures) (val-pos-before-put-tag-arg3 (c .before) .val-pos .ensures) _ (c .before .before .before .before .before .before .grown .ensures) _ (c .before .before .before .before .before .has-room-for .ensures) (c .before .before .before .before .if4 .left)
+enum-known-f : tie.Need-enum-known-f
+enum-known-f c = search needs
+
+enum-told : tie.Need-enum-told
+enum-told c = search needs
 
 same-length-21 : tie.Need-same-length-21
 same-length-21 c = search needs
@@ -220,12 +127,27 @@ same-length-24 : tie.Need-same-length-24
 same-length-24 c = search needs
 
 returns-6 : tie.Need-returns-6
-returns-6 c =
-    let w = key-pos-arg2-before-has-room-for (has-room-for-before-put-tag (put-tag-before-slice-known7 (c .before .before))) .before .before .before .before .before in
-    let g = start w .args in
-    let o = opened-at w in
-    let d = tag-done (g .s) o (g .key .now) (g .v) (g .text .now) (g .keys .now) (g .values .now) (g .texts .now) (g .features .now) (ready w) _ _ (has-room-for-before-put-tag (put-tag-before-slice-known7 (c .before .before)) .before .before .before .before .before .key-pos .ensures) (has-room-for-before-put-tag (put-tag-before-slice-known7 (c .before .before)) .before .before .val-pos .ensures) _ (has-room-for-before-put-tag (put-tag-before-slice-known7 (c .before .before)) .before .grown .ensures) _ (has-room-for-before-put-tag (put-tag-before-slice-known7 (c .before .before)) .has-room-for .ensures) (put-tag-before-slice-known7 (c .before .before) .before .before .before .before .before .if4 .left) _ _ _ _ (put-tag-before-slice-known7 (c .before .before) .put-tag .ensures) in
-    search (needs, chain)
+returns-6 c = search (needs, chain) depth 12
+
+tag-open-requires : tie.Need-tag-open-requires
+tag-open-requires c κs =
+    let g = slice-known-before-is-valid-arg3 (is-valid-arg3-before-may-have2 (may-have2-before-at-match-keys1 (at-match-keys1-before-tag-open-arg4 c))) .before .before .before .args in
+    tag-ready (g .s) (g .keys .now) (g .values .now) (g .texts .now) (g .features .now) _ (may-have2-before-at-match-keys1 (at-match-keys1-before-tag-open-arg4 c) .before .before .before .before .is-valid .ensures) (may-have2-before-at-match-keys1 (at-match-keys1-before-tag-open-arg4 c) .before .before .before .if1 .left) _ _ _ _ (may-have2-before-at-match-keys1 (at-match-keys1-before-tag-open-arg4 c) .before .before .may-have .ensures) (may-have2-before-at-match-keys1 (at-match-keys1-before-tag-open-arg4 c) .before .if2 .left) (may-have2-before-at-match-keys1 (at-match-keys1-before-tag-open-arg4 c) .may-have2 .ensures) (at-match-keys1-before-tag-open-arg4 c .before .before .before .before .before .if3 .left) _ (c .before .before .before .before .before .f .given .1)
+
+same-length-25 : tie.Need-same-length-25
+same-length-25 c = search needs
+
+same-length-26 : tie.Need-same-length-26
+same-length-26 c = search needs
+
+same-length-27 : tie.Need-same-length-27
+same-length-27 c = search needs
+
+same-length-28 : tie.Need-same-length-28
+same-length-28 c = search needs
+
+returns-7 : tie.Need-returns-7
+returns-7 c = search (needs, chain) depth 12
 
 pub add-tag-spec : {M : Type 1} → statement M
 add-tag-spec =
@@ -249,35 +171,28 @@ add-tag-spec =
     same-length-11
     same-length-12
     returns-3
-    enum-known-f
-    enum-told
+    is-utf8-requires
     same-length-13
     same-length-14
     same-length-15
     same-length-16
     returns-4
-    mul-k
-    mul-e
-    slice-reshare-prefix-key-pos
-    slice-aggregate-key-pos
-    slice-reshare-prefix-key-pos-2
-    slice-aggregate-key-pos-2
-    key-pos-requires
-    slice-reshare-prefix-val-pos
-    slice-aggregate-val-pos
-    slice-reshare-prefix-val-pos-2
-    slice-aggregate-val-pos-2
-    val-pos-requires
-    grown-requires
-    has-room-for-requires
+    is-utf8-requires-2
     same-length-17
     same-length-18
     same-length-19
     same-length-20
     returns-5
-    put-tag-requires
+    enum-known-f
+    enum-told
     same-length-21
     same-length-22
     same-length-23
     same-length-24
-    returns-6)
+    returns-6
+    tag-open-requires
+    same-length-25
+    same-length-26
+    same-length-27
+    same-length-28
+    returns-7)

@@ -1,5 +1,6 @@
 -- The early returns are the definition's tests in their order.
-use Rattle.layer.proofs.Barring.{bar-list, bar-kind, bar-state, bar-text, bar-turn, bar-words, bar-none, words-many, words-few}
+use Rattle.layer.proofs.Standing.{answered}
+use Rattle.layer.proofs.Barring.{bar-list, bar-kind, bar-state, bar-text, bar-utf8, bar-turn, bar-words, bar-none, words-many, words-few}
 use borrow.Author.Needs.{needs}
 use Rattle.layer.proofs.whole_feature.first_refusal.Statement.{statement}
 use Rattle.layer.proofs.whole_feature.first_refusal.Tie as tie
@@ -20,22 +21,28 @@ returns-3 : tie.Need-returns-3
 returns-3 c = search (needs, bar-state)
 
 are-short-requires : tie.Need-are-short-requires
-are-short-requires c κs = search needs
+are-short-requires c κs = search (needs, answered)
 
 returns-4 : tie.Need-returns-4
 returns-4 c = search (needs, bar-text)
 
+are-utf8-requires : tie.Need-are-utf8-requires
+are-utf8-requires c κs = search (needs, answered)
+
+returns-5 : tie.Need-returns-5
+returns-5 c = search (needs, bar-utf8)
+
 is-shut-requires : tie.Need-is-shut-requires
 is-shut-requires c κs = search needs
 
-returns-5 : tie.Need-returns-5
-returns-5 c = search (needs, bar-turn)
-
 returns-6 : tie.Need-returns-6
-returns-6 c = search (needs, bar-words, words-many)
+returns-6 c = search (needs, bar-turn)
 
 returns-7 : tie.Need-returns-7
-returns-7 c = search (needs, bar-none, words-few)
+returns-7 c = search (needs, bar-words, words-many)
+
+returns-8 : tie.Need-returns-8
+returns-8 c = search (needs, bar-none, words-few)
 
 pub first-refusal-spec : {M : Type 1} → statement M
 first-refusal-spec =
@@ -48,7 +55,9 @@ first-refusal-spec =
     returns-3
     are-short-requires
     returns-4
-    is-shut-requires
+    are-utf8-requires
     returns-5
+    is-shut-requires
     returns-6
-    returns-7)
+    returns-7
+    returns-8)

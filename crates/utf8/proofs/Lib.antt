@@ -1,0 +1,4 @@
+pub mod Laws
+pub mod HighBits
+pub mod Joining
+pub mod Examples
