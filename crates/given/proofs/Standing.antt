@@ -8,8 +8,7 @@ use native.Mathlib.Omega.{arith}
 use lib.ListN.{length, length-append}
 use lib.Dec.{leb}
 use Rattle.promise.specs.Laid.{lay}
-use Rattle.refusal.specs.declared.Refusal.the-variants.{Kind, State, Room, Text as TextRefusal, Turn}
-use Rattle.table.specs.Texts.{shortText}
+use Rattle.refusal.specs.declared.Refusal.the-variants.{Kind, State, Room, Turn}
 use Rattle.table.specs.Keys.{findKey}
 use Rattle.words.specs.Geometries.{isKind, maxWords}
 use Rattle.layer.specs.declared.Figures.{Figures}
@@ -177,7 +176,7 @@ module _ (v : Seen) (d : Drawing) (S : Stands v d) where
       by-open P (v .layer .feature) _ tt (λ o f. record { stands = id-stands v d S o f n; room = valid-parts v e .room }))
   call-stands (tags key c) g =
       let P = Kept (after (tags key c) d) v in
-      by-tag P (tagOf key c) v (λ q n. tt) (λ e o f h. record { stands = tag-stands v d S o f key c g; room = h })
+      by-tag P (tagOf key c) v (λ q n. tt) (λ e u o f h. record { stands = tag-stands v d S o f key c g; room = h })
   call-stands closes g =
       let P = Kept (after closes d) v in
       by-check P (valid v) State _ tt (λ e.

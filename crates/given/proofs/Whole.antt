@@ -8,24 +8,20 @@ use native.Mathlib.Omega.{arith}
 use lib.ListN.{length}
 use lib.Dec.{leb, eqb, ltb}
 use borrow.Author.Tests.{eqb-true, eqb-false, leb-true, ltb-true, ltb-false}
-use Rattle.refusal.specs.declared.Refusal.the-variants.{Job, Kind, State, Room, Text as TextRefusal, Turn}
+use Rattle.promise.proofs.Joined.{cond-both}
 use Rattle.table.specs.Texts.{inside, textOf}
 use Rattle.table.specs.Values.{valueOk}
-use Rattle.words.specs.Geometries.{isKind, maxWords}
 use Rattle.whole.specs.Twos.{wide, signed64}
 use Rattle.whole.proofs.Twos.{twos-high}
 use Rattle.layer.specs.declared.Figures.{Figures}
 use Rattle.layer.specs.declared.Open.the-variants.{Shut, Since}
 use Rattle.layer.specs.declared.whole_feature.Head.{Head}
-use Rattle.layer.specs.Held.{Seen, fits}
-use Rattle.layer.specs.State.{valid}
-use Rattle.layer.specs.Calls.{Tag as Stored, isShut, bitsOf, bitOf, tagPut}
-use Rattle.layer.specs.TagLists.{tagOk, tagsOk, tagsShort, tagOf as tagStored, tagsOf}
+use Rattle.layer.specs.Held.{Seen}
+use Rattle.layer.specs.Calls.{Tag as Stored, bitsOf, bitOf, tagPut}
+use Rattle.layer.specs.TagLists.{tagOk, tagsOk, tagOf as tagStored, tagsOf}
 use Rattle.layer.specs.Whole.{featureOpened, tagsPut, featurePut, addFeature}
 use Rattle.layer.proofs.Fitting.{both, never}
-use Rattle.layer.proofs.Listing.{yes}
 use Rattle.layer.proofs.Growth.{same-feature}
-use Rattle.layer.proofs.Keeping.{by-check, is-shut}
 use Rattle.layer.proofs.Checked.{by-feature}
 use Rattle.layer.proofs.Features.{feature-room}
 use Rattle.given.specs.Given.{Content, Tag, Feature, Drawing, drawn, onOpen, tagged, after, tags, added}
@@ -109,7 +105,7 @@ tags-stand bytes (a ∷ b ∷ []) e w o v d s S = never e
 tags-stand bytes (a ∷ b ∷ c ∷ []) e w o v d s S = never e
 tags-stand bytes (a ∷ b ∷ c ∷ x ∷ []) e w o v d s S = never e
 tags-stand bytes (start ∷ len ∷ kind ∷ low ∷ high ∷ ws) e w o v d s S =
-    let p = yes (tagOk (length bytes) start len kind low high) (tagsOk (length bytes) ws) e in
+    let p = cond-both (tagOk (length bytes) start len kind low high) (tagsOk (length bytes) ws) e in
     let ok = both (inside (length bytes) start len) (valueOk (length bytes) kind low high) (p .0) .1 in
     let c = contentAt bytes kind low high in
     let t : Tag = record { key = textOf bytes start len; value = c } in
@@ -142,6 +138,6 @@ module _ (f : Head) (words ws bytes : List ℕ) (g : Words ws) (v : Seen) (d : D
   pub whole-stands : Kept (added (featureGiven f words ws bytes) d) v (addFeature f words ws bytes v)
   whole-stands =
       let P = Kept (added (featureGiven f words ws bytes) d) v in
-      by-feature P f words ws bytes v (λ q. tt) (λ e k x s r.
+      by-feature P f words ws bytes v (λ q. tt) (λ e k x u s r.
       let C = put-stands e s in
       record { stands = record { extent-is = C .extent-is; parts = C .parts }; room = rw (feature-room f words (tagsOf bytes ws) v) at r })

@@ -12,7 +12,7 @@ use Rattle.table.specs.declared.Value.{Value}
 use Rattle.table.specs.Texts.{inside, begins, sameText, textOf}
 use Rattle.table.specs.Values.{isZero, sameContent, sameValue}
 use Rattle.promise.proofs.Joined.{both}
-use Rattle.table.proofs.Growing.{never, cond-both}
+use Rattle.promise.proofs.Joined.{never, cond-both}
 use Rattle.index.specs.Hashes.{hashText, mixed, hashValue, hashStored}
 
 -- ---- texts

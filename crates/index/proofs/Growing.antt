@@ -15,7 +15,7 @@ use Rattle.table.specs.Values.{valueOk, valuesIn}
 use Rattle.index.specs.Hashes.{hashText, hashStored}
 use Rattle.index.specs.Chains.{slots, Indexes, pushed, maxEntry, bucketsOf}
 use Rattle.index.specs.Entries.{keyCount, keyHash, KeyIndex, valueCount, valueHash, ValueIndex}
-use Rattle.table.proofs.Growing.{never, cond-both}
+use Rattle.promise.proofs.Joined.{never, cond-both}
 use Rattle.index.proofs.Pushing.{same-buckets, pushed-is-index}
 
 -- ---- texts

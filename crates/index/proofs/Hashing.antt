@@ -10,7 +10,7 @@ use lib.Dec.{ltb}
 use borrow.Author.Tests.{ltb-true, ltb-false, eq-eqb}
 use Rattle.promise.specs.Widened.{Wide}
 use Rattle.table.specs.Texts.{textOf}
-use Rattle.table.proofs.Steps.{next}
+use Rattle.promise.proofs.Steps.{next}
 use Rattle.index.specs.Hashes.{Octet, hashFrom, hashText, mixed, hashStored}
 use Rattle.index.specs.Entries.{keyHash}
 use Rattle.index.specs.Steps.{endIn}

@@ -16,7 +16,7 @@ use Rattle.table.specs.Keys.{findKey}
 use Rattle.table.specs.Values.{findValue}
 use Rattle.table.specs.Texts.{textOf}
 use Rattle.number.specs.Least.{smaller}
-use Rattle.table.proofs.Steps.{next}
+use Rattle.promise.proofs.Steps.{next}
 use Rattle.index.specs.Hashes.{hashText, hashValue}
 use Rattle.index.specs.Chains.{slots, latest, Indexes, walk, foundAt, walked, bucketsOf}
 use Rattle.index.specs.Entries.{keyCount, keyHash, keyAt, KeyIndex, walkedKey, valueCount, valueHash, valueAt, ValueIndex, walkedValue}

@@ -6,6 +6,7 @@ use mathlib.Core.List.{List, [], _∷_}
 use native.Mathlib.Omega.{arith}
 use lib.ListN.{length}
 use lib.Dec.{eqb}
+use Rattle.promise.proofs.Joined.{cond-both}
 use Rattle.promise.specs.Laid.{lay}
 use Rattle.table.specs.Texts.{inside}
 use Rattle.table.specs.Values.{valueOk}
@@ -15,20 +16,18 @@ use Rattle.layer.specs.declared.Figures.{Figures}
 use Rattle.layer.specs.declared.Layer.{Layer}
 use Rattle.layer.specs.declared.Open.the-variants.{Shut, Since}
 use Rattle.layer.specs.declared.whole_feature.Head.{Head}
-use Rattle.layer.specs.Held.{Memory, mem, roomOf, fits, Seen, seen, onto}
-use Rattle.layer.specs.State.{valid}
+use Rattle.layer.specs.Held.{Memory, mem, fits, Seen, seen, onto}
 use Rattle.layer.specs.Calls.{moreWords, withUsed, recordWith, Tag, keyFound, valueFound, tagPut}
 use Rattle.layer.specs.TagLists.{tagOk, tagsOk, tagOf, tagsOf}
-use Rattle.layer.specs.Whole.{markOf, idOf, featureOpened, tagsPut, featureShut, featurePut}
+use Rattle.layer.specs.Whole.{markOf, idOf, featureOpened, tagsPut, featurePut}
 use Rattle.layer.specs.Lookup.{Index, Current}
-use Rattle.layer.specs.WholeSteps.{Leaves, MayFill, Welcome, MayPut}
+use Rattle.layer.specs.WholeSteps.{Leaves, MayFill, MayPut}
 use Rattle.layer.proofs.Fitting.{Fit, fit, both}
 use Rattle.layer.proofs.Fronts.{front-take, front-run}
 use Rattle.layer.proofs.Standing.{valid-fit}
 use Rattle.layer.proofs.Keeping.{Sound, sound, opened-sound, tag-sound, closed-sound}
 use Rattle.layer.proofs.After.{seen-lengths}
-use Rattle.layer.proofs.Indexing.{kept-same, kept-on}
-use Rattle.layer.proofs.Listing.{yes}
+use Rattle.layer.proofs.Indexing.{kept-same}
 use Rattle.layer.proofs.Growth.{tags-grow, fits-before, same-room, same-feature}
 use Rattle.layer.proofs.Filled.{value-given, onto-onto, left-seen, left-valid}
 
@@ -40,7 +39,7 @@ tags-sound bytes (a ∷ b ∷ []) e o v f S = S
 tags-sound bytes (a ∷ b ∷ c ∷ []) e o v f S = S
 tags-sound bytes (a ∷ b ∷ c ∷ d ∷ []) e o v f S = S
 tags-sound bytes (start ∷ len ∷ kind ∷ low ∷ high ∷ ws) e o v f S =
-    let p = yes (tagOk (length bytes) start len kind low high) (tagsOk (length bytes) ws) e in
+    let p = cond-both (tagOk (length bytes) start len kind low high) (tagsOk (length bytes) ws) e in
     let g = value-given (length bytes) kind low high (eqb kind 1) refl (both (inside (length bytes) start len) (valueOk (length bytes) kind low high) (p .0) .1) in
     let t = tagOf bytes start len kind low high in
     tags-sound bytes ws (p .1) o (tagPut o t v) f (tag-sound v S o f t g (keyFound t v) (valueFound t v))

@@ -15,7 +15,7 @@ use Rattle.table.specs.Texts.{inside, begins, sameText, textOf}
 use Rattle.table.specs.Keys.{findKey, keysIn}
 use Rattle.table.specs.Values.{isZero, sameContent, sameValue, findValue, valueOk, valuesIn}
 use Rattle.records.specs.Records.{isFound}
-use Rattle.table.proofs.Growing.{never, cond-both}
+use Rattle.promise.proofs.Joined.{never, cond-both}
 use Rattle.promise.proofs.Joined.{same, both}
 use Rattle.index.proofs.Alike.{text-is}
 use Rattle.index.proofs.Growing.{text-kept}

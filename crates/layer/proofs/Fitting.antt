@@ -11,8 +11,7 @@ use borrow.Author.Tests.{le-leb, leb-true, not-true, not-false}
 use Rattle.table.specs.declared.Found.{Found}
 use Rattle.table.specs.Keys.{keysIn}
 use Rattle.table.specs.Values.{valuesIn}
-pub use Rattle.promise.proofs.Joined.{both}
-pub use Rattle.table.proofs.Growing.{never}
+pub use Rattle.promise.proofs.Joined.{both, never}
 pub use Rattle.number.proofs.Least.{smaller-le}
 use Rattle.records.specs.Records.{isFound, recordsIn, oneRecord}
 use Rattle.layer.specs.declared.Figures.{Figures}

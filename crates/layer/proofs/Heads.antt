@@ -8,7 +8,8 @@ use lib.ListN.{length, getD, drop, drop-of-length-le, length-drop}
 use lib.Dec.{leb, eqb}
 use borrow.Author.Tests.{leb-true, leb-false, not-true, not-false}
 use Rattle.whole.specs.Twos.{wide}
-use Rattle.table.proofs.Steps.{next}
+use Rattle.promise.proofs.Joined.{cond-both}
+use Rattle.promise.proofs.Steps.{next}
 use Rattle.layer.proofs.Fitting.{both}
 use Rattle.layer.specs.declared.whole_feature.Head.{Head}
 use Rattle.layer.specs.Many.{headAt, headOk, headsOk}
@@ -80,10 +81,6 @@ module _ (words tags : ℕ) (hs : List ℕ) (i w t : ℕ) (I : Inv words tags hs
       further = record { at = omega arith; rest = I .rest ∙ step w t hs i (omega arith) ∙ rw (← as-tested, not-false (leb (getD hs (i + 1) 0) 1 && (leb a w && leb b t)) n, p, q) }
 
 -- ---- of a list that is one: the six words at an index, and the rest
-yes : (b t : Bool) → cond b t false ≡ true → (b ≡ true) × (t ≡ true)
-yes true t e = (refl, e)
-yes false t e = absurd (let z : _≡_ {A = ℕ} 0 1 = cc in omega arith)
-
 module _ (w t : ℕ) (hs : List ℕ) (i : ℕ) (e : headsOk w t (drop i hs) ≡ true) (h : i < length hs) where
   pub six-left : i + 6 ≤ length hs
   six-left = by (leb (i + 6) (length hs)) refl
@@ -96,7 +93,7 @@ module _ (w t : ℕ) (hs : List ℕ) (i : ℕ) (e : headsOk w t (drop i hs) ≡ 
           absurd (let z : _≡_ {A = ℕ} 0 1 = cc in omega arith)
 
   both-ok : (okAt w t hs i ≡ true) × (headsOk (w - getD hs (i + 4) 0) (t - getD hs (i + 5) 0) (drop (i + 6) hs) ≡ true)
-  both-ok = yes (okAt w t hs i) (headsOk (w - getD hs (i + 4) 0) (t - getD hs (i + 5) 0) (drop (i + 6) hs)) (sym (step w t hs i six-left) ∙ e)
+  both-ok = cond-both (okAt w t hs i) (headsOk (w - getD hs (i + 4) 0) (t - getD hs (i + 5) 0) (drop (i + 6) hs)) (sym (step w t hs i six-left) ∙ e)
 
   counts-in : (leb (getD hs (i + 4) 0) w ≡ true) × (leb (getD hs (i + 5) 0) t ≡ true)
   counts-in = both (leb (getD hs (i + 4) 0) w) (leb (getD hs (i + 5) 0) t) (both (leb (getD hs (i + 1) 0) 1) (leb (getD hs (i + 4) 0) w && leb (getD hs (i + 5) 0) t) (both-ok .0) .1)

@@ -61,9 +61,12 @@ All P (refuses r) v = Unit {0}
 All P (holds t h) v = P (next (holds t h) v)
 
 -- a change by its checks
+pub by-test : (P : Change → Type 0) (b : Bool) (r : Refusal) (c : Change) → (b ≡ false → P (refuses r)) → (b ≡ true → P c) → P (check b r c)
+by-test P true r c n y = y refl
+by-test P false r c n y = n refl
+
 pub by-check : (P : Change → Type 0) (b : Bool) (r : Refusal) (c : Change) → P (refuses r) → (b ≡ true → P c) → P (check b r c)
-by-check P true r c f g = g refl
-by-check P false r c f g = f
+by-check P b r c n y = by-test P b r c (λ e. n) y
 
 pub by-open : (P : Change → Type 0) (f : Open) (go : Figures → Change) → P (refuses Turn) → ((o : Figures) → f ≡ Since o → P (go o)) → P (whenOpen f go)
 by-open P Shut go f g = f

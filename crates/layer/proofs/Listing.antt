@@ -8,7 +8,8 @@ use lib.ListN.{length, getD, drop, drop-of-length-le, length-drop}
 use lib.Dec.{leb, eqb}
 use borrow.Author.Tests.{leb-true, leb-false, eqb-true, eqb-false, not-true, not-false}
 use Rattle.table.specs.Values.{valueOk, valuesIn}
-use Rattle.table.proofs.Steps.{next}
+use Rattle.promise.proofs.Joined.{cond-both}
+use Rattle.promise.proofs.Steps.{next}
 use Rattle.layer.specs.TagLists.{tagOk, tagsOk, okAt, shortAt, tagsShort}
 
 -- one value as a list of values
@@ -45,10 +46,6 @@ pub step : (bytes : ℕ) (ws : List ℕ) (i : ℕ) → i + 5 ≤ length ws → t
 step bytes ws i h = rw (five ws i h)
 
 -- of a list that is one: the five words at an index, and the rest
-pub yes : (b t : Bool) → cond b t false ≡ true → (b ≡ true) × (t ≡ true)
-yes true t e = (refl, e)
-yes false t e = absurd (let z : _≡_ {A = ℕ} 0 1 = cc in omega arith)
-
 module _ (bytes : ℕ) (ws : List ℕ) (i : ℕ) (e : tagsOk bytes (drop i ws) ≡ true) (h : i < length ws) where
   pub five-left : i + 5 ≤ length ws
   five-left = by (leb (i + 5) (length ws)) refl
@@ -61,7 +58,7 @@ module _ (bytes : ℕ) (ws : List ℕ) (i : ℕ) (e : tagsOk bytes (drop i ws) �
           absurd (let z : _≡_ {A = ℕ} 0 1 = cc in omega arith)
 
   both-ok : (okAt bytes ws i ≡ true) × (tagsOk bytes (drop (i + 5) ws) ≡ true)
-  both-ok = yes (okAt bytes ws i) (tagsOk bytes (drop (i + 5) ws)) (sym (step bytes ws i five-left) ∙ e)
+  both-ok = cond-both (okAt bytes ws i) (tagsOk bytes (drop (i + 5) ws)) (sym (step bytes ws i five-left) ∙ e)
 
   pub ok-at : okAt bytes ws i ≡ true
   ok-at = both-ok .0
@@ -125,7 +122,7 @@ short-step ws i h = rw (five ws i h)
 -- of a list whose tags are short: the five words at an index, and the rest
 module _ (ws : List ℕ) (i : ℕ) (e : tagsShort (drop i ws) ≡ true) (h : i + 5 ≤ length ws) where
   pub short-at : shortAt ws i ≡ true
-  short-at = yes (shortAt ws i) (tagsShort (drop (i + 5) ws)) (sym (short-step ws i h) ∙ e) .0
+  short-at = cond-both (shortAt ws i) (tagsShort (drop (i + 5) ws)) (sym (short-step ws i h) ∙ e) .0
 
   pub short-after : tagsShort (drop (i + 5) ws) ≡ true
-  short-after = yes (shortAt ws i) (tagsShort (drop (i + 5) ws)) (sym (short-step ws i h) ∙ e) .1
+  short-after = cond-both (shortAt ws i) (tagsShort (drop (i + 5) ws)) (sym (short-step ws i h) ∙ e) .1

@@ -16,7 +16,7 @@ use Rattle.table.specs.Texts.{inside, sameText, textOf}
 use Rattle.table.specs.Keys.{findKey, keysIn}
 use Rattle.table.specs.Values.{sameValue, findValue, valueOk, valuesIn}
 use Rattle.records.specs.Records.{isFound}
-use Rattle.table.proofs.Growing.{cond-both}
+use Rattle.promise.proofs.Joined.{cond-both}
 use Rattle.layer.specs.declared.Figures.{Figures}
 use Rattle.layer.specs.declared.Open.the-variants.{Shut}
 use Rattle.layer.specs.Held.{Seen}

@@ -10,14 +10,13 @@ use borrow.Author.Tests.{not-true, not-false}
 use Rattle.promise.specs.Answers.{Gives}
 use Rattle.refusal.specs.declared.Refusal.{Refusal}
 use Rattle.refusal.specs.declared.Refusal.the-variants.{Room}
-use Rattle.layer.specs.declared.Figures.{Figures}
 use Rattle.layer.specs.declared.Layer.{Layer}
 use Rattle.layer.specs.declared.Changed.{Changed}
 use Rattle.layer.specs.declared.Changed.the-variants.{Done, Refused}
 use Rattle.layer.specs.declared.whole_feature.Head.{Head}
 use Rattle.layer.specs.declared.whole_feature.Asked.{Asked}
 use Rattle.layer.specs.declared.whole_feature.Asked.the-variants.{Fine, Barred}
-use Rattle.layer.specs.Held.{Memory, mem, fits, Seen, seen, Change, refuses, holds, written}
+use Rattle.layer.specs.Held.{Memory, mem, fits, Seen, seen, Change, holds, written}
 use Rattle.layer.specs.Answers.{saidChanged}
 use Rattle.layer.specs.State.{valid}
 use Rattle.layer.specs.Calls.{ifRoom}

@@ -2,7 +2,6 @@
 // single calls check the layer's STATE each; this one checks it once, so a feature costs what the layer holds and no more.
 ghost use mathlib.Core.Path.{_≡_};
 ghost use mathlib.Core.Bool.{cond};
-ghost use lib.ListN.{length};
 ghost use Rattle.layer.specs.TagLists.{tagsOf};
 ghost use Rattle.layer.specs.Whole.{markOf, idOf, featurePut, addFeature};
 ghost use Rattle.layer.specs.Lookup.{idx};

@@ -12,6 +12,7 @@ use lib.Signed.{_≤ℤ_, _<ℤ_, ltZ}
 use mir.Syntax.{w32}
 use mir.Val.{SFits}
 use Rattle.promise.specs.Answers.{Gives}
+use Rattle.promise.proofs.Joined.{never, cond-both}
 use Rattle.promise.specs.Puts.{Puts}
 use Rattle.promise.proofs.Fronts.{puts-none, puts-long, puts-next}
 use Rattle.promise.proofs.Laying.{lay-next}
@@ -37,13 +38,10 @@ pub else-digit : (z : ℤ) → pos 0 ≤ℤ z → ltZ z (pos 10) ≡ isDigit z
 else-digit (pos n) h = refl
 else-digit (negsuc n) h = absurd (omega zarith)
 
-no-bool : {A : Type 0} → false ≡ true → A
-no-bool e = let z : _≡_ {A = ℕ} 0 1 = cc in absurd (omega arith)
-
 digit-short : (z : ℤ) (end : ℕ) → isDigit z ≡ true → length (signedEnded z end) ≤ 2
 unfolding signedEnded
 digit-short (pos n) end e = omega (arith, ended-one n end (ltb-true n 10 e))
-digit-short (negsuc n) end e = no-bool e
+digit-short (negsuc n) end e = never e
 
 -- ---- a coordinate
 whole-short : (z : ℤ) (end : ℕ) → natAbs z ≤ 2147483648 → length (signedEnded z end) ≤ 12
@@ -116,15 +114,11 @@ pub record Lines (zs : List ℤ) (at : ℕ) (text₀ text : List ℕ) (next i : 
   pub pieces : Pieces 26 (length zs / 3) at (vertexLines zs) text₀ text next i (vertexLines (drop (3 * i) zs))
   pub digits : digitIds (drop (3 * i) zs) ≡ true
 
-both : (t u : Bool) → cond t u false ≡ true → (t ≡ true) × (u ≡ true)
-both true u e = (refl, e)
-both false u e = no-bool e
-
 module _ {zs : List ℤ} {at : ℕ} {text₀ text : List ℕ} {next i : ℕ} (c : Lines zs at text₀ text next i) where
   pub lines-turn : (r : ℕ) (l : List ℕ) → i < length zs / 3 → SFits w32 (getD zs (3 * i + 1) (pos 0)) → SFits w32 (getD zs (3 * i + 2) (pos 0)) → length l ≡ length text
       → Gives (appended (vertexLine (getD zs (3 * i) (pos 0)) (getD zs (3 * i + 1) (pos 0)) (getD zs (3 * i + 2) (pos 0))) next text) r l → Lines zs at text₀ l r (i + 1)
   lines-turn r l h f g m k =
-      let d = both (isDigit (getD zs (3 * i) (pos 0))) (digitIds (drop (3 * (i + 1)) zs)) (rw (three zs i h) at (c .digits)) in
+      let d = cond-both (isDigit (getD zs (3 * i) (pos 0))) (digitIds (drop (3 * (i + 1)) zs)) (rw (three zs i h) at (c .digits)) in
       record {
         pieces = pieces-turn (c .pieces) _ (vertexLines (drop (3 * (i + 1)) zs)) r l h (vertex-short _ _ _ (d .0) f g) (rw (three zs i h)) m k;
         digits = d .1;

@@ -1,6 +1,7 @@
 -- Tests joined by `&&`, and tests that tell the same.
 --     same                  two tests that tell the same
 --     both both-is and-sym  two tests joined
+--     never cond-both       two tests, the second asked where the first holds
 --     all-four              four tests joined, each told by another
 --     by-both by-four       a definition that goes by two or by four joined tests
 use mathlib.Core.Path.{_≡_, refl, sym}
@@ -41,3 +42,11 @@ module _ {A : Type 0} (P : A → Type 0) where
   by-four true true false v p q f g h k l = k refl
   by-four true false u v p q f g h k l = h refl
   by-four false t u v p q f g h k l = g refl
+
+-- ---- two tests, the second asked where the first holds
+pub never : {X : Type 0} → false ≡ true → X
+never p = absurd (let z : _≡_ {A = Prim.Native.Nat.ℕ} 0 1 = cc in omega arith)
+
+pub cond-both : (a b : Bool) → cond a b false ≡ true → (a ≡ true) × (b ≡ true)
+cond-both true b e = (refl, e)
+cond-both false b e = never e

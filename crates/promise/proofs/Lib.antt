@@ -7,3 +7,4 @@ pub mod Copying
 pub mod Cases
 pub mod Joined
 pub mod Stores
+pub mod Steps

@@ -5,23 +5,22 @@ use mathlib.Core.Path.{_≡_, refl, sym, ap, subst, _∙_}
 use mathlib.Core.Bool.{Bool, true, false, cond}
 use mathlib.Core.List.{List, [], _∷_, _++_}
 use lib.ListN.{length, take, drop}
-use lib.Dec.{leb, eqb}
+use lib.Dec.{eqb}
 use Rattle.promise.specs.Answers.{Written, kept}
-use Rattle.refusal.specs.declared.Refusal.the-variants.{Job, Kind, State, Room, Text as TextRefusal, Turn}
+use Rattle.refusal.specs.declared.Refusal.the-variants.{Job, State}
 use Rattle.refusal.specs.Refusals.{numberOf}
 use Rattle.refusal.specs.Said.{Said, accepted, refused}
-use Rattle.words.specs.Geometries.{isKind, maxWords}
 use Rattle.layer.specs.declared.Layer.{Layer}
 use Rattle.layer.specs.declared.Open.the-variants.{Shut}
 use Rattle.layer.specs.declared.whole_feature.Head.{Head}
-use Rattle.layer.specs.Held.{Memory, Seen, seen, Change, refuses, holds, fits, next, onto}
+use Rattle.layer.specs.Held.{Memory, Seen, Change, refuses, holds, next, onto}
 use Rattle.layer.specs.State.{valid}
-use Rattle.layer.specs.Calls.{isShut, numFeatures, numTags, nameOf}
-use Rattle.layer.specs.TagLists.{tagsOk, tagsShort, tagsOf}
-use Rattle.layer.specs.Whole.{featurePut, addFeature}
+use Rattle.layer.specs.Calls.{numFeatures, numTags, nameOf}
+use Rattle.layer.specs.TagLists.{tagsOf}
+use Rattle.layer.specs.Whole.{addFeature}
 use Rattle.layer.specs.Lookup.{Index, indexed}
 use Rattle.layer.specs.Many.{Many, headOf, headsOk, andNext, addAll, done, addFeatures}
-use Rattle.layer.proofs.Keeping.{Lengths, sound, by-check, is-shut}
+use Rattle.layer.proofs.Keeping.{Lengths, sound}
 use Rattle.layer.proofs.Checked.{by-feature}
 use Rattle.layer.proofs.After.{Sized, seen-lengths}
 use Rattle.layer.proofs.Features.{feature-sound, feature-room}
@@ -37,7 +36,7 @@ use Rattle.rollback.proofs.Rolled.{unseen}
 -- ---- a whole feature leaves parts within the room
 feature-sized : (f : Head) (words ws bytes : List ℕ) (v : Seen) → (valid v ≡ true → Lengths v) → All Sized (addFeature f words ws bytes v) v
 feature-sized f words ws bytes v L =
-    by-feature (λ (x : Change). All Sized x v) f words ws bytes v (λ q. tt) (λ list kind e shut h.
+    by-feature (λ (x : Change). All Sized x v) f words ws bytes v (λ q. tt) (λ list kind e u shut h.
     let S = feature-sound f words ws bytes v (sound v e (L e)) list kind shut in
     record { lengths = record { keys = S .lengths .keys; values = S .lengths .values; texts = S .lengths .texts; features = S .lengths .features }; room = rw (feature-room f words (tagsOf bytes ws) v) at h })
 

@@ -13,15 +13,14 @@ use lib.Seq.{take-at, take-all, take-append-le, length-take-le}
 use borrow.Author.Tests.{le-leb, eq-eqb}
 use Rattle.promise.specs.Laid.{lay}
 use Rattle.refusal.specs.declared.Refusal.{Refusal}
-use Rattle.refusal.specs.declared.Refusal.the-variants.{Kind, State, Room, Text as TextRefusal, Turn}
-use Rattle.table.specs.Texts.{shortText}
+use Rattle.refusal.specs.declared.Refusal.the-variants.{Kind, State, Room, Turn}
 use Rattle.words.specs.Geometries.{isKind, maxWords}
 use Rattle.layer.specs.declared.Figures.{Figures}
 use Rattle.layer.specs.declared.Open.the-variants.{Shut, Since}
 use Rattle.layer.specs.declared.Layer.{Layer}
 use Rattle.layer.specs.Held.{Memory, Seen, seen, Change, refuses, holds, fits, heldBy, smaller, maxTexts, next}
 use Rattle.layer.specs.State.{valid}
-use Rattle.layer.specs.Calls.{Tag, isValue, isShut, moreWords, withUsed, withFeatures, newRecord, moreOf, putOf, keyWords, valueWords, keyFound, valueFound, tagPut, newLayer, tagString, tagBits, bitOf}
+use Rattle.layer.specs.Calls.{Tag, isValue, isShut, moreWords, withFeatures, newRecord, moreOf, putOf, keyWords, valueWords, keyFound, valueFound, tagPut, newLayer, tagString, tagBits, bitOf}
 use Rattle.layer.proofs.Fitting.{both, Within, fits-yes, smaller-le}
 use Rattle.layer.proofs.Standing.{whole}
 use Rattle.rollback.specs.Runs.{Call, opens, marks, tags, closes, abandons, does, isOpenEnded, openEnded, answers, layerAfter, memoryAfter}
@@ -64,7 +63,7 @@ module _ (v₀ : Seen) (L : valid v₀ ≡ true → Lengths v₀) (s : v₀ .lay
       by-check (λ (x : Change). Stage v₀ (next x v₀)) (valid v₀) State _ (inl refl) (λ e.
       by-open (λ (x : Change). Stage v₀ (next x v₀)) (v₀ .layer .feature) _ (inl refl) (λ o f. not-open o f))
   start (tags t g) n =
-      by-tag (λ (x : Change). Stage v₀ (next x v₀)) t v₀ (λ q n. inl refl) (λ e o f h. not-open o f)
+      by-tag (λ (x : Change). Stage v₀ (next x v₀)) t v₀ (λ q n. inl refl) (λ e u o f h. not-open o f)
   start closes n = absurd (let z : _≡_ {A = ℕ} 0 1 = cc in omega arith)
   start abandons n =
       by-check (λ (x : Change). Stage v₀ (next x v₀)) (valid v₀) State _ (inl refl) (λ e.
@@ -126,7 +125,7 @@ module _ (v₀ : Seen) (L : valid v₀ ≡ true → Lengths v₀) (s : v₀ .lay
         by-check (λ (x : Change). Stage v₀ (next x v)) (valid v) State _ (inr F) (λ e.
         by-open (λ (x : Change). Stage v₀ (next x v)) (v .layer .feature) _ (inr F) (λ o f. inr (marked-from o f low high)))
     onward (tags t g) n =
-        by-tag (λ (x : Change). Stage v₀ (next x v)) t v (λ q n. inr F) (λ e o f h. inr (tag-from o f t g h))
+        by-tag (λ (x : Change). Stage v₀ (next x v)) t v (λ q n. inr F) (λ e u o f h. inr (tag-from o f t g h))
     onward closes n = absurd (let z : _≡_ {A = ℕ} 0 1 = cc in omega arith)
     onward abandons n = inl back
 
@@ -211,7 +210,7 @@ never-state (marks low high) v S =
     rw (S .fine .stands)
     (by-open OtherThanState (v .layer .feature) _ (λ e. let z : _≡_ {A = ℕ} 0 1 = cc in omega arith) (λ o f e. let z : _≡_ {A = ℕ} 0 1 = cc in omega arith))
 never-state (tags t g) v S =
-    by-tag OtherThanState t v (λ q n e. let y : valid v ≡ false = n (ap refusalOf e) in let s = S .fine .stands in let z : _≡_ {A = ℕ} 0 1 = cc in omega arith) (λ e o f h k. let z : _≡_ {A = ℕ} 0 1 = cc in omega arith)
+    by-tag OtherThanState t v (λ q n e. let y : valid v ≡ false = n (ap refusalOf e) in let s = S .fine .stands in let z : _≡_ {A = ℕ} 0 1 = cc in omega arith) (λ e u o f h k. let z : _≡_ {A = ℕ} 0 1 = cc in omega arith)
 never-state closes v S =
     rw (S .fine .stands)
     (by-open OtherThanState (v .layer .feature) _ (λ e. let z : _≡_ {A = ℕ} 0 1 = cc in omega arith) (λ o f e. let z : _≡_ {A = ℕ} 0 1 = cc in omega arith))

@@ -7,6 +7,7 @@ use native.Mathlib.Omega.{arith}
 use lib.ListN.{length, take, drop, length-take}
 use lib.Dec.{leb, eqb}
 use borrow.Author.Tests.{le-leb, leb-true}
+use Rattle.promise.proofs.Joined.{cond-both}
 use Rattle.promise.specs.Laid.{lay}
 use Rattle.promise.proofs.Laying.{lay-behind}
 use Rattle.refusal.specs.declared.Refusal.{Refusal}
@@ -26,7 +27,6 @@ use Rattle.layer.specs.TagLists.{tagOk, tagsOk, textPlace, shortTag, tagsShort,
 use Rattle.layer.specs.Whole.{featureOpened, tagsPut, featurePut, addFeature}
 use Rattle.layer.proofs.Fitting.{both}
 use Rattle.layer.proofs.Keeping.{Lengths, Sound, sound, fine, is-shut, tag-sound, opened-sound}
-use Rattle.layer.proofs.Listing.{yes}
 use Rattle.layer.proofs.Growth.{tags-grow, fits-before, same-feature, same-room}
 use Rattle.layer.proofs.Filled.{value-given}
 use Rattle.layer.proofs.Features.{feature-opened, feature-tagged}
@@ -59,10 +59,10 @@ tags-run bytes (a ∷ b ∷ c ∷ d ∷ []) e s w o u f S h rest = refl
 tags-run bytes (start ∷ len ∷ kind ∷ low ∷ high ∷ ws) e s y o u f S h rest =
     let t = tagOf bytes start len kind low high in
     let w = tagPut o t u in
-    let p = yes (tagOk (length bytes) start len kind low high) (tagsOk (length bytes) ws) e in
-    let q = yes (shortTag len kind low high) (tagsShort ws) s in
+    let p = cond-both (tagOk (length bytes) start len kind low high) (tagsOk (length bytes) ws) e in
+    let q = cond-both (shortTag len kind low high) (tagsShort ws) s in
     let z = both (shortText len) (shortText (textPlace kind low high .len)) (q .0) in
-    let x = yes (tagUtf8 t) (tagsUtf8 (tagsOf bytes ws)) y in
+    let x = cond-both (tagUtf8 t) (tagsUtf8 (tagsOf bytes ws)) y in
     let well = both (isUtf8 (t .key)) (isUtf8 (t .text)) (x .0) in
     let g = value-given (length bytes) kind low high (eqb kind 1) refl (both (inside (length bytes) start len) (valueOk (length bytes) kind low high) (p .0) .1) in
     let r = one-call t (isValue (t .value)) refl (tagCalls (tagsOf bytes ws) ++ rest) g in

@@ -17,10 +17,10 @@ use Rattle.words.specs.Geometries.{isKind, maxWords}
 use Rattle.layer.specs.declared.Layer.{Layer}
 use Rattle.layer.specs.declared.Open.the-variants.{Shut, Since}
 use Rattle.layer.specs.declared.whole_feature.Head.{Head}
-use Rattle.layer.specs.Held.{Memory, mem, Seen, seen, Change, refuses, holds, check, next}
+use Rattle.layer.specs.Held.{Memory, mem, Seen, seen, refuses, check, next}
 use Rattle.layer.specs.State.{valid}
 use Rattle.layer.specs.Calls.{isShut, newLayer, recordWith, Tag, ifRoom}
-use Rattle.layer.specs.TagLists.{tagOk, tagsOk, tagsShort, tagsUtf8, tagOf, tagsOf}
+use Rattle.layer.specs.TagLists.{tagOk, tagsShort, tagsUtf8, tagOf, tagsOf}
 use Rattle.layer.specs.Whole.{markOf, featurePut, addFeature}
 use Rattle.layer.specs.Lookup.{Index, idx, indexed}
 use Rattle.layer.specs.Many.{Many, headOf, headsOk, andNext, addAll, addFeatures, addIndexed}

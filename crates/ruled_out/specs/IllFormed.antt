@@ -1,7 +1,7 @@
 -- Crates `utf8` and `layer`: texts that are not UTF-8 taken, texts that are refused, and UTF8 asked out of its turn.
 use Prim.Native.Nat.{ℕ}
 use mathlib.Core.Path.{_≡_, refl, ap}
-use mathlib.Core.Bool.{true, false, cond, _&&_}
+use mathlib.Core.Bool.{true, false, cond}
 use mathlib.Core.List.{List, [], _∷_}
 use lib.Dec.{leb}
 use lib.ListN.{length, replicate}
@@ -15,7 +15,7 @@ use Rattle.utf8.specs.Utf8.{within, tail, isUtf8}
 use Rattle.words.specs.Geometries.{isKind, maxWords}
 use Rattle.layer.specs.declared.whole_feature.Head.{Head}
 use Rattle.layer.specs.declared.Open.the-variants.{Shut}
-use Rattle.layer.specs.Held.{mem, Seen, seen, Change, check, whenOpen, smaller, maxTexts}
+use Rattle.layer.specs.Held.{mem, Seen, seen, check, whenOpen, smaller, maxTexts}
 use Rattle.layer.specs.State.{valid}
 use Rattle.layer.specs.Calls.{isShut, Tag, tagged, addTag, tagString, tagBits, newLayer, created, ifRoom}
 use Rattle.layer.specs.TagLists.{tagsOk, tagsShort, tagUtf8, tagsUtf8, tagsOf}

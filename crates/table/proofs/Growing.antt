@@ -1,21 +1,15 @@
 -- Entries that lie within so many bytes still do where there are more bytes, and so do more of them behind.
 use Prim.Native.Nat.{ℕ, _+_, _≤_}
 use mathlib.Core.Path.{_≡_, refl}
-use mathlib.Core.Bool.{Bool, true, false, cond}
+use mathlib.Core.Bool.{Bool, true, false}
 use mathlib.Core.List.{List, [], _∷_, _++_}
 use native.Mathlib.Omega.{arith}
 use lib.Dec.{eqb}
 use borrow.Author.Tests.{le-leb, leb-true}
+use Rattle.promise.proofs.Joined.{never, cond-both}
 use Rattle.table.specs.Texts.{inside}
 use Rattle.table.specs.Keys.{keysIn}
 use Rattle.table.specs.Values.{valueOk, valuesIn}
-
-pub never : {X : Type 0} → false ≡ true → X
-never p = absurd (let z : _≡_ {A = ℕ} 0 1 = cc in omega arith)
-
-pub cond-both : (a b : Bool) → cond a b false ≡ true → (a ≡ true) × (b ≡ true)
-cond-both true b e = (refl, e)
-cond-both false b e = never e
 
 wider : (bytes more start len : ℕ) → bytes ≤ more → inside bytes start len ≡ true → inside more start len ≡ true
 wider bytes more start len h e = le-leb (start + len) more (omega (arith, leb-true (start + len) bytes e))

@@ -9,7 +9,7 @@ use lib.Dec.{leb}
 use borrow.Author.Tests.{not-true, not-false}
 use mathlib.Core.Bool.{cond}
 use Rattle.table.specs.Keys.{keysIn}
-use Rattle.table.proofs.Steps.{next}
+use Rattle.promise.proofs.Steps.{next}
 
 pub record Inv (bytes : ℕ) (keys : List ℕ) (i : ℕ) : Type 0 where
   pub at : i ≤ length keys

@@ -1,4 +1,3 @@
-pub mod Steps
 pub mod Same
 pub mod Finding
 pub mod Keys

@@ -14,7 +14,7 @@ use Rattle.table.specs.declared.Value.{Value}
 use Rattle.promise.specs.Widened.{Wide}
 use Rattle.table.specs.Texts.{sameText}
 use Rattle.table.specs.Values.{isZero, sameContent, sameValue, findValue, valueOk, valuesIn}
-use Rattle.table.proofs.Steps.{next}
+use Rattle.promise.proofs.Steps.{next}
 
 -- ---- `same_content`
 module _ (kind low high low₂ high₂ : ℕ) where

@@ -1,6 +1,6 @@
 -- Texts that are UTF-8 and texts that are not, as two lists and one statement of each: the definition computes.
 use mathlib.Core.Path.{_≡_, refl}
-use mathlib.Core.Bool.{Bool, true, false}
+use mathlib.Core.Bool.{true, false}
 use mathlib.Core.List.{List, [], _∷_, map}
 use Prim.Native.Nat.{ℕ}
 use Rattle.utf8.specs.Utf8.{isUtf8}

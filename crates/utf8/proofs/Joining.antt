@@ -1,9 +1,9 @@
 -- Texts that are UTF-8, one behind the other, are UTF-8: a writer that puts them together need not look again.
 use Prim.Native.Nat.{ℕ}
-use mathlib.Core.Path.{_≡_, refl}
+use mathlib.Core.Path.{_≡_}
 use mathlib.Core.Bool.{Bool, true, false, cond}
 use mathlib.Core.List.{List, [], _∷_, _++_}
-use native.Mathlib.Omega.{arith}
+use Rattle.promise.proofs.Joined.{never}
 use Rattle.utf8.specs.Utf8.{Range, Row, within, rows, byRow, awaits, isUtf8}
 
 either : (t : Bool) {w x y z : Bool} → (w ≡ true → y ≡ true) → (x ≡ true → z ≡ true) → cond t w x ≡ true → cond t y z ≡ true
@@ -17,7 +17,7 @@ module _ (bs : List ℕ) (e : isUtf8 bs ≡ true) where
 
   behind : (rs : List Range) (xs : List ℕ) → awaits rs xs ≡ true → awaits rs (xs ++ bs) ≡ true
   behind [] [] h = e
-  behind (r ∷ rs) [] h = absurd (let z : _≡_ {A = ℕ} 0 1 = cc in omega arith)
+  behind (r ∷ rs) [] h = never h
   behind [] (a ∷ xs) h = by-first rows a xs (λ rs g. behind rs xs g) h
   behind (r ∷ rs) (a ∷ xs) h = either (within r a) (behind rs xs) (λ g. g) h
 

@@ -5,16 +5,13 @@ use mathlib.Core.Bool.{Bool, true, false, cond, not, _&&_}
 use mathlib.Core.List.{List, [], _∷_}
 use native.Mathlib.Omega.{arith}
 use lib.ListN.{length, getD, drop, length-drop}
-use lib.Seq.{drop-cons, drop-drop, drop-length}
-use lib.Dec.{leb, eqb}
+use lib.Seq.{drop-drop, drop-length}
+use lib.Dec.{leb}
 use borrow.Author.Tests.{not-true, not-false, leb-true, leb-false, le-leb, lt-leb, ne-eqb}
 use Rattle.promise.proofs.Joined.{both, both-is}
-use Rattle.utf8.specs.Utf8.{Range, _to_, within, ascii, tail, rows, byRow, awaits, isUtf8}
+use Rattle.promise.proofs.Steps.{next}
+use Rattle.utf8.specs.Utf8.{Range, _to_, within, ascii, rows, byRow, awaits, isUtf8}
 use Rattle.utf8.specs.Steps.{follows, ranges, Goes, Read}
-
--- the list from index j on, where its element at j and the rest are told apart
-next : (l : List ℕ) (j k : ℕ) → k ≡ suc j → j < length l → drop j l ≡ getD l j 0 ∷ drop k l
-next l j k e h = rw e (drop-cons l j 0 h)
 
 -- ---- `followed`
 few : (rs : List Range) (bs : List ℕ) → length bs < length rs → follows rs bs ≡ false

@@ -1,10 +1,14 @@
-// Whether a text is UTF-8, as the Unicode Standard defines it. Each byte is looked at once; the ASCII at its front goes by four bytes.
+// Whether a text is UTF-8, as the Unicode Standard defines it. The ASCII at its front goes by four bytes; each byte is looked at once, but for the four at
+// which that ends.
 ghost use mathlib.Core.Path.{_≡_};
 ghost use mathlib.Core.Bool.{cond, _&&_};
 ghost use Prim.Native.Nat.{_+_, _-_, _≤_, _<_};
 ghost use lib.ListN.{length, drop};
 ghost use Rattle.utf8.specs.Utf8.{within, ascii, isUtf8};
 ghost use Rattle.utf8.specs.Steps.{follows, ranges, Goes, Read};
+
+// The last byte that is a sequence by itself.
+const ASCII_HIGH: u8 = 0x7F;
 
 // The range of every byte of a sequence behind its second.
 const TAIL_LOW: u8 = 0x80;
@@ -17,7 +21,7 @@ fn followed(text: &[u8], i: usize, low: u8, high: u8, n: usize) -> usize
     ensures { λ r. ⌜ r ≡ cond (follows (ranges low high (n - 1)) (drop (i + 1) (now (text .entry)))) n 0 ⌝ }
 {
     if text.len() - i < n {
-        return 0; // cut
+        return 0; // cut short
     }
     let mut lo = low;
     let mut hi = high;
@@ -40,7 +44,7 @@ fn sequence(text: &[u8], i: usize) -> usize
     ensures { λ r. ⌜ Goes (now (text .entry)) i r ⌝ }
 {
     let a = text[i];
-    if a <= 0x7F {
+    if a <= ASCII_HIGH {
         return 1;
     }
     if (0xC2 <= a) & (a <= 0xDF) {
@@ -86,7 +90,7 @@ fn is_utf8_from(text: &[u8], from: usize) -> bool
     true
 }
 
-// Whether four bytes are ASCII: none of them has its highest bit. One test for the four is a third of what they cost by themselves.
+// Whether four bytes are ASCII: none of them has its highest bit. One test in place of four, since texts are read often and most are ASCII.
 fn are_ascii(a: u8, b: u8, c: u8, d: u8) -> bool
     ensures { λ r. ⌜ r ≡ (within ascii a && (within ascii b && (within ascii c && within ascii d))) ⌝ }
 {
@@ -108,13 +112,13 @@ fn past_ascii(text: &[u8]) -> usize
     i
 }
 
-// Whether a text is UTF-8. What is ASCII at its front is read without asking for rows, since keys and names mostly are.
+// Whether a text is UTF-8. Rows are asked for from the first byte on that is not ASCII.
 pub fn is_utf8(text: &[u8]) -> bool
     ensures { λ r. ⌜ r ≡ isUtf8 (now (text .entry)) ⌝ }
 {
     let mut i = past_ascii(text);
     while i < text.len() {
-        if 0x7F < text[i] {
+        if ASCII_HIGH < text[i] {
             return is_utf8_from(text, i);
         }
         i += 1;
