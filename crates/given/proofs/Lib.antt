@@ -10,3 +10,4 @@ pub mod Bytes
 pub mod Whole
 pub mod Runs
 pub mod Corollaries
+pub mod Texts

@@ -3,3 +3,4 @@ pub mod Messages
 pub mod Asked
 pub mod Layout
 pub mod Runs
+pub mod Texts

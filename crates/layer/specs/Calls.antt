@@ -1,5 +1,5 @@
 -- Document 01, "Tags and rollback": the calls on a layer, each as what it makes of what it sees, with its checks in the table's order.
-use Prim.Native.Nat.{ℕ, _+_, _%_, _/_}
+use Prim.Native.Nat.{ℕ, _+_, _-_, _%_, _/_}
 use mathlib.Core.Bool.{Bool, true, false, cond}
 use mathlib.Core.List.{List, [], _∷_, _++_}
 use lib.ListN.{length, getD, set, take}
