@@ -8,6 +8,7 @@ pub mod Holding
 pub mod Standing
 pub mod Bytes
 pub mod Whole
+pub mod Courses
 pub mod Runs
 pub mod Corollaries
 pub mod Texts

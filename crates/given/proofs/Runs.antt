@@ -1,28 +1,23 @@
 -- One theorem for a whole run: the used bytes of a fresh tile after any layers made by any calls are MVT's message of what was given.
-use Prim.Native.Nat.{ℕ, zero, suc, _+_, _≤_}
+use Prim.Native.Nat.{ℕ, _≤_}
 use mathlib.Core.Path.{_≡_, refl, ap, _∙_, subst}
 use mathlib.Core.Bool.{Bool, true, false, cond}
 use mathlib.Core.List.{List, [], _∷_, map}
 use native.Mathlib.Omega.{arith}
-use lib.ListN.{length, take, drop, replicate}
+use lib.ListN.{length, take, replicate}
 use lib.Seq.{take-at, take-length}
 use lib.Dec.{leb, eqb}
-use borrow.Author.Tests.{ne-eqb, leb-true}
+use borrow.Author.Tests.{leb-true}
 use Rattle.promise.specs.Laid.{lay}
-use Rattle.promise.specs.Answers.{Written, kept}
-use Rattle.refusal.specs.declared.Refusal.the-variants.{Job, State}
-use Rattle.refusal.specs.Refusals.{numberOf}
-use Rattle.refusal.specs.Said.{Said, accepted, refused}
-use Rattle.refusal.proofs.Laws.{numbered}
+use Rattle.promise.specs.Answers.{Written}
+use Rattle.refusal.specs.Said.{Said, accepted}
 use Rattle.table.specs.Texts.{shortText}
 use Rattle.utf8.specs.Utf8.{isUtf8}
 use Rattle.layer.specs.declared.Layer.{Layer}
 use Rattle.layer.specs.declared.Open.the-variants.{Shut}
-use Rattle.layer.specs.Held.{Memory, mem, Seen, seen, Change, refuses, holds, next, smaller, maxTexts, written, onto}
+use Rattle.layer.specs.Held.{Memory, mem, Seen, seen, Change, refuses, holds, next, smaller, maxTexts}
 use Rattle.layer.specs.State.{valid}
 use Rattle.layer.specs.Calls.{isShut, created}
-use Rattle.layer.specs.Whole.{addFeature}
-use Rattle.layer.specs.Many.{Many, headOf, headsOk, andNext, done, addAll}
 use Rattle.layer.proofs.Fitting.{smaller-le}
 use Rattle.layer.proofs.Keeping.{is-shut}
 use Rattle.layer.proofs.After.{seen-after}
@@ -31,11 +26,12 @@ use Rattle.tile.specs.declared.Tile.{Tile}
 use Rattle.tile.specs.Adding.{addLayer, one-layer}
 use Rattle.tile.specs.Holding.{tileBytes, At, call, after, afterAll, taken}
 use Rattle.tile.proofs.Holding.{run-holds}
-use Rattle.given.specs.Given.{Feature, Drawing, added}
+use Rattle.given.specs.Given.{Drawing}
 use Rattle.given.specs.Messages.{tileMessage, p-tile}
-use Rattle.given.specs.Asked.{Made, calls, whole, asked, gives, featureGiven, featuresGiven, addedAll, FineMade, Words}
+use Rattle.given.specs.Asked.{Made, calls, whole, asked, gives, FineMade}
 use Rattle.given.specs.Layout.{no-keys, no-values, Stands}
-use Rattle.given.specs.Runs.{Page, turned, Step, one, many, stepped, steppedAll, Plan, begun, pageOf, FineStep, AllFine, Sound, AllSound, layerOf, drawings}
+use Rattle.given.specs.Runs.{Page, Step, steppedAll, Plan, begun, pageOf, AllFine, Sound, AllSound, layerOf, drawings}
+use Rattle.given.proofs.Courses.{Keeps, run-keeps}
 use Rattle.given.proofs.Standing.{stands-lengths, Kept, call-stands}
 use Rattle.given.proofs.Whole.{whole-stands}
 use Rattle.given.proofs.Bytes.{layer-bytes}
@@ -49,105 +45,42 @@ pub accepted-stands : (c : Made) → FineMade c → (v : Seen) (d : Drawing) →
 accepted-stands c g v d S t h e = let K : Kept (gives c d) v (holds t h) = subst (Kept (gives c d) v) e (made-stands c g v d S) in K .stands
 
 -- ---- in memory
+abbrev StandsIn : Layer → Memory → Drawing → Type 0
+StandsIn s m d = Stands (seen s m) d
+
 abbrev pub PageStands : Page → Type 0
-PageStands p = Stands (seen (p .layer) (p .memory)) (p .drawing)
+PageStands p = StandsIn (p .layer) (p .memory) (p .drawing)
 
-module _ (s : Layer) (m : Memory) (d e : Drawing) (S : Stands (seen s m) d) where
-  by-change : (x : Change) → Kept e (seen s m) x → Stands (seen (written x s m .answer .values) (written x s m .memory)) (cond (eqb (written x s m .answer .number) 0) e d)
-  by-change (refuses r) K = rw (ne-eqb (numberOf r) 0 (λ z. omega (arith, numbered r))) S
-  by-change (holds t h) K = rw (seen-after t h m (record { lengths = stands-lengths _ e (K .stands); room = K .room })) (K .stands)
-
-pub turned-stands : (c : Made) → FineMade c → (p : Page) → PageStands p → PageStands (turned c p)
-turned-stands c g p S = by-change (p .layer) (p .memory) (p .drawing) (gives c (p .drawing)) S (asked c (seen (p .layer) (p .memory))) (made-stands c g (seen (p .layer) (p .memory)) (p .drawing) S)
-
--- many features: so many as are counted were accepted, one after the other
-words-take : (n : ℕ) (ws : List ℕ) → Words ws → Words (take n ws)
-words-take zero ws g = tt
-words-take (suc n) [] g = tt
-words-take (suc n) (w ∷ ws) g = (g .0, words-take n ws (g .1))
-
-words-drop : (n : ℕ) (ws : List ℕ) → Words ws → Words (drop n ws)
-words-drop zero ws g = g
-words-drop (suc n) [] g = tt
-words-drop (suc n) (w ∷ ws) g = words-drop n ws (g .1)
-
--- k of the features were accepted behind n, and the drawing with these stands
-pub record ManyStand (n : ℕ) (fs : List Feature) (d : Drawing) (r : Written (Said Many) Memory) : Type 0 where
-  pub more : ℕ
-  pub counted : r .answer .values .count ≡ n + more
-  pub stand : Stands (seen (r .answer .values .layer) (r .memory)) (addedAll (take more fs) d)
-
-none-more : (n : ℕ) (fs : List Feature) (s : Layer) (m : Memory) (d : Drawing) → Stands (seen s m) d → ManyStand n fs d (done n s m)
-none-more n fs s m d S = by (valid (seen s m))
-  where
-    by : (b : Bool) → ManyStand n fs d (cond b (kept (accepted (record { layer = s; count = n })) m) (kept (refused State (record { layer = s; count = n })) m))
-    by true = record { more = 0; counted = omega arith; stand = S }
-    by false = record { more = 0; counted = omega arith; stand = S }
-
-one-more : (n : ℕ) (f : Feature) (fs : List Feature) (s : Layer) (m : Memory) (d : Drawing) → Stands (seen s m) d → (x : Change) → Kept (added f d) (seen s m) x → (go : Layer → Memory → Written (Said Many) Memory) → ((u : Layer) (l : Memory) → Stands (seen u l) (added f d) → ManyStand (suc n) fs (added f d) (go u l)) → ManyStand n (f ∷ fs) d (andNext x s m n go)
-one-more n f fs s m d S (refuses r) K go k = record { more = 0; counted = omega arith; stand = S }
-one-more n f fs s m d S (holds t h) K go k =
-    let N = k t (onto h m) (rw (seen-after t h m (record { lengths = stands-lengths _ (added f d) (K .stands); room = K .room })) (K .stands)) in
-    record { more = suc (N .more); counted = omega (arith, N .counted); stand = N .stand }
-
-many-from : (hs : List ℕ) (n : ℕ) (words ws bytes : List ℕ) → Words ws → (s : Layer) (m : Memory) (d : Drawing) → Stands (seen s m) d → ManyStand n (featuresGiven hs words ws bytes) d (addAll n hs words ws bytes s m)
-many-from [] n words ws bytes g s m d S = none-more n [] s m d S
-many-from (a ∷ []) n words ws bytes g s m d S = none-more n [] s m d S
-many-from (a ∷ b ∷ []) n words ws bytes g s m d S = none-more n [] s m d S
-many-from (a ∷ b ∷ c ∷ []) n words ws bytes g s m d S = none-more n [] s m d S
-many-from (a ∷ b ∷ c ∷ e ∷ []) n words ws bytes g s m d S = none-more n [] s m d S
-many-from (a ∷ b ∷ c ∷ e ∷ x ∷ []) n words ws bytes g s m d S = none-more n [] s m d S
-many-from (kind ∷ mark ∷ low ∷ high ∷ w ∷ t ∷ hs) n words ws bytes g s m d S =
-    let f = headOf kind mark low high in
-    one-more n (featureGiven f (take w words) (take t ws) bytes) (featuresGiven hs (drop w words) (drop t ws) bytes) s m d S
-    (addFeature f (take w words) (take t ws) bytes (seen s m))
-    (whole-stands f (take w words) (take t ws) bytes (words-take t ws g) (seen s m) d S)
-    (λ u l. addAll (suc n) hs (drop w words) (drop t ws) bytes u l)
-    (λ u l T. many-from hs (suc n) (drop w words) (drop t ws) bytes (words-drop t ws g) u l (added (featureGiven f (take w words) (take t ws) bytes) d) T)
-
-pub many-stands : (heads words ws bytes : List ℕ) → Words ws → (p : Page) → PageStands p → PageStands (stepped (many heads words ws bytes) p)
-many-stands heads words ws bytes g p S = by (headsOk (length words) (length ws) heads) refl
-  where
-    P : Written (Said Many) Memory → Type 0
-    P r = Stands (seen (r .answer .values .layer) (r .memory)) (addedAll (take (r .answer .values .count) (featuresGiven heads words ws bytes)) (p .drawing))
-
-    all : P (addAll 0 heads words ws bytes (p .layer) (p .memory))
-    all =
-        let N = many-from heads 0 words ws bytes g (p .layer) (p .memory) (p .drawing) S in
-        let e : addAll 0 heads words ws bytes (p .layer) (p .memory) .answer .values .count ≡ N .more = omega (arith, N .counted) in
-        rw e (N .stand)
-
-    by : (b : Bool) → headsOk (length words) (length ws) heads ≡ b → P (cond b (addAll 0 heads words ws bytes (p .layer) (p .memory)) (kept (refused Job (record { layer = p .layer; count = 0 })) (p .memory)))
-    by true e = all
-    by false e = S
-
-pub step-stands : (c : Step) → FineStep c → (p : Page) → PageStands p → PageStands (stepped c p)
-step-stands (one c) g p S = turned-stands c g p S
-step-stands (many heads words ws bytes) g p S = many-stands heads words ws bytes g p S
+-- what is laid over the lists is what is seen then
+as-laid : (s : Layer) (m : Memory) (e : Drawing) (x : Change) → Kept e (seen s m) x → Keeps StandsIn s m e x
+as-laid s m e (refuses r) K = tt
+as-laid s m e (holds t h) K = rw (seen-after t h m (record { lengths = stands-lengths _ e (K .stands); room = K .room })) (K .stands)
 
 pub all-stand : (cs : List Step) → AllFine cs → (p : Page) → PageStands p → PageStands (steppedAll cs p)
-all-stand [] g p S = S
-all-stand (c ∷ cs) g p S = all-stand cs (g .1) (stepped c p) (step-stands c (g .0) p S)
+all-stand = run-keeps StandsIn (λ c g s m d S. as-laid s m (gives c d) (asked c (seen s m)) (made-stands c g (seen s m) d S))
 
 -- ---- a new layer
-room-for : (name : List ℕ) (extent : ℕ) (ts : List ℕ) → created name extent ts .answer .number ≡ 0 → length name ≤ length ts
-room-for name extent ts e = by (shortText (length name)) (isUtf8 name) (leb (length name) (smaller (length ts) maxTexts)) refl refl refl
+-- an accepted one passed its three checks
+pub record Accepted (name ts : List ℕ) : Type 0 where
+  pub short : shortText (length name) ≡ true
+  pub utf8 : isUtf8 name ≡ true
+  pub room : leb (length name) (smaller (length ts) maxTexts) ≡ true
+
+pub passed : (name : List ℕ) (extent : ℕ) (ts : List ℕ) → created name extent ts .answer .number ≡ 0 → Accepted name ts
+passed name extent ts e = by (shortText (length name)) (isUtf8 name) (leb (length name) (smaller (length ts) maxTexts)) refl refl refl
   where
-    by : (a b c : Bool) → shortText (length name) ≡ a → isUtf8 name ≡ b → leb (length name) (smaller (length ts) maxTexts) ≡ c → length name ≤ length ts
-    by true true true p u q = omega (arith, leb-true (length name) (smaller (length ts) maxTexts) q, smaller-le (length ts) maxTexts)
-    by true true false p u q = absurd (let z : _≡_ {A = ℕ} 7 0 = rw (p, u, q) at e in omega arith)
-    by true false c p u q = absurd (let z : _≡_ {A = ℕ} 22 0 = rw (p, u) at e in omega arith)
-    by false b c p u q = absurd (let z : _≡_ {A = ℕ} 11 0 = rw p at e in omega arith)
+    by : (a b c : Bool) → shortText (length name) ≡ a → isUtf8 name ≡ b → leb (length name) (smaller (length ts) maxTexts) ≡ c → Accepted name ts
+    by true true true p q r = record { short = p; utf8 = q; room = r }
+    by true true false p q r = absurd (let z : _≡_ {A = ℕ} 7 0 = rw (p, q, r) at e in omega arith)
+    by true false c p q r = absurd (let z : _≡_ {A = ℕ} 22 0 = rw (p, q) at e in omega arith)
+    by false b c p q r = absurd (let z : _≡_ {A = ℕ} 11 0 = rw p at e in omega arith)
+
+room-for : (name : List ℕ) (extent : ℕ) (ts : List ℕ) → created name extent ts .answer .number ≡ 0 → length name ≤ length ts
+room-for name extent ts e = omega (arith, leb-true (length name) (smaller (length ts) maxTexts) (passed name extent ts e .room), smaller-le (length ts) maxTexts)
 
 -- what is begun with is what creating answered and left
 pub begun-is : (p : Plan) → created (p .name) (p .extent) (p .lent .texts) .answer .number ≡ 0 → created (p .name) (p .extent) (p .lent .texts) ≡ record { answer = accepted (begun p .layer ∷ []); memory = begun p .memory .texts }
-begun-is p e = by (shortText (length (p .name))) (isUtf8 (p .name)) (leb (length (p .name)) (smaller (length (p .lent .texts)) maxTexts)) refl refl refl
-  where
-    by : (a b c : Bool) → shortText (length (p .name)) ≡ a → isUtf8 (p .name) ≡ b → leb (length (p .name)) (smaller (length (p .lent .texts)) maxTexts) ≡ c → created (p .name) (p .extent) (p .lent .texts) ≡ record { answer = accepted (begun p .layer ∷ []); memory = begun p .memory .texts }
-    by true true true x u y = rw (x, u, y)
-    by true true false x u y = absurd (let z : _≡_ {A = ℕ} 7 0 = rw (x, u, y) at e in omega arith)
-    by true false c x u y = absurd (let z : _≡_ {A = ℕ} 22 0 = rw (x, u) at e in omega arith)
-    by false b c x u y = absurd (let z : _≡_ {A = ℕ} 11 0 = rw x at e in omega arith)
+begun-is p e = let A = passed (p .name) (p .extent) (p .lent .texts) e in rw (A .short, A .utf8, A .room)
 
 pub begun-stands : (p : Plan) → created (p .name) (p .extent) (p .lent .texts) .answer .number ≡ 0 → PageStands (begun p)
 begun-stands p e =

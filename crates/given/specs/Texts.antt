@@ -2,30 +2,23 @@
 use mathlib.Core.Path.{_≡_}
 use mathlib.Core.Bool.{true}
 use mathlib.Core.List.{List, [], _∷_}
-use mathlib.Core.Option.{Option, none, some}
 use Rattle.utf8.specs.Utf8.{isUtf8}
 use Rattle.layer.specs.TagLists.{tagUtf8}
-use Rattle.given.specs.Given.{Tag, Feature, Drawing}
+use Rattle.given.specs.Given.{Tag, Feature, Drawing, completed}
 use Rattle.given.specs.Asked.{tagOf}
 
-abbrev pub TagsText : List Tag → Type 0
-TagsText [] = Unit {0}
-TagsText (t ∷ ts) = (tagUtf8 (tagOf (t .key) (t .value)) ≡ true) × TagsText ts
+abbrev pub Every : {A : Type 0} → (A → Type 0) → List A → Type 0
+Every P [] = Unit {0}
+Every P (x ∷ xs) = P x × Every P xs
 
-abbrev pub FeaturesText : List Feature → Type 0
-FeaturesText [] = Unit {0}
-FeaturesText (f ∷ fs) = TagsText (f .tags) × FeaturesText fs
+abbrev pub TagText : Tag → Type 0
+TagText t = tagUtf8 (tagOf (t .key) (t .value)) ≡ true
 
-abbrev pub PendingText : Option Feature → Type 0
-PendingText none = Unit {0}
-PendingText (some f) = TagsText (f .tags)
+abbrev pub FeatureText : Feature → Type 0
+FeatureText f = Every TagText (f .tags)
 
+-- of the features that are complete, and of the one that is open
 pub record AllText (d : Drawing) : Type 0 where
   pub named : isUtf8 (d .name) ≡ true
-  pub complete : FeaturesText (d .features)
-  pub started : PendingText (d .pending)
-
--- so is it of each layer of a tile
-abbrev pub EachText : List Drawing → Type 0
-EachText [] = Unit {0}
-EachText (d ∷ ds) = AllText d × EachText ds
+  pub complete : Every FeatureText (d .features)
+  pub started : Every FeatureText (completed (d .pending))
