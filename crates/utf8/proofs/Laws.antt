@@ -177,51 +177,41 @@ module _ (ws : List ℕ) (i : ℕ) (h : i < length ws) where
                     pub no-row : Goes ws i 0
                     no-row = record { inside = omega (arith, h); on = from-9 }
 
--- ---- `is_utf8_from`: what is from an index on is UTF-8 where what is from i on is
-pub record Since (ws : List ℕ) (from i : ℕ) : Type 0 where
-  pub inside : i ≤ length ws
-  pub rest : isUtf8 (drop from ws) ≡ isUtf8 (drop i ws)
-
-pub since-start : (ws : List ℕ) (from : ℕ) → from ≤ length ws → Since ws from from
-since-start ws from h = record { inside = h; rest = refl }
-
-module _ (ws : List ℕ) (from i n : ℕ) (S : Since ws from i) (G : Goes ws i n) where
-  pub stops : n ≡ 0 → false ≡ isUtf8 (drop from ws)
-  stops e = sym (S .rest ∙ G .on ∙ rw e)
-
-  pub onward : (n ≡ 0 → ⊥) → Since ws from (i + n)
-  onward e = record { inside = G .inside; rest = S .rest ∙ G .on ∙ rw (ne-eqb n 0 e) }
-
-pub ends : (ws : List ℕ) (from i : ℕ) → Since ws from i → length ws ≤ i → true ≡ isUtf8 (drop from ws)
-ends ws from i S h = let e : i ≡ length ws = omega (arith, S .inside) in sym (S .rest ∙ rw (e, drop-length ws))
-
--- ---- `past_ascii` and `is_utf8`
-pub read-start : (ws : List ℕ) → Read ws 0
-read-start ws = record { inside = omega arith; rest = refl }
+-- ---- the loops: what is from an index on is UTF-8 where what is from i on is
+pub read-start : (ws : List ℕ) (from : ℕ) → from ≤ length ws → Read ws from from
+read-start ws from h = record { inside = h; rest = refl }
 
 -- a byte of ASCII more
-one-more : (ws : List ℕ) (i k : ℕ) → Read ws i → k ≡ suc i → i < length ws → within ascii (getD ws i 0) ≡ true → Read ws k
-one-more ws i k R e h t =
+one-more : (ws : List ℕ) (from i k : ℕ) → Read ws from i → k ≡ suc i → i < length ws → within ascii (getD ws i 0) ≡ true → Read ws from k
+one-more ws from i k R e h t =
     let g : isUtf8 (drop i ws) ≡ isUtf8 (drop k ws) = ap isUtf8 (next ws i k e h) ∙ rw t in
     record { inside = omega (arith, h, e); rest = R .rest ∙ g }
 
-module _ (ws : List ℕ) (i : ℕ) (R : Read ws i) where
-  pub ascii-more : i < length ws → getD ws i 0 ≤ 0x7F → Read ws (i + 1)
-  ascii-more h t = one-more ws i (i + 1) R (omega arith) h (both-is (le-leb 0 (getD ws i 0) (omega arith)) (le-leb (getD ws i 0) 0x7F t))
+module _ (ws : List ℕ) (from i : ℕ) (R : Read ws from i) where
+  -- a sequence more, or none
+  module _ (n : ℕ) (G : Goes ws i n) where
+    pub stops : n ≡ 0 → false ≡ isUtf8 (drop from ws)
+    stops e = sym (R .rest ∙ G .on ∙ rw e)
+
+    pub onward : (n ≡ 0 → ⊥) → Read ws from (i + n)
+    onward e = record { inside = G .inside; rest = R .rest ∙ G .on ∙ rw (ne-eqb n 0 e) }
+
+  pub ends : length ws ≤ i → true ≡ isUtf8 (drop from ws)
+  ends h = let e : i ≡ length ws = omega (arith, R .inside) in sym (R .rest ∙ rw (e, drop-length ws))
+
+  pub ascii-more : i < length ws → getD ws i 0 ≤ 0x7F → Read ws from (i + 1)
+  ascii-more h t = one-more ws from i (i + 1) R (omega arith) h (both-is (le-leb 0 (getD ws i 0) (omega arith)) (le-leb (getD ws i 0) 0x7F t))
 
   module _ (h : 4 ≤ length ws - i) (t : Bool) (g : t ≡ (within ascii (getD ws i 0) && (within ascii (getD ws (i + 1) 0) && (within ascii (getD ws (i + 2) 0) && within ascii (getD ws (i + 3) 0))))) where
-    pub four-more : not t ≡ false → Read ws (i + 4)
+    pub four-more : not t ≡ false → Read ws from (i + 4)
     four-more n =
         let a = both (within ascii (getD ws i 0)) _ (sym g ∙ not-false t n) in
         let b = both (within ascii (getD ws (i + 1) 0)) _ (a .1) in
         let c = both (within ascii (getD ws (i + 2) 0)) (within ascii (getD ws (i + 3) 0)) (b .1) in
-        let R1 = one-more ws i (i + 1) R (omega arith) (omega arith) (a .0) in
-        let R2 = one-more ws (i + 1) (i + 2) R1 (omega arith) (omega arith) (b .0) in
-        let R3 = one-more ws (i + 2) (i + 3) R2 (omega arith) (omega arith) (c .0) in
-        one-more ws (i + 3) (i + 4) R3 (omega arith) (omega arith) (c .1)
+        let R1 = one-more ws from i (i + 1) R (omega arith) (omega arith) (a .0) in
+        let R2 = one-more ws from (i + 1) (i + 2) R1 (omega arith) (omega arith) (b .0) in
+        let R3 = one-more ws from (i + 2) (i + 3) R2 (omega arith) (omega arith) (c .0) in
+        one-more ws from (i + 3) (i + 4) R3 (omega arith) (omega arith) (c .1)
 
-  pub all-ascii : length ws ≤ i → true ≡ isUtf8 ws
-  all-ascii h = let e : i ≡ length ws = omega (arith, R .inside) in sym (R .rest ∙ rw (e, drop-length ws))
-
-  pub rest-tells : (t : Bool) → t ≡ isUtf8 (drop i ws) → t ≡ isUtf8 ws
+  pub rest-tells : (t : Bool) → t ≡ isUtf8 (drop i ws) → t ≡ isUtf8 (drop from ws)
   rest-tells t e = e ∙ sym (R .rest)

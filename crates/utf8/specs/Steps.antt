@@ -23,7 +23,7 @@ pub record Goes (ws : List ℕ) (i n : ℕ) : Type 0 where
   pub inside : i + n ≤ length ws
   pub on : isUtf8 (drop i ws) ≡ cond (eqb n 0) false (isUtf8 (drop (i + n) ws))
 
--- what stands before index i is sequences of the table, so that the text is UTF-8 if what is from i on is
-pub record Read (ws : List ℕ) (i : ℕ) : Type 0 where
+-- what stands from one index on up to another is sequences of the table, so that the text from the one on is UTF-8 if what is from the other on is
+pub record Read (ws : List ℕ) (from i : ℕ) : Type 0 where
   pub inside : i ≤ length ws
-  pub rest : isUtf8 ws ≡ isUtf8 (drop i ws)
+  pub rest : isUtf8 (drop from ws) ≡ isUtf8 (drop i ws)

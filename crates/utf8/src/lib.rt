@@ -100,7 +100,7 @@ fn are_ascii(a: u8, b: u8, c: u8, d: u8) -> bool
 
 // Where the first four bytes stand that are not all ASCII, or fewer than four are left.
 fn past_ascii(text: &[u8]) -> usize
-    ensures { λ r. ⌜ Read (now (text .entry)) r ⌝ }
+    ensures { λ r. ⌜ Read (now (text .entry)) 0 r ⌝ }
 {
     let mut i = 0;
     while 4 <= text.len() - i {

@@ -2,13 +2,13 @@
 use Prim.Native.Nat.{_-_}
 use lib.ListN.{length}
 use Rattle.utf8.specs.Steps.{Read}
-use Rattle.utf8.proofs.Laws.{ascii-more, all-ascii, rest-tells}
+use Rattle.utf8.proofs.Laws.{ascii-more, ends, rest-tells}
 use borrow.Author.Needs.{needs}
 use Rattle.utf8.proofs.is_utf8.Statement.{statement}
 use Rattle.utf8.proofs.is_utf8.Tie as tie
 
 abbrev Inv-loop : tie.InvT-loop
-Inv-loop text i₀ i = Read text i
+Inv-loop text i₀ i = Read text 0 i
 
 abbrev μ-loop : tie.MeasureT-loop
 μ-loop text i₀ i = length text - i
@@ -26,7 +26,7 @@ is-utf8-from-requires : tie.Need-is-utf8-from-requires Inv-loop μ-loop
 is-utf8-from-requires c κs = search needs
 
 returns : tie.Need-returns Inv-loop μ-loop
-returns c = search (needs, rest-tells)
+returns c = rest-tells _ 0 _ (c .before .before .before .before .loop .inv) _ (c .is-utf8-from .ensures)
 
 add-i : tie.Need-add-i Inv-loop μ-loop
 add-i c = search needs
@@ -38,7 +38,7 @@ loop-again : tie.Need-loop-again Inv-loop μ-loop
 loop-again c = search (needs, ascii-more)
 
 returns-2 : tie.Need-returns-2 Inv-loop μ-loop
-returns-2 c = search (needs, all-ascii)
+returns-2 c = ends _ 0 _ (c .before .loop .inv) (search needs)
 
 pub is-utf8-spec : {M : Type 1} → statement M
 is-utf8-spec =

@@ -1,19 +1,20 @@
 -- The loop's invariant: what is from the index on is UTF-8 where what is from i on is. Each sequence has bytes, so the loop ends.
 use Prim.Native.Nat.{_-_}
 use lib.ListN.{length}
-use Rattle.utf8.proofs.Laws.{Since, since-start, stops, onward, ends}
+use Rattle.utf8.specs.Steps.{Read}
+use Rattle.utf8.proofs.Laws.{read-start, stops, onward, ends}
 use borrow.Author.Needs.{needs}
 use Rattle.utf8.proofs.is_utf8_from.Statement.{statement}
 use Rattle.utf8.proofs.is_utf8_from.Tie as tie
 
 abbrev Inv-loop : tie.InvT-loop
-Inv-loop text from i₀ i = Since text from i
+Inv-loop text from i₀ i = Read text from i
 
 abbrev μ-loop : tie.MeasureT-loop
 μ-loop text from i₀ i = length text - i
 
 loop-holds : tie.Need-loop-holds Inv-loop μ-loop
-loop-holds c = search (needs, since-start)
+loop-holds c = search (needs, read-start)
 
 sequence-requires : tie.Need-sequence-requires Inv-loop μ-loop
 sequence-requires c κs = search needs

@@ -8,7 +8,7 @@ use Rattle.utf8.proofs.past_ascii.Statement.{statement}
 use Rattle.utf8.proofs.past_ascii.Tie as tie
 
 abbrev Inv-loop : tie.InvT-loop
-Inv-loop text i₀ i = Read text i
+Inv-loop text i₀ i = Read text 0 i
 
 abbrev μ-loop : tie.MeasureT-loop
 μ-loop text i₀ i = length text - i
@@ -18,7 +18,7 @@ abbrev in-loop-before-else1 : (tie.Else1 Inv-loop μ-loop) → (tie.In-loop Inv-
 in-loop-before-else1 c = c .before .before .before .before .before .before
 
 loop-holds : tie.Need-loop-holds Inv-loop μ-loop
-loop-holds c = read-start _
+loop-holds c = search (needs, read-start)
 
 sub-loop : tie.Need-sub-loop Inv-loop μ-loop
 sub-loop c = search needs
@@ -57,7 +57,7 @@ loop-less : tie.Need-loop-less Inv-loop μ-loop
 loop-less c = search needs
 
 loop-again : tie.Need-loop-again Inv-loop μ-loop
-loop-again c = four-more _ _ (in-loop-before-else1 c .before .loop .inv) (search needs) _ (c .before .are-ascii .ensures) (c .if1 .left)
+loop-again c = four-more _ _ _ (in-loop-before-else1 c .before .loop .inv) (search needs) _ (c .before .are-ascii .ensures) (c .if1 .left)
 
 returns-2 : tie.Need-returns-2 Inv-loop μ-loop
 returns-2 c = search needs
