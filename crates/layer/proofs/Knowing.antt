@@ -16,10 +16,10 @@ use Rattle.layer.specs.declared.Figures.{Figures}
 use Rattle.layer.specs.declared.tag_list.Place.{Place}
 use Rattle.layer.specs.Held.{fits}
 use Rattle.layer.specs.Calls.{grownBy}
-use Rattle.layer.specs.TagLists.{tagsOk}
+use Rattle.layer.specs.TagLists.{tagsOk, keyGiven}
 use Rattle.layer.specs.Lookup.{keyBy, valueBy}
 use Rattle.layer.specs.WholeSteps.{placeAt}
-use Rattle.layer.specs.NeedSteps.{keyGiven, valueAmong, ifGiven, orGiven, placedText, keyKnown, valueKnown, needOf, walked, stepAt, KeysLooked, ValuesLooked, KeyAsked, ValueAsked, NeedAsked, NeedLoop}
+use Rattle.layer.specs.NeedSteps.{valueAmong, ifGiven, orGiven, placedText, keyKnown, valueKnown, needOf, walked, stepAt, KeysLooked, ValuesLooked, KeyAsked, ValueAsked, NeedAsked, NeedLoop}
 use Rattle.layer.specs.Steps.{Small}
 use Rattle.layer.proofs.Placing.{key-room, text-room}
 use Rattle.layer.proofs.Listing.{ok-at, ok-after, short-at}

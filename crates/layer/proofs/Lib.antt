@@ -26,6 +26,7 @@ pub mod Building
 pub mod Features
 pub mod Welcoming
 pub mod Walking
+pub mod Repeating
 pub mod Knowing
 pub mod Finding
 pub mod Needing

@@ -21,9 +21,9 @@ use Rattle.layer.specs.declared.Figures.{Figures}
 use Rattle.layer.specs.declared.Open.the-variants.{Shut}
 use Rattle.layer.specs.Held.{Seen}
 use Rattle.layer.specs.Calls.{withFeatures, Tag, isValue, moreOf, putOf, grownBy, heldWith, tagPutBy, keyFound, valueFound, tagPut}
-use Rattle.layer.specs.TagLists.{tagOk, tagsOk, valueGiven, textPlace, tagOf, tagsOf}
+use Rattle.layer.specs.TagLists.{tagOk, tagsOk, valueGiven, textPlace, tagOf, tagsOf, keyGiven}
 use Rattle.layer.specs.Whole.{featureOpened, tagsPut}
-use Rattle.layer.specs.NeedSteps.{keyGiven, valueAmong, orGiven, keyKnown, valueKnown, needOf, mostOf, walked}
+use Rattle.layer.specs.NeedSteps.{valueAmong, orGiven, keyKnown, valueKnown, needOf, mostOf, walked}
 use Rattle.layer.proofs.Fitting.{never, both, Within}
 use Rattle.layer.proofs.Entries.{length-put}
 use Rattle.layer.proofs.Keeping.{Sound, opened-sound, tag-sound}
@@ -52,7 +52,7 @@ or-found Nothing false = refl
 abbrev bare : Seen → Seen
 bare v =
     record {
-      layer = record { extent = v .layer .extent; name = 0; used = record { keys = v .layer .used .keys; values = v .layer .used .values; texts = v .layer .used .texts; features = 0 }; feature = Shut };
+      layer = record { extent = v .layer .extent; strict = v .layer .strict; name = 0; used = record { keys = v .layer .used .keys; values = v .layer .used .values; texts = v .layer .used .texts; features = 0 }; feature = Shut };
       held = withFeatures (v .held) [];
       room = v .room;
     }

@@ -17,9 +17,9 @@ use Rattle.layer.specs.declared.tag_list.Place.{Place}
 use Rattle.layer.specs.Held.{fits}
 use Rattle.layer.specs.Calls.{grownBy}
 use Rattle.layer.specs.Steps.{Small}
-use Rattle.layer.specs.TagLists.{textPlace, shortAt, tagsShort}
+use Rattle.layer.specs.TagLists.{textPlace, shortAt, tagsShort, keyGiven}
 use Rattle.layer.specs.WholeSteps.{placeAt}
-use Rattle.layer.specs.NeedSteps.{keyGiven, valueAmong, Step, mostOf, walked, stepAt, Capped, MostAsked}
+use Rattle.layer.specs.NeedSteps.{valueAmong, Step, mostOf, walked, stepAt, Capped, MostAsked}
 use Rattle.layer.proofs.Fitting.{never, both, Within, within, fits-yes}
 use Rattle.layer.proofs.Listing.{five, short-at, short-after}
 

@@ -111,7 +111,7 @@ module _ (s : Layer) (built : Bool) (f : Head) (words ws bytes ks vs ts fs ki vi
             }
 
 -- ---- `add_known`
-module _ (s : Layer) (stands built : Bool) (f : Head) (words ws bytes : List ℕ) (m : Memory) (x : Index) (K : Known s stands built m x) (r : Asked) (g : r ≡ asks (s .feature) stands (f .kind) (length words) ws bytes) where
+module _ (s : Layer) (stands built : Bool) (f : Head) (words ws bytes : List ℕ) (m : Memory) (x : Index) (K : Known s stands built m x) (r : Asked) (g : r ≡ asks (s .feature) (s .strict) stands (f .kind) (length words) ws bytes) where
   pub known-given : r ≡ Fine → Given s built f words ws bytes m x
   known-given e = record { welcome = chain-welcome s stands m (K .state) f words ws bytes r g e; current = K .current }
 

@@ -1,19 +1,19 @@
 -- Document 01, "Tags and rollback": the calls on a layer, each as what it makes of what it sees, with its checks in the table's order.
-use Prim.Native.Nat.{ℕ, _+_, _-_, _%_, _/_}
-use mathlib.Core.Bool.{Bool, true, false, cond}
-use mathlib.Core.List.{List, [], _∷_, _++_}
-use lib.ListN.{length, getD, set, take}
-use lib.Dec.{leb, eqb}
+use Prim.Native.Nat.{ℕ, _+_, _-_, _*_, _%_, _/_}
+use mathlib.Core.Bool.{Bool, true, false, cond, not}
+use mathlib.Core.List.{List, [], _∷_, _++_, map}
+use lib.ListN.{length, getD, set, take, drop}
+use lib.Dec.{leb, ltb, eqb}
 pub use Rattle.whole.specs.Twos.{bitsOf}
 use Rattle.promise.specs.Answers.{Written, kept}
 use Rattle.promise.specs.Laid.{lay}
 use Rattle.refusal.specs.Said.{Said, accepted, refused}
-use Rattle.refusal.specs.declared.Refusal.the-variants.{Kind, State, Room, Text as TextRefusal, Utf8, Turn}
+use Rattle.refusal.specs.declared.Refusal.the-variants.{Kind, State, Room, Text as TextRefusal, Utf8, Turn, Again}
 use Rattle.utf8.specs.Utf8.{isUtf8}
 use Rattle.table.specs.declared.Found.{Found}
 use Rattle.table.specs.declared.Found.the-variants.{At, Nothing}
 use Rattle.table.specs.declared.Value.{Value}
-use Rattle.table.specs.Texts.{shortText}
+use Rattle.table.specs.Texts.{shortText, sameText}
 use Rattle.table.specs.Keys.{findKey}
 pub use Rattle.table.specs.Keys.{indexOf}
 use Rattle.table.specs.Values.{textKind, findValue, valueOk}
@@ -39,7 +39,7 @@ moreWords u n = record { keys = u .keys; values = u .values; texts = u .texts; f
 
 -- the layer with these figures, and a feature open or not
 abbrev pub withUsed : Layer → Figures → Open → Layer
-withUsed s u f = record { extent = s .extent; name = s .name; used = u; feature = f }
+withUsed s u f = record { extent = s .extent; strict = s .strict; name = s .name; used = u; feature = f }
 
 abbrev pub withFeatures : Memory → List ℕ → Memory
 withFeatures h fs = record { keys = h .keys; values = h .values; texts = h .texts; features = fs }
@@ -82,7 +82,7 @@ abandoned v =
     check (valid v) State
     (whenOpen (v .layer .feature) (λ o. holds (withUsed (v .layer) o Shut) (heldBy o (v .held))))
 
--- ---- a tag: STATE, TEXT, UTF8, TURN, ROOM
+-- ---- a tag: STATE, TEXT, UTF8, TURN, AGAIN, ROOM
 -- a key, and a value with its text, which is empty but for a text
 pub record Tag : Type 0 where
   pub key : List ℕ
@@ -168,6 +168,27 @@ taggedBy t v o kf vf = ifRoom (tagPutBy o t v kf vf)
 abbrev pub tagged : Tag → Seen → Figures → Change
 tagged t v o = ifRoom (tagPut o t v)
 
+-- AGAIN: "In a strict layer, chosen when the layer is opened, a tag whose key the open feature already has is refused." An ordinary layer takes every key
+-- entry k of the keys is there, and its text is key
+abbrev pub isKey : List ℕ → List ℕ → ℕ → List ℕ → Bool
+isKey ks ts k key = cond (ltb k (length ks / 2)) (sameText ts (getD ks (k * 2) 0) (getD ks (k * 2 + 1) 0) key) false
+
+-- so of a tag among these tag words, each an index of a key and one of a value
+abbrev pub hasKey : List ℕ → List ℕ → List ℕ → List ℕ → Bool
+hasKey ks ts [] key = false
+hasKey ks ts (k ∷ []) key = false
+hasKey ks ts (k ∷ v ∷ ws) key = cond (isKey ks ts k key) true (hasKey ks ts ws key)
+
+-- the tag words of the record at index at, which is the last: so many as it says, at the end
+abbrev pub lastTags : List ℕ → ℕ → List ℕ
+lastTags ws at = drop (length ws - getD ws (at + tagsAt) 0) ws
+
+abbrev pub takesKey : Bool → Memory → ℕ → List ℕ → Bool
+takesKey strict h at key = cond strict (not (hasKey (h .keys) (h .texts) (lastTags (h .features) at) key)) true
+
+abbrev pub taggedOnce : Tag → Seen → Figures → Change
+taggedOnce t v o = check (takesKey (v .layer .strict) (v .held) (o .features) (t .key)) Again (tagged t v o)
+
 abbrev pub addTag : Tag → Seen → Change
 addTag t v =
     check (valid v) State
@@ -175,7 +196,7 @@ addTag t v =
     (check (shortText (length (t .text))) TextRefusal
     (check (isUtf8 (t .key)) Utf8
     (check (isUtf8 (t .text)) Utf8
-    (whenOpen (v .layer .feature) (λ o. tagged t v o))))))
+    (whenOpen (v .layer .feature) (λ o. taggedOnce t v o))))))
 
 -- the seven kinds of value. A whole number is 64 bits, of which a negative one takes the two's complement
 abbrev pub valueOf : ℕ → ℕ → Value
@@ -192,7 +213,7 @@ tagBits kind key bits = record { key = key; value = valueOf kind bits; text = []
 
 -- ---- creating a layer: TEXT, UTF8, ROOM. The name is the first text
 abbrev pub newLayer : List ℕ → ℕ → Layer
-newLayer name extent = record { extent = extent; name = length name; used = record { keys = 0; values = 0; texts = length name; features = 0 }; feature = Shut }
+newLayer name extent = record { extent = extent; strict = false; name = length name; used = record { keys = 0; values = 0; texts = length name; features = 0 }; feature = Shut }
 
 abbrev pub created : List ℕ → ℕ → List ℕ → Written (Said (List Layer)) (List ℕ)
 created name extent ts =
@@ -203,6 +224,16 @@ created name extent ts =
     (kept (refused Room []) ts))
     (kept (refused Utf8 []) ts))
     (kept (refused TextRefusal []) ts)
+
+-- a strict layer, otherwise the same
+abbrev pub chosen : Bool → Layer → Layer
+chosen b s = record { extent = s .extent; strict = b; name = s .name; used = s .used; feature = s .feature }
+
+abbrev pub strictly : Said (List Layer) → Said (List Layer)
+strictly a = record { number = a .number; place = a .place; values = map (chosen true) (a .values) }
+
+abbrev pub createdStrict : List ℕ → ℕ → List ℕ → Written (Said (List Layer)) (List ℕ)
+createdStrict name extent ts = record { answer = strictly (created name extent ts .answer); memory = created name extent ts .memory }
 
 -- ---- asking: STATE, and of an open feature TURN
 -- how many features are complete: the records before the open one

@@ -8,27 +8,18 @@ use Rattle.table.specs.declared.Found.{Found}
 use Rattle.table.specs.declared.Found.the-variants.{At, Nothing}
 use Rattle.table.specs.declared.Text.{Text}
 use Rattle.table.specs.declared.Value.{Value}
-use Rattle.table.specs.Texts.{sameText, textOf}
+use Rattle.table.specs.Texts.{textOf}
 use Rattle.table.specs.Keys.{findKey}
 use Rattle.table.specs.Values.{sameValue, findValue}
 use Rattle.index.specs.Hashes.{hashText, hashValue}
 use Rattle.layer.specs.declared.Figures.{Figures}
 use Rattle.layer.specs.Held.{maxKeys, maxValues, maxTexts, maxFeatureWords}
 use Rattle.layer.specs.Calls.{grownBy}
-use Rattle.layer.specs.TagLists.{tagWords, lenAt, kindAt, lowAt, highAt, valueGiven, textPlace, tagsShort, shortAt, tagsOk}
+use Rattle.layer.specs.TagLists.{tagWords, lenAt, kindAt, lowAt, highAt, valueGiven, textPlace, tagsShort, shortAt, tagsOk, keyGiven}
 use Rattle.layer.specs.Lookup.{keyBy, valueBy}
 use Rattle.layer.specs.WholeSteps.{TagThere}
 
 -- ---- what the tags of a list give
--- some tag has this key
-abbrev pub keyGiven : List ℕ → List ℕ → List ℕ → Bool
-keyGiven bytes [] key = false
-keyGiven bytes (start ∷ []) key = false
-keyGiven bytes (start ∷ len ∷ []) key = false
-keyGiven bytes (start ∷ len ∷ kind ∷ []) key = false
-keyGiven bytes (start ∷ len ∷ kind ∷ low ∷ []) key = false
-keyGiven bytes (start ∷ len ∷ kind ∷ low ∷ high ∷ ws) key = cond (sameText bytes start len key) true (keyGiven bytes ws key)
-
 -- some tag has this value
 abbrev pub valueAmong : List ℕ → List ℕ → Value → List ℕ → Bool
 valueAmong bytes [] v text = false

@@ -73,3 +73,11 @@ pub record Ready (s : Layer) (o : Figures) (key text : ℕ) (m : Memory) : Type 
   pub six : o .features + headWords + getD (m .features) (o .features + tagsAt) 0 ≤ s .used .features
   pub small-key : key ≤ maxBytes
   pub small-text : text ≤ maxBytes
+
+-- the tag words of the feature opened at o are there, and so are the keys and the texts
+pub record TagsThere (u o : Figures) (ks ts fs : List ℕ) : Type 0 where
+  pub few : u .keys ≤ maxKeys
+  pub in-keys : u .keys * 2 ≤ length ks
+  pub in-texts : u .texts ≤ length ts
+  pub in-features : u .features ≤ length fs
+  pub six : o .features + headWords + getD fs (o .features + tagsAt) 0 ≤ u .features

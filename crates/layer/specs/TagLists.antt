@@ -1,13 +1,13 @@
 -- A lent list of tags: five words a tag, where its key starts and how long it is, the kind of its value, and then where the value's text starts and how
 -- long it is, or the low and the high half of its content. The texts stand in a lent list of bytes.
 use Prim.Native.Nat.{ℕ, _+_}
-use mathlib.Core.Bool.{Bool, true, false, cond, _&&_}
+use mathlib.Core.Bool.{Bool, true, false, cond, not, _&&_}
 use mathlib.Core.List.{List, [], _∷_}
-use lib.ListN.{getD}
+use lib.ListN.{getD, drop}
 use lib.Dec.{eqb}
 use Rattle.table.specs.declared.Text.{Text}
 use Rattle.table.specs.declared.Value.{Value}
-use Rattle.table.specs.Texts.{inside, shortText, textOf}
+use Rattle.table.specs.Texts.{inside, shortText, sameText, textOf}
 use Rattle.table.specs.Values.{textKind, valueOk}
 use Rattle.utf8.specs.Utf8.{isUtf8}
 use Rattle.layer.specs.Calls.{Tag}
@@ -96,3 +96,27 @@ tagUtf8 t = isUtf8 (t .key) && isUtf8 (t .text)
 abbrev pub tagsUtf8 : List Tag → Bool
 tagsUtf8 [] = true
 tagsUtf8 (t ∷ ts) = cond (tagUtf8 t) (tagsUtf8 ts) false
+
+-- AGAIN: in a strict layer no key comes twice
+-- some tag of the list has this key
+abbrev pub keyGiven : List ℕ → List ℕ → List ℕ → Bool
+keyGiven bytes [] key = false
+keyGiven bytes (start ∷ []) key = false
+keyGiven bytes (start ∷ len ∷ []) key = false
+keyGiven bytes (start ∷ len ∷ kind ∷ []) key = false
+keyGiven bytes (start ∷ len ∷ kind ∷ low ∷ []) key = false
+keyGiven bytes (start ∷ len ∷ kind ∷ low ∷ high ∷ ws) key = cond (sameText bytes start len key) true (keyGiven bytes ws key)
+
+abbrev pub keysOnce : List ℕ → List ℕ → Bool
+keysOnce bytes [] = true
+keysOnce bytes (start ∷ []) = true
+keysOnce bytes (start ∷ len ∷ []) = true
+keysOnce bytes (start ∷ len ∷ kind ∷ []) = true
+keysOnce bytes (start ∷ len ∷ kind ∷ low ∷ []) = true
+keysOnce bytes (start ∷ len ∷ kind ∷ low ∷ high ∷ ws) = cond (not (keyGiven bytes ws (textOf bytes start len))) (keysOnce bytes ws) false
+
+abbrev pub onceAt : List ℕ → List ℕ → ℕ → Bool
+onceAt bytes ws i = not (keyGiven bytes (drop (i + tagWords) ws) (textOf bytes (getD ws i 0) (getD ws (i + lenAt) 0)))
+
+abbrev pub takesKeys : Bool → List ℕ → List ℕ → Bool
+takesKeys strict bytes ws = cond strict (keysOnce bytes ws) true

@@ -1,11 +1,11 @@
 -- A whole feature in one call: opened, its id set, tagged and closed. Its checks come first, in the table's order and of all that it was given: JOB, KIND,
--- STATE, TEXT, UTF8, TURN, and ROOM last, of the result reckoned without a limit on room; only then is anything written.
+-- STATE, TEXT, UTF8, TURN, AGAIN, and ROOM last, of the result reckoned without a limit on room; only then is anything written.
 use Prim.Native.Nat.{ℕ, _+_}
 use mathlib.Core.Bool.{cond}
 use mathlib.Core.List.{List, [], _∷_, _++_}
 use lib.ListN.{length}
 use lib.Dec.{leb}
-use Rattle.refusal.specs.declared.Refusal.the-variants.{Job, Kind, State, Room, Text as TextRefusal, Utf8, Turn}
+use Rattle.refusal.specs.declared.Refusal.the-variants.{Job, Kind, State, Room, Text as TextRefusal, Utf8, Turn, Again}
 use Rattle.words.specs.Geometries.{isKind, maxWords}
 use Rattle.records.specs.Records.{headWords}
 use Rattle.layer.specs.declared.Figures.{Figures}
@@ -14,7 +14,7 @@ use Rattle.layer.specs.declared.whole_feature.Head.{Head}
 use Rattle.layer.specs.Held.{Seen, Change, check}
 use Rattle.layer.specs.State.{valid}
 use Rattle.layer.specs.Calls.{isShut, moreWords, withUsed, withFeatures, recordWith, Tag, tagPut, ifRoom}
-use Rattle.layer.specs.TagLists.{tagsOk, tagsShort, tagsUtf8, tagsOf}
+use Rattle.layer.specs.TagLists.{tagsOk, tagsShort, tagsUtf8, tagsOf, takesKeys}
 
 -- ---- what is seen after each step, whatever the room
 -- the feature opened, with its id if it has one
@@ -52,5 +52,6 @@ addFeature f words ws bytes v =
     (check (tagsShort ws) TextRefusal
     (check (tagsUtf8 (tagsOf bytes ws)) Utf8
     (check (isShut (v .layer .feature)) Turn
+    (check (takesKeys (v .layer .strict) bytes ws) Again
     (check (leb (length words) maxWords) Room
-    (ifRoom (featurePut f words (tagsOf bytes ws) v))))))))
+    (ifRoom (featurePut f words (tagsOf bytes ws) v)))))))))

@@ -6,7 +6,7 @@ use mathlib.Core.List.{List}
 use lib.ListN.{length, getD, take}
 use lib.Dec.{leb}
 use Rattle.refusal.specs.declared.Refusal.{Refusal}
-use Rattle.refusal.specs.declared.Refusal.the-variants.{Job, Kind, State, Room, Text as TextRefusal, Utf8, Turn}
+use Rattle.refusal.specs.declared.Refusal.the-variants.{Job, Kind, State, Room, Text as TextRefusal, Utf8, Turn, Again}
 use Rattle.table.specs.Texts.{maxBytes}
 use Rattle.words.specs.Geometries.{isKind, maxWords}
 use Rattle.index.specs.Chains.{serves}
@@ -26,7 +26,7 @@ use Rattle.layer.specs.declared.Layer.{Layer}
 use Rattle.layer.specs.Held.{Memory, fits, Seen, seen, Change, refuses, holds, onto}
 use Rattle.layer.specs.State.{valid}
 use Rattle.layer.specs.Calls.{isShut, Tag, tagPut}
-use Rattle.layer.specs.TagLists.{tagWords, lenAt, kindAt, lowAt, highAt, valueGiven, textPlace, okAt, tagsOk, tagsShort, shortAt, tagsUtf8, tagsOf}
+use Rattle.layer.specs.TagLists.{tagWords, lenAt, kindAt, lowAt, highAt, valueGiven, textPlace, okAt, tagsOk, tagsShort, shortAt, tagsUtf8, tagsOf, takesKeys}
 use Rattle.layer.specs.Whole.{tagsPut, featurePut}
 use Rattle.layer.specs.Lookup.{Index, idx, Current, Kept}
 
@@ -59,19 +59,21 @@ pub record Decides (r : Bool) (n : ℕ) (ts : List Tag) (v : Seen) : Type 0 wher
   pub decides : (f : Head) (words : List ℕ) → length words ≡ n → r ≡ fits (featurePut f words ts v .layer .used) (v .room)
 
 -- ---- the checks before ROOM, as the one answer of `first_refusal`
-abbrev pub asked : Bool → Bool → Bool → Bool → Bool → Bool → Bool → Asked
-asked list kind stands short utf8 shut few =
+abbrev pub asked : Bool → Bool → Bool → Bool → Bool → Bool → Bool → Bool → Asked
+asked list kind stands short utf8 shut once few =
     cond list
     (cond kind
     (cond stands
-    (cond short (cond utf8 (cond shut (cond few Fine (Barred Room)) (Barred Turn)) (Barred Utf8)) (Barred TextRefusal))
+    (cond short
+    (cond utf8 (cond shut (cond once (cond few Fine (Barred Room)) (Barred Again)) (Barred Turn)) (Barred Utf8))
+    (Barred TextRefusal))
     (Barred State))
     (Barred Kind))
     (Barred Job)
 
-abbrev pub asks : Open → Bool → ℕ → ℕ → List ℕ → List ℕ → Asked
-asks f stands kind words ws bytes =
-    asked (tagsOk (length bytes) ws) (isKind kind) stands (tagsShort ws) (tagsUtf8 (tagsOf bytes ws)) (isShut f) (leb words maxWords)
+abbrev pub asks : Open → Bool → Bool → ℕ → ℕ → List ℕ → List ℕ → Asked
+asks f strict stands kind words ws bytes =
+    asked (tagsOk (length bytes) ws) (isKind kind) stands (tagsShort ws) (tagsUtf8 (tagsOf bytes ws)) (isShut f) (takesKeys strict bytes ws) (leb words maxWords)
 
 -- ---- putting
 -- what a step leaves behind of the lists m and the indexes x: what is seen then, with its indexes
@@ -114,6 +116,7 @@ pub record Welcome (s : Layer) (kind : ℕ) (words ws bytes : List ℕ) (m : Mem
   pub short : tagsShort ws ≡ true
   pub utf8 : tagsUtf8 (tagsOf bytes ws) ≡ true
   pub shut : s .feature ≡ Shut
+  pub once : takesKeys (s .strict) bytes ws ≡ true
   pub few : length words ≤ maxWords
 
 -- and it has room

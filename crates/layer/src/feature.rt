@@ -68,6 +68,7 @@ fn put_record(
     lay_record(used.features, kind, 0, 0, words, features);
     Changed::Done(Layer {
         extent: s.extent,
+        strict: s.strict,
         name: s.name,
         used: after,
         feature: Open::Since(used),
@@ -137,6 +138,7 @@ pub fn into_layer(s: Layer, keys: &[u32], values: &[u32], texts: &[u8], features
     let used = s.used;
     Changed::Done(Layer {
         extent: s.extent,
+        strict: s.strict,
         name: s.name,
         used: used,
         feature: Open::Shut,
@@ -156,6 +158,7 @@ pub fn abandon(s: Layer, keys: &[u32], values: &[u32], texts: &[u8], features: &
     };
     Changed::Done(Layer {
         extent: s.extent,
+        strict: s.strict,
         name: s.name,
         used: o,
         feature: Open::Shut,

@@ -55,6 +55,7 @@ pub(crate) fn put_tag_at(
     let f = s.feature;
     Layer {
         extent: s.extent,
+        strict: s.strict,
         name: s.name,
         used: after,
         feature: f,

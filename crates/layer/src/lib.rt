@@ -15,12 +15,14 @@ mod tag_list; // a lent list of tags
 mod filling; // putting the tags of a list
 mod indexes; // building the indexes
 mod need; // whether a whole feature has room
+mod once; // whether a strict layer takes a key
 
 ghost use mathlib.Core.Path.{_≡_};
+ghost use mathlib.Core.Bool.{true};
 ghost use Rattle.promise.specs.Answers.{Gives};
 ghost use Rattle.layer.specs.Held.{roomOf, fits};
 ghost use Rattle.layer.specs.Answers.{saidCreated};
-ghost use Rattle.layer.specs.Calls.{isShut, created};
+ghost use Rattle.layer.specs.Calls.{isShut, created, chosen, createdStrict};
 use number::smaller;
 use refusal::Refusal;
 use table::Text;
@@ -51,9 +53,10 @@ impl Open {
     }
 }
 
-// The name is the first text, and so long.
+// The name is the first text, and so long. A strict layer takes no key twice in a feature.
 pub struct Layer {
     pub extent: u32,
+    pub strict: bool,
     pub name: usize,
     pub used: Figures,
     pub feature: Open,
@@ -141,10 +144,36 @@ impl Layer {
         };
         Created::Done(Layer {
             extent: extent,
+            strict: false,
             name: len,
             used: used,
             feature: Open::Shut,
         })
+    }
+
+    // The same layer, strict.
+    fn made_strict(self) -> Layer
+        ensures { λ r. ⌜ r ≡ chosen true self ⌝ }
+    {
+        let used = self.used;
+        let feature = self.feature;
+        Layer {
+            extent: self.extent,
+            strict: true,
+            name: self.name,
+            used: used,
+            feature: feature,
+        }
+    }
+
+    // A strict layer without features, otherwise as `new` makes it.
+    pub fn new_strict(name: &[u8], extent: u32, texts: &mut [u8]) -> Created
+        ensures { λ r. ⌜ Gives (createdStrict (now (name .entry)) extent (now (texts .entry))) (saidCreated r) (now (texts .exit)) ⌝ }
+    {
+        match Layer::new(name, extent, texts) {
+            Created::Done(s) => Created::Done(s.made_strict()),
+            Created::Refused(r) => Created::Refused(r),
+        }
     }
 }
 

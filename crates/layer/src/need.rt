@@ -5,10 +5,10 @@ ghost use mathlib.Core.List.{[]};
 ghost use lib.ListN.{length};
 ghost use Rattle.layer.specs.Held.{fits};
 ghost use Rattle.layer.specs.Lending.{sees, lists};
-ghost use Rattle.layer.specs.TagLists.{tagsOf};
+ghost use Rattle.layer.specs.TagLists.{tagsOf, keyGiven};
 ghost use Rattle.layer.specs.Lookup.{idx};
 ghost use Rattle.layer.specs.WholeSteps.{Asking, Decides};
-ghost use Rattle.layer.specs.NeedSteps.{keyGiven, valueAmong, ifGiven, keyKnown, valueKnown, needOf, mostOf, walked, needed, stepAt};
+ghost use Rattle.layer.specs.NeedSteps.{valueAmong, ifGiven, keyKnown, valueKnown, needOf, mostOf, walked, needed, stepAt};
 ghost use Rattle.layer.specs.NeedSteps.{KeyAsked, ValueAsked, MostAsked, NeedAsked, MostLoop, NeedLoop};
 use crate::Figures;
 use crate::Layer;
@@ -24,7 +24,7 @@ use table::Text;
 use table::Value;
 
 // Whether a tag of the list has this key.
-fn key_given(tags: &[u32], bytes: &[u8], key: &[u8]) -> bool
+pub(crate) fn key_given(tags: &[u32], bytes: &[u8], key: &[u8]) -> bool
     ensures { λ r. ⌜ r ≡ keyGiven (now (bytes .entry)) (now (tags .entry)) (now (key .entry)) ⌝ }
 {
     let mut i = 0;

@@ -3,13 +3,14 @@
 // keys and of the values.
 ghost use lib.ListN.{length};
 ghost use Rattle.table.specs.Values.{floatKind, doubleKind, intKind, uintKind, sintKind, boolKind};
-ghost use Rattle.layer.specs.Calls.{tagged, addTag, bitsOf, bitOf, tagString, tagBits};
+ghost use Rattle.layer.specs.Calls.{tagged, taggedOnce, addTag, bitsOf, bitOf, tagString, tagBits};
 ghost use Rattle.layer.specs.Steps.{Ready};
 ghost use Rattle.layer.specs.Lending.{Does, given, lists};
 use crate::Changed;
 use crate::Figures;
 use crate::Layer;
 use crate::Open;
+use crate::once::takes_key;
 use crate::putting::grown;
 use crate::putting::put_tag;
 use crate::state::is_valid;
@@ -50,10 +51,32 @@ fn tag_open(
     let open = s.feature;
     Changed::Done(Layer {
         extent: s.extent,
+        strict: s.strict,
         name: s.name,
         used: after,
         feature: open,
     })
+}
+
+// A tag of the feature opened at o, if the layer takes its key and it has room.
+fn tag_once(
+    s: Layer,
+    o: Figures,
+    key: &[u8],
+    v: Value,
+    text: &[u8],
+    keys: &mut [u32],
+    values: &mut [u32],
+    texts: &mut [u8],
+    features: &mut [u32],
+) -> Changed
+    requires { ⌜ Ready s o (length (now key)) (length (now text)) (lists keys values texts features) ⌝ }
+    ensures { λ r. ⌜ Does (λ w. taggedOnce (given key v text) w o) s r keys values texts features ⌝ }
+{
+    if !takes_key(s, o, key, &keys[..], &texts[..], &features[..]) {
+        return Changed::Refused(Refusal::Again, s);
+    }
+    tag_open(s, o, key, v, text, keys, values, texts, features)
 }
 
 // The one tag call behind the seven: v is the value, and text its text where it is one.
@@ -88,7 +111,7 @@ fn add_tag(
     let Open::Since(o) = f else {
         return Changed::Refused(Refusal::Turn, s);
     };
-    tag_open(s, o, key, v, text, keys, values, texts, features)
+    tag_once(s, o, key, v, text, keys, values, texts, features)
 }
 
 // The six whose value is no text: its content is given by its 64 bits.

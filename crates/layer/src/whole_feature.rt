@@ -15,6 +15,7 @@ use crate::feature::lay_record;
 use crate::filling::put_tag_at;
 use crate::indexes::build_index;
 use crate::need::has_room;
+use crate::once::takes_keys;
 use crate::state::is_valid;
 use crate::tag_list::Place;
 use crate::tag_list::are_short;
@@ -56,13 +57,14 @@ pub(crate) enum Asked {
 // The first refusal but ROOM, in the order of the checks; stands says whether the layer breaks no rule of STATE.
 fn first_refusal(
     f: Open,
+    strict: bool,
     stands: bool,
     kind: u32,
     words: usize,
     tags: &[u32],
     bytes: &[u8],
 ) -> Asked
-    ensures { λ r. ⌜ r ≡ asks f stands kind words (now (tags .entry)) (now (bytes .entry)) ⌝ }
+    ensures { λ r. ⌜ r ≡ asks f strict stands kind words (now (tags .entry)) (now (bytes .entry)) ⌝ }
 {
     if !is_tag_list(tags, bytes.len()) {
         return Asked::Barred(Refusal::Job);
@@ -82,6 +84,9 @@ fn first_refusal(
     }
     if !f.is_shut() {
         return Asked::Barred(Refusal::Turn);
+    }
+    if !takes_keys(strict, tags, bytes) {
+        return Asked::Barred(Refusal::Again);
     }
     if Geometry::MAX_WORDS < words {
         return Asked::Barred(Refusal::Room);
@@ -136,6 +141,7 @@ fn put_feature(
     };
     let opened = Layer {
         extent: s.extent,
+        strict: s.strict,
         name: s.name,
         used: used,
         feature: Open::Since(o),
@@ -149,6 +155,7 @@ fn put_feature(
     let last = t.used;
     Layer {
         extent: t.extent,
+        strict: t.strict,
         name: t.name,
         used: last,
         feature: Open::Shut,
@@ -186,7 +193,7 @@ pub(crate) fn add_known(
     ensures { λ r. ⌜ DoesIndexed (addFeature f (now (words .entry)) (now (tags .entry)) (now (bytes .entry))) s r keys values texts features ki vi ⌝ }
 {
     let q = s.feature;
-    match first_refusal(q, stands, f.kind, words.len(), tags, bytes) {
+    match first_refusal(q, s.strict, stands, f.kind, words.len(), tags, bytes) {
         Asked::Barred(r) => return Changed::Refused(r, s),
         Asked::Fine => {}
     }

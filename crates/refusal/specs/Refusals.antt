@@ -3,7 +3,7 @@
 use Prim.Native.Nat.{ℕ}
 use Rattle.refusal.specs.declared.Refusal.{Refusal}
 use Rattle.refusal.specs.declared.Refusal.the-variants.{Job, Kind, Box, State, Coord, Empty, Room, Command, Step}
-use Rattle.refusal.specs.declared.Refusal.the-variants.{Text, Turn, Extent, Name, Count, NoParams, CutParams, Utf8}
+use Rattle.refusal.specs.declared.Refusal.the-variants.{Text, Turn, Extent, Name, Count, NoParams, CutParams, Utf8, Again}
 
 abbrev pub numberOf : Refusal → ℕ
 numberOf Job = 1
@@ -23,3 +23,4 @@ numberOf Count = 16
 numberOf NoParams = 17
 numberOf CutParams = 18
 numberOf Utf8 = 22
+numberOf Again = 23

@@ -21,6 +21,7 @@ pub enum Refusal {
     NoParams,
     CutParams,
     Utf8,
+    Again,
 }
 
 // A refusal and where it was met, for the answers that tell a place; it is 0 where there is none. A variant that carries the place would make every
@@ -52,5 +53,6 @@ pub fn number(r: Refusal) -> u32
         Refusal::NoParams => 17,
         Refusal::CutParams => 18,
         Refusal::Utf8 => 22,
+        Refusal::Again => 23,
     }
 }

@@ -1,6 +1,7 @@
 -- MVT's message Layer: name 1, feature 2, key 3, value 4, extent 5, version 15 (2); fields in ascending number, name, extent and version always. And the
 -- layer as a field of the tile.
 use Prim.Native.Nat.{ℕ, _+_}
+use mathlib.Core.Bool.{false}
 use mathlib.Core.Path.{_≡_, refl}
 use mathlib.Core.List.{List, [], _∷_, _++_}
 use lib.ListN.{length}
@@ -37,7 +38,7 @@ nameAt v = length (varintField TileLayer (length (layerBytes (v .layer) (v .held
 
 -- ---- document 01's tile: extent 4096, layer "a" without features
 pub emptyLayer : Layer
-emptyLayer = record { extent = 4096; name = 1; used = record { keys = 0; values = 0; texts = 1; features = 0 }; feature = Shut }
+emptyLayer = record { extent = 4096; strict = false; name = 1; used = record { keys = 0; values = 0; texts = 1; features = 0 }; feature = Shut }
 
 pub empty-layer : layerField (seen emptyLayer (mem [] [] (97 ∷ []) [])) ≡ 26 ∷ 8 ∷ 10 ∷ 1 ∷ 97 ∷ 40 ∷ 128 ∷ 32 ∷ 120 ∷ 2 ∷ []
 unfolding emptyLayer layerField layerBytes textField delimited varintField head varint

@@ -6,7 +6,7 @@ ghost use lib.ListN.{take};
 ghost use Rattle.promise.specs.Answers.{Gives};
 ghost use Rattle.layer.specs.Held.{seen};
 ghost use Rattle.layer.specs.Answers.{saidCreated};
-ghost use Rattle.layer.specs.Calls.{isShut, created};
+ghost use Rattle.layer.specs.Calls.{isShut, created, createdStrict};
 ghost use Rattle.layer.specs.Lending.{entered};
 ghost use Rattle.tile.specs.Lending.{given};
 ghost use Rattle.tile.specs.Tiles.{lists, tileEntered, tileLeft, nameRoom, byteRoom, validTile, freshTile};
@@ -107,6 +107,13 @@ impl Tile {
         ensures { λ r. ⌜ Gives (created (now (name .entry)) (self .extent) (now (texts .entry))) (saidCreated r) (now (texts .exit)) ⌝ }
     {
         Layer::new(name, self.extent, texts)
+    }
+
+    // The same, strict.
+    pub fn create_strict_layer(self, name: &[u8], texts: &mut [u8]) -> Created
+        ensures { λ r. ⌜ Gives (createdStrict (now (name .entry)) (self .extent) (now (texts .entry))) (saidCreated r) (now (texts .exit)) ⌝ }
+    {
+        Layer::new_strict(name, self.extent, texts)
     }
 
     // Whether the tile has a layer of this name.

@@ -2,7 +2,7 @@
 use Prim.Native.Nat.{ℕ, _-_}
 use mathlib.Core.List.{List}
 use lib.ListN.{length}
-use Rattle.layer.specs.NeedSteps.{keyGiven}
+use Rattle.layer.specs.TagLists.{keyGiven}
 use Rattle.layer.proofs.Walking.{Looks, looks-start, key-met, key-on, key-not}
 use borrow.Author.Needs.{needs}
 use Rattle.layer.proofs.need.key_given.Statement.{statement}

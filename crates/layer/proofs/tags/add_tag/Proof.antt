@@ -1,4 +1,4 @@
--- The refusals are the chain's, and behind them it is what `tag_open` makes of an open feature.
+-- The refusals are the chain's, and behind them it is what `tag_once` makes of an open feature.
 use Rattle.layer.proofs.Chains.{chain}
 use Rattle.layer.proofs.Standing.{tag-ready}
 use borrow.Author.Needs.{needs}
@@ -6,8 +6,8 @@ use Rattle.layer.proofs.tags.add_tag.Statement.{statement}
 use Rattle.layer.proofs.tags.add_tag.Tie as tie
 
 -- the places on the way
-abbrev at-match-keys1-before-tag-open-arg4 : tie.After-tag-open-arg4 → tie.At-match-keys1
-at-match-keys1-before-tag-open-arg4 c = c .before .before .before .before .before .before
+abbrev at-match-keys1-before-tag-once-arg4 : tie.After-tag-once-arg4 → tie.At-match-keys1
+at-match-keys1-before-tag-once-arg4 c = c .before .before .before .before .before .before
 
 abbrev may-have2-before-at-match-keys1 : tie.At-match-keys1 → tie.After-may-have2
 may-have2-before-at-match-keys1 c = c .before .before .before .before .before .before
@@ -129,10 +129,10 @@ same-length-24 c = search needs
 returns-6 : tie.Need-returns-6
 returns-6 c = search (needs, chain) depth 12
 
-tag-open-requires : tie.Need-tag-open-requires
-tag-open-requires c κs =
-    let g = slice-known-before-is-valid-arg3 (is-valid-arg3-before-may-have2 (may-have2-before-at-match-keys1 (at-match-keys1-before-tag-open-arg4 c))) .before .before .before .args in
-    tag-ready (g .s) (g .keys .now) (g .values .now) (g .texts .now) (g .features .now) _ (may-have2-before-at-match-keys1 (at-match-keys1-before-tag-open-arg4 c) .before .before .before .before .is-valid .ensures) (may-have2-before-at-match-keys1 (at-match-keys1-before-tag-open-arg4 c) .before .before .before .if1 .left) _ _ _ _ (may-have2-before-at-match-keys1 (at-match-keys1-before-tag-open-arg4 c) .before .before .may-have .ensures) (may-have2-before-at-match-keys1 (at-match-keys1-before-tag-open-arg4 c) .before .if2 .left) (may-have2-before-at-match-keys1 (at-match-keys1-before-tag-open-arg4 c) .may-have2 .ensures) (at-match-keys1-before-tag-open-arg4 c .before .before .before .before .before .if3 .left) _ (c .before .before .before .before .before .f .given .1)
+tag-once-requires : tie.Need-tag-once-requires
+tag-once-requires c κs =
+    let g = slice-known-before-is-valid-arg3 (is-valid-arg3-before-may-have2 (may-have2-before-at-match-keys1 (at-match-keys1-before-tag-once-arg4 c))) .before .before .before .args in
+    tag-ready (g .s) (g .keys .now) (g .values .now) (g .texts .now) (g .features .now) _ (may-have2-before-at-match-keys1 (at-match-keys1-before-tag-once-arg4 c) .before .before .before .before .is-valid .ensures) (may-have2-before-at-match-keys1 (at-match-keys1-before-tag-once-arg4 c) .before .before .before .if1 .left) _ _ _ _ (may-have2-before-at-match-keys1 (at-match-keys1-before-tag-once-arg4 c) .before .before .may-have .ensures) (may-have2-before-at-match-keys1 (at-match-keys1-before-tag-once-arg4 c) .before .if2 .left) (may-have2-before-at-match-keys1 (at-match-keys1-before-tag-once-arg4 c) .may-have2 .ensures) (at-match-keys1-before-tag-once-arg4 c .before .before .before .before .before .if3 .left) _ (c .before .before .before .before .before .f .given .1)
 
 same-length-25 : tie.Need-same-length-25
 same-length-25 c = search needs
@@ -190,7 +190,7 @@ add-tag-spec =
     same-length-23
     same-length-24
     returns-6
-    tag-open-requires
+    tag-once-requires
     same-length-25
     same-length-26
     same-length-27

@@ -1,6 +1,6 @@
 -- The early returns are the definition's tests in their order.
 use Rattle.layer.proofs.Standing.{answered}
-use Rattle.layer.proofs.Barring.{bar-list, bar-kind, bar-state, bar-text, bar-utf8, bar-turn, bar-words, bar-none, words-many, words-few}
+use Rattle.layer.proofs.Barring.{bar-list, bar-kind, bar-state, bar-text, bar-utf8, bar-turn, bar-again, bar-words, bar-none, words-many, words-few}
 use borrow.Author.Needs.{needs}
 use Rattle.layer.proofs.whole_feature.first_refusal.Statement.{statement}
 use Rattle.layer.proofs.whole_feature.first_refusal.Tie as tie
@@ -38,11 +38,17 @@ is-shut-requires c κs = search needs
 returns-6 : tie.Need-returns-6
 returns-6 c = search (needs, bar-turn)
 
+takes-keys-requires : tie.Need-takes-keys-requires
+takes-keys-requires c κs = let g = c .before .before .before .before .before .before .before .before .before in answered _ _ (g .before .is-tag-list .ensures) (g .if1 .left)
+
 returns-7 : tie.Need-returns-7
-returns-7 c = search (needs, bar-words, words-many)
+returns-7 c = search (needs, bar-again)
 
 returns-8 : tie.Need-returns-8
-returns-8 c = search (needs, bar-none, words-few)
+returns-8 c = search (needs, bar-words, words-many)
+
+returns-9 : tie.Need-returns-9
+returns-9 c = search (needs, bar-none, words-few)
 
 pub first-refusal-spec : {M : Type 1} → statement M
 first-refusal-spec =
@@ -59,5 +65,7 @@ first-refusal-spec =
     returns-5
     is-shut-requires
     returns-6
+    takes-keys-requires
     returns-7
-    returns-8)
+    returns-8
+    returns-9)
