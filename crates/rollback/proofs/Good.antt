@@ -51,7 +51,7 @@ good (marks low high) v L n =
     by-check (λ (x : Change). All Fine x v) (valid v) State _ tt (λ e.
     by-open (λ (x : Change). All Fine x v) (v .layer .feature) _ tt (λ o f. marked-fine v (L e) e o f low high))
 good (tags t g) v L n =
-    by-tag (λ (x : Change). All Fine x v) t v (λ q n. tt) (λ e u o f h. tag-fine v (L e) e o f t g h)
+    by-tag (λ (x : Change). All Fine x v) t v (λ q n. tt) (λ e u o f a h. tag-fine v (L e) e o f t g h)
 good closes v L n =
     by-check (λ (x : Change). All Fine x v) (valid v) State _ tt (λ e.
     by-open (λ (x : Change). All Fine x v) (v .layer .feature) _ tt (λ o f. closed-fine v (L e) e o f))

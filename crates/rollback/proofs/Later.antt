@@ -36,7 +36,7 @@ use Rattle.rollback.proofs.Rolled.{unseen}
 -- ---- a whole feature leaves parts within the room
 feature-sized : (f : Head) (words ws bytes : List ℕ) (v : Seen) → (valid v ≡ true → Lengths v) → All Sized (addFeature f words ws bytes v) v
 feature-sized f words ws bytes v L =
-    by-feature (λ (x : Change). All Sized x v) f words ws bytes v (λ q. tt) (λ list kind e u shut h.
+    by-feature (λ (x : Change). All Sized x v) f words ws bytes v (λ q. tt) (λ list kind e u shut a h.
     let S = feature-sound f words ws bytes v (sound v e (L e)) list kind shut in
     record { lengths = record { keys = S .lengths .keys; values = S .lengths .values; texts = S .lengths .texts; features = S .lengths .features }; room = rw (feature-room f words (tagsOf bytes ws) v) at h })
 

@@ -15,7 +15,7 @@ atOpening : Figures
 atOpening = record { keys = 1; values = 0; texts = 0; features = 0 }
 
 oddLayer : Layer
-oddLayer = record { extent = 4096; name = 0; used = record { keys = 1; values = 0; texts = 1; features = 6 }; feature = Since atOpening }
+oddLayer = record { extent = 4096; strict = false; name = 0; used = record { keys = 1; values = 0; texts = 1; features = 6 }; feature = Since atOpening }
 
 pub odd : Seen
 odd = seen oddLayer (mem (0 ∷ 1 ∷ []) [] (97 ∷ []) (1 ∷ 0 ∷ 0 ∷ 0 ∷ 0 ∷ 0 ∷ []))

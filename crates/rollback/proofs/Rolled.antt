@@ -33,6 +33,7 @@ use Rattle.rollback.proofs.Seen.{seenAfter, after-seen, same-used}
 -- v has a feature open, opened where v₀ was seen
 pub record From (v₀ v : Seen) : Type 0 where
   pub extent : v .layer .extent ≡ v₀ .layer .extent
+  pub strict : v .layer .strict ≡ v₀ .layer .strict
   pub name : v .layer .name ≡ v₀ .layer .name
   pub since : v .layer .feature ≡ Since (v₀ .layer .used)
   pub cut : heldBy (v₀ .layer .used) (v .held) ≡ v₀ .held
@@ -58,12 +59,12 @@ module _ (v₀ : Seen) (L : valid v₀ ≡ true → Lengths v₀) (s : v₀ .lay
       by-check (λ (x : Change). Stage v₀ (next x v₀)) (isShut (v₀ .layer .feature)) Turn _ (inl refl) (λ f.
       by-check (λ (x : Change). Stage v₀ (next x v₀)) (leb (length words) maxWords) Room _ (inl refl) (λ m.
       by-check (λ (x : Change). Stage v₀ (next x v₀)) (fits (moreWords (v₀ .layer .used) (6 + length words)) (v₀ .room)) Room _ (inl refl) (λ h.
-      inr (record { extent = refl; name = refl; since = refl; cut = cut-opened kind words (L e); room = refl; fine = opened-fine v₀ (L e) e kind words k s h }))))))
+      inr (record { extent = refl; strict = refl; name = refl; since = refl; cut = cut-opened kind words (L e); room = refl; fine = opened-fine v₀ (L e) e kind words k s h }))))))
   start (marks low high) n =
       by-check (λ (x : Change). Stage v₀ (next x v₀)) (valid v₀) State _ (inl refl) (λ e.
       by-open (λ (x : Change). Stage v₀ (next x v₀)) (v₀ .layer .feature) _ (inl refl) (λ o f. not-open o f))
   start (tags t g) n =
-      by-tag (λ (x : Change). Stage v₀ (next x v₀)) t v₀ (λ q n. inl refl) (λ e u o f h. not-open o f)
+      by-tag (λ (x : Change). Stage v₀ (next x v₀)) t v₀ (λ q n. inl refl) (λ e u o f a h. not-open o f)
   start closes n = absurd (let z : _≡_ {A = ℕ} 0 1 = cc in omega arith)
   start abandons n =
       by-check (λ (x : Change). Stage v₀ (next x v₀)) (valid v₀) State _ (inl refl) (λ e.
@@ -78,10 +79,10 @@ module _ (v₀ : Seen) (L : valid v₀ ≡ true → Lengths v₀) (s : v₀ .lay
     still-open h = absurd (let e : v .layer .feature ≡ Shut = is-shut (v .layer .feature) h in let z : _≡_ {A = ℕ} 0 1 = cc (F .since) in omega arith)
 
     pub back : next (does abandons v) v ≡ v₀
-    back = rw (F .fine .stands, F .since) (again (v .layer .extent) (v .layer .name) (heldBy (v₀ .layer .used) (v .held)) (v .room) (F .extent) (F .name) (F .cut) (F .room))
+    back = rw (F .fine .stands, F .since) (again (v .layer .extent) (v .layer .strict) (v .layer .name) (heldBy (v₀ .layer .used) (v .held)) (v .room) (F .extent) (F .strict) (F .name) (F .cut) (F .room))
       where
-        again : (x n : ℕ) (h : Memory) (r : Figures) → x ≡ v₀ .layer .extent → n ≡ v₀ .layer .name → h ≡ v₀ .held → r ≡ v₀ .room → _≡_ {A = Seen} (record { layer = record { extent = x; name = n; used = v₀ .layer .used; feature = Shut }; held = h; room = r }) v₀
-        again x n h r a b c d = rw (a, b, c, d, ← s)
+        again : (x : ℕ) (c : Bool) (n : ℕ) (h : Memory) (r : Figures) → x ≡ v₀ .layer .extent → c ≡ v₀ .layer .strict → n ≡ v₀ .layer .name → h ≡ v₀ .held → r ≡ v₀ .room → _≡_ {A = Seen} (record { layer = record { extent = x; strict = c; name = n; used = v₀ .layer .used; feature = Shut }; held = h; room = r }) v₀
+        again x c n h r a k b i d = rw (a, k, b, i, d, ← s)
 
     -- what is cut back to stays, where it stays up to the opening figures
     module _ (o : Figures) (f : v .layer .feature ≡ Since o) where
@@ -97,7 +98,7 @@ module _ (v₀ : Seen) (L : valid v₀ ≡ true → Lengths v₀) (s : v₀ .lay
       marked-from low high =
           let k : heldBy o (withFeatures (v .held) (lay (o .features + 1) (1 ∷ low ∷ high ∷ []) (v .held .features))) ≡ heldBy o (v .held) =
           rw (take-lay-before (o .features) (o .features + 1) (1 ∷ low ∷ high ∷ []) (v .held .features) (omega arith) (marked-in v (sound v (F .fine .stands) (F .fine .lengths)) o f low high)) in
-          record { extent = F .extent; name = F .name; since = F .since; cut = cut-as _ k; room = F .room; fine = marked-fine v (F .fine .lengths) (F .fine .stands) o f low high }
+          record { extent = F .extent; strict = F .strict; name = F .name; since = F .since; cut = cut-as _ k; room = F .room; fine = marked-fine v (F .fine .lengths) (F .fine .stands) o f low high }
 
       module _ (t : Tag) (g : isValue (t .value) ≡ true) (h : fits (tagPut o t v .layer .used) (v .room) ≡ true) where
         tag-kept : heldBy o (tagPut o t v .held) ≡ heldBy o (v .held)
@@ -114,7 +115,7 @@ module _ (v₀ : Seen) (L : valid v₀ ≡ true → Lengths v₀) (s : v₀ .lay
             )
 
         tag-from : From v₀ (tagPut o t v)
-        tag-from = record { extent = F .extent; name = F .name; since = F .since; cut = cut-as (tagPut o t v .held) tag-kept; room = F .room; fine = tag-fine v (F .fine .lengths) (F .fine .stands) o f t g h }
+        tag-from = record { extent = F .extent; strict = F .strict; name = F .name; since = F .since; cut = cut-as (tagPut o t v .held) tag-kept; room = F .room; fine = tag-fine v (F .fine .lengths) (F .fine .stands) o f t g h }
 
     onward : (c : Call) → isOpenEnded c ≡ true → Stage v₀ (next (does c v) v)
     onward (opens kind words) n =
@@ -125,7 +126,7 @@ module _ (v₀ : Seen) (L : valid v₀ ≡ true → Lengths v₀) (s : v₀ .lay
         by-check (λ (x : Change). Stage v₀ (next x v)) (valid v) State _ (inr F) (λ e.
         by-open (λ (x : Change). Stage v₀ (next x v)) (v .layer .feature) _ (inr F) (λ o f. inr (marked-from o f low high)))
     onward (tags t g) n =
-        by-tag (λ (x : Change). Stage v₀ (next x v)) t v (λ q n. inr F) (λ e u o f h. inr (tag-from o f t g h))
+        by-tag (λ (x : Change). Stage v₀ (next x v)) t v (λ q n. inr F) (λ e u o f a h. inr (tag-from o f t g h))
     onward closes n = absurd (let z : _≡_ {A = ℕ} 0 1 = cc in omega arith)
     onward abandons n = inl back
 
@@ -210,7 +211,7 @@ never-state (marks low high) v S =
     rw (S .fine .stands)
     (by-open OtherThanState (v .layer .feature) _ (λ e. let z : _≡_ {A = ℕ} 0 1 = cc in omega arith) (λ o f e. let z : _≡_ {A = ℕ} 0 1 = cc in omega arith))
 never-state (tags t g) v S =
-    by-tag OtherThanState t v (λ q n e. let y : valid v ≡ false = n (ap refusalOf e) in let s = S .fine .stands in let z : _≡_ {A = ℕ} 0 1 = cc in omega arith) (λ e u o f h k. let z : _≡_ {A = ℕ} 0 1 = cc in omega arith)
+    by-tag OtherThanState t v (λ q n e. let y : valid v ≡ false = n (ap refusalOf e) in let s = S .fine .stands in let z : _≡_ {A = ℕ} 0 1 = cc in omega arith) (λ e u o f a h k. let z : _≡_ {A = ℕ} 0 1 = cc in omega arith)
 never-state closes v S =
     rw (S .fine .stands)
     (by-open OtherThanState (v .layer .feature) _ (λ e. let z : _≡_ {A = ℕ} 0 1 = cc in omega arith) (λ o f e. let z : _≡_ {A = ℕ} 0 1 = cc in omega arith))
