@@ -30,7 +30,7 @@ extern "C" {
 /* The number of this interface. It is raised by one with every change of a declaration below (a struct's fields, a function's parameters, a constant, the
  * refusals) or of what one means; a declaration more leaves it. bp_version and bp_tiles_version answer the number of the archive: where that is not
  * BP_VERSION, header and archive do not belong together. */
-#define BP_VERSION 5
+#define BP_VERSION 6
 uint32_t bp_version(void);       /* of libbrinepost.a */
 uint32_t bp_tiles_version(void); /* of libbrinepost_tiles.a */
 
@@ -55,7 +55,8 @@ enum bp_refusal {
     BP_COUNT = 16,     /* a ClosePath whose count is not 1, a MoveTo or LineTo whose count is 0 */
     BP_NOPARAMS = 17,  /* no word follows a MoveTo or LineTo; bp_reading has its place */
     BP_CUTPARAMS = 18, /* fewer than twice the count words follow one, but some; bp_reading has its place */
-    BP_UTF8 = 22       /* a name, a key or a text value given to a call that is not well-formed UTF-8 (the Unicode Standard, table 3-7) */
+    BP_UTF8 = 22,      /* a name, a key or a text value given to a call that is not well-formed UTF-8 (the Unicode Standard, table 3-7) */
+    BP_AGAIN = 23      /* in a strict layer, a key that the open feature has already; in its whole features, a key that an earlier tag of the feature has */
 };
 
 /* A refusal's name as docs/RULES.md has it, and "ACCEPTED" for 0; "UNKNOWN" for a number that is none. */
@@ -80,6 +81,7 @@ static inline const char *bp_refusal_name(uint32_t refusal)
     case BP_NOPARAMS: return "NOPARAMS";
     case BP_CUTPARAMS: return "CUTPARAMS";
     case BP_UTF8: return "UTF8";
+    case BP_AGAIN: return "AGAIN";
     }
     return "UNKNOWN";
 }
@@ -243,13 +245,18 @@ typedef struct bp_figures {
 
 /* A layer between two calls. A caller may store it and hand it in again, with its four lists as the last accepted call left them; every call that it is
  * given to refuses one that breaks a rule with what the lists hold (STATE). One with every field 0 breaks none: it has extent 0 and an empty name.
- * That its texts are UTF-8 is no such rule: a layer stored under interface 4 may hold others, and they go into the tile as they are. */
+ * That its texts are UTF-8 is no such rule: a layer stored under interface 4 may hold others, and they go into the tile as they are.
+ * A strict layer takes one value for each key: a tag whose key, by its bytes, the open feature has already is refused as AGAIN, with the same value too. Other
+ * features do not count, nor does one that was abandoned. A layer is made strict by a call of its own, and every call keeps it so; where nothing is refused its
+ * bytes are those of an ordinary layer, which never looks. A carried one whose open feature has a key twice already breaks no rule.
+ * A stored bp_layer of interface 5 has another size: it has no is_strict. Four bytes of padding stand before name. */
 typedef struct bp_layer {
     uint32_t extent;
-    uint32_t is_open; /* 1 where a feature is open, else 0; another number is STATE */
-    size_t name;      /* the length of the name, which is the first text */
+    uint32_t is_open;   /* 1 where a feature is open, else 0; another number is STATE */
+    uint32_t is_strict; /* 1 where the layer is strict, else 0; another number is STATE */
+    size_t name;        /* the length of the name, which is the first text */
     bp_figures used;
-    bp_figures since; /* the figures when the open feature was opened; without one they mean nothing */
+    bp_figures since;   /* the figures when the open feature was opened; without one they mean nothing */
 } bp_layer;
 
 typedef struct bp_changed {
@@ -277,6 +284,9 @@ typedef struct bp_named {
  * the empty text, U+0000, a byte order mark and noncharacters are good. */
 bp_changed bp_layer_new(const uint8_t *name, size_t name_len, uint32_t extent, uint8_t *texts, size_t texts_len);
 
+/* The same, strict: TEXT, UTF8, ROOM. */
+bp_changed bp_strict_layer_new(const uint8_t *name, size_t name_len, uint32_t extent, uint8_t *texts, size_t texts_len);
+
 /* Opens a feature with these geometry words, which are taken as given: KIND, STATE, TURN, ROOM. */
 bp_changed bp_into_feature(bp_layer layer, uint32_t kind, const uint32_t *words, size_t words_len, const uint32_t *keys, size_t keys_len,
                            const uint32_t *values, size_t values_len, const uint8_t *texts, size_t texts_len, uint32_t *features, size_t features_len);
@@ -285,7 +295,7 @@ bp_changed bp_into_feature(bp_layer layer, uint32_t kind, const uint32_t *words,
 bp_changed bp_set_id(bp_layer layer, uint64_t id, const uint32_t *keys, size_t keys_len, const uint32_t *values, size_t values_len,
                      const uint8_t *texts, size_t texts_len, uint32_t *features, size_t features_len);
 
-/* Adds a tag to the open feature, its value a text: STATE, TEXT (of key or text), UTF8 (of either), TURN, ROOM. */
+/* Adds a tag to the open feature, its value a text: STATE, TEXT (of key or text), UTF8 (of either), TURN, AGAIN (of a strict layer), ROOM. */
 bp_changed bp_add_tag_string(bp_layer layer, const uint8_t *key, size_t key_len, const uint8_t *val, size_t val_len, uint32_t *keys, size_t keys_len,
                              uint32_t *values, size_t values_len, uint8_t *texts, size_t texts_len, uint32_t *features, size_t features_len);
 
@@ -317,14 +327,15 @@ bp_changed bp_add_tag_bool(bp_layer layer, const uint8_t *key, size_t key_len, u
 bp_changed bp_into_layer(bp_layer layer, const uint32_t *keys, size_t keys_len, const uint32_t *values, size_t values_len,
                          const uint8_t *texts, size_t texts_len, const uint32_t *features, size_t features_len);
 
-/* Abandons the open feature, as if it had never been opened: STATE, TURN. */
+/* Abandons the open feature, as if it had never been opened: STATE, TURN. A strict layer stays strict. */
 bp_changed bp_abandon(bp_layer layer, const uint32_t *keys, size_t keys_len, const uint32_t *values, size_t values_len,
                       const uint8_t *texts, size_t texts_len, const uint32_t *features, size_t features_len);
 
-/* Adds a whole feature at once, with this id where has_id is not 0: JOB, KIND, STATE, TEXT (of any key or text in `tags`), UTF8 (of any of them), TURN, and
- * ROOM last, of exactly what is needed: a key or a value that comes twice, or is there already, is stored once. A feature that is refused changes nothing:
- * every element of every list is as it was. A tag is five words of `tags`: where its key starts in `bytes` and how long it is, the value's kind (1 text,
- * 2 float, 3 double, 4 int, 5 uint, 6 sint, 7 bool), then where its text starts in `bytes` and how long it is, or the low and the high half of its content.
+/* Adds a whole feature at once, with this id where has_id is not 0: JOB, KIND, STATE, TEXT (of any key or text in `tags`), UTF8 (of any of them), TURN, AGAIN
+ * (of a strict layer, where a tag has the key of an earlier one, by its bytes), and ROOM last, of exactly what is needed: a key or a value that comes twice, or
+ * is there already, is stored once. A feature that is refused changes nothing: every element of every list is as it was. A tag is five words of `tags`: where
+ * its key starts in `bytes` and how long it is, the value's kind (1 text, 2 float, 3 double, 4 int, 5 uint, 6 sint, 7 bool), then where its text starts in
+ * `bytes` and how long it is, or the low and the high half of its content.
  * Each key and each text is UTF-8 by itself; bytes that no tag names are not looked at. JOB: tags_len is no multiple of five, a key or a text runs past
  * `bytes`, a kind is none of these, a float's high half is not 0, a bool's content is not 0 or 1. */
 bp_changed bp_add_feature(bp_layer layer, uint32_t kind, uint32_t has_id, uint64_t id, const uint32_t *words, size_t words_len,
@@ -376,6 +387,9 @@ bp_tile bp_tile_new(uint32_t extent);
 
 /* A layer of the tile's extent, without features: TEXT, UTF8, ROOM. Nothing else of the tile is looked at. */
 bp_changed bp_create_layer(bp_tile tile, const uint8_t *name, size_t name_len, uint8_t *texts, size_t texts_len);
+
+/* The same, strict: TEXT, UTF8, ROOM. */
+bp_changed bp_create_strict_layer(bp_tile tile, const uint8_t *name, size_t name_len, uint8_t *texts, size_t texts_len);
 
 /* Writes a layer behind the tile's bytes: STATE (of either), TURN, EXTENT, NAME, ROOM. */
 bp_added bp_add_layer(bp_tile tile, bp_layer layer, const uint32_t *keys, size_t keys_len, const uint32_t *values, size_t values_len,
@@ -513,9 +527,19 @@ static inline bp_changed bp_layer_new_in(const uint8_t *name, size_t name_len, u
     return bp_layer_new(BP_BYTES_OF(name, name_len), extent, BP_LENT(uint8_t, lists->texts, lists->texts_len));
 }
 
+static inline bp_changed bp_strict_layer_new_in(const uint8_t *name, size_t name_len, uint32_t extent, const bp_lists *lists)
+{
+    return bp_strict_layer_new(BP_BYTES_OF(name, name_len), extent, BP_LENT(uint8_t, lists->texts, lists->texts_len));
+}
+
 static inline bp_changed bp_create_layer_in(bp_tile tile, const uint8_t *name, size_t name_len, const bp_lists *lists)
 {
     return bp_create_layer(tile, BP_BYTES_OF(name, name_len), BP_LENT(uint8_t, lists->texts, lists->texts_len));
+}
+
+static inline bp_changed bp_create_strict_layer_in(bp_tile tile, const uint8_t *name, size_t name_len, const bp_lists *lists)
+{
+    return bp_create_strict_layer(tile, BP_BYTES_OF(name, name_len), BP_LENT(uint8_t, lists->texts, lists->texts_len));
 }
 
 static inline bp_changed bp_into_feature_in(bp_layer layer, uint32_t kind, const uint32_t *words, size_t words_len, const bp_lists *lists)

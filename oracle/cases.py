@@ -295,6 +295,10 @@ def create(name, extent=4096):
     return le([1, extent]) + text(name)
 
 
+def create_strict(name, extent=4096):
+    return le([8, extent]) + text(name)
+
+
 def open_feature(kind, words=()):
     return le([2, kind, len(words), *words])
 
@@ -397,7 +401,7 @@ def sample_tiles():
     yield b""
 
 
-def random_tile(random, texts=TEXTS):
+def random_tile(random, texts=TEXTS, create=create):
     extent = random.pick(EXTENTS)
     operations = []
     for _ in range(random.between(1, 3)):

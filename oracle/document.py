@@ -1,4 +1,5 @@
-"""The rules of document 01, written out without regard for speed: what each call answers, refusals too; UTF8 is request (viii)'s.
+"""The rules of document 01, written out without regard for speed: what each call answers, refusals too; UTF8 is request (viii)'s,
+strict layers with AGAIN are request (xiv)'s.
 
 They follow document 01's text and not our Rattle code. Who wrote them had read the Rust too, so a passage of document 01
 that can be read two ways may have been read the Rust's way. A refused call raises Refused; its checks stand in the order
@@ -16,7 +17,7 @@ from utf8 import is_text
 POINT, LINE, POLYGON = 1, 2, 3
 JOB, KIND, BOX, STATE, COORD, EMPTY, ROOM, COMMAND = range(1, 9)
 TEXT, TURN, EXTENT, NAME = range(11, 15)
-UTF8 = 22
+UTF8, AGAIN = 22, 23
 
 MAX_WORDS = 1_048_576  # of a geometry
 MAX_COUNT = 2**29 - 1  # of a command: a word has 29 bits beside the id
@@ -293,9 +294,9 @@ def check_texts(*texts):
 
 
 class Layer:
-    def __init__(self, extent, name):
+    def __init__(self, extent, name, strict=False):
         check_texts(name)
-        self.extent, self.name = extent, name
+        self.extent, self.name, self.strict = extent, name, strict
         self.keys, self.values, self.features = [], [], []
         self.feature = None  # the open one
 
@@ -313,6 +314,7 @@ class Layer:
         """The key's and the value's index."""
         check_texts(key, *([content] if kind == 1 else []))
         check(self.feature is not None, TURN)
+        check(not self.strict or key not in [self.keys[at] for at in self.feature["tags"][::2]], AGAIN)
         if key not in self.keys:
             self.keys.append(key)
         sames = [(k, same_zero(k, c)) for k, c in self.values]
@@ -405,8 +407,8 @@ class Script:
     def operation(self):
         """An operation's name and its arguments."""
         number = self.number()
-        if number == 1:
-            return "create", self.number(), self.text()
+        if number in (1, 8):
+            return "create", self.number(), self.text(), number == 8
         if number == 2:
             kind = self.number()
             return "open", kind, self.run(self.number())

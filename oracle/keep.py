@@ -260,7 +260,7 @@ def tiles(pairs):
             yield document.unsigned(data), rust_tile(answer)
         elif whole(data):
             yield document.unsigned(data), document_tile(data)
-    for data in refusals.tiles():
+    for data in [*refusals.tiles(), *refusals.strict_tiles()]:
         yield document.unsigned(data), document_tile(data)
 
 

@@ -2,8 +2,8 @@
 answer are the rules of document.py, and for words those of reading.py. Each kind says what its cases are.
 """
 
-from cases import (ADD, BOOL, CLOSE, INT, LIMIT, LINE, POINT, POLYGON, TEXT, create, job, le, open_feature, script,
-                   set_id, tag)
+from cases import (ABANDON, ADD, BOOL, CLOSE, FLOAT, INT, KEPT_SEED, LIMIT, LINE, POINT, POLYGON, Random, TEXT, UINT, contents,
+                   create, create_strict, job, le, open_feature, random_tile, script, set_id, tag)
 
 TEN = (0, 10, 0, 10)
 BEYOND = (LIMIT + 1, -LIMIT - 1, 2**31 - 1, -2**31)
@@ -207,4 +207,86 @@ def ill_formed_tiles(point, good):
         yield script(create(b"a"), point, *(tag(b"k", TEXT, text) for text in texts), CLOSE, ADD)
 
 
-KINDS = {f.__name__: f for f in (jobs, clips, commands, states, readings, tiles)}
+# Tile scripts with strict layers (request (xiv)), which the Rust does not know. A script's lists always have room, so that AGAIN comes before ROOM is
+# not to be seen here.
+
+OPEN, K1, K2 = open_feature(POINT, [9, 10, 14]), tag(b"k", INT, 1), tag(b"k", INT, 2)
+
+
+def strict_tiles():
+    # Many tags, each key once, then all of them again, then one more. This one is first since it does not fit behind the ordinary scripts, so that
+    # the strict ones begin a file of their own.
+    many = [tag(bytes([97 + n % 26, 97 + n // 26]), UINT, n) for n in range(130)]
+    yield script(create_strict(b"a"), OPEN, *many, *many, K1, CLOSE, ADD)
+    yield from again_tiles()
+    yield from again_in_order()
+    yield from again_by_bytes()
+    yield from strict_creations()
+    random = Random(KEPT_SEED)
+    yield from (random_tile(random, create=create_strict) for _ in range(12))
+
+
+def again_tiles():
+    """What the open feature has, and nothing else, is refused; the calls behind it go on."""
+    a, point, new = create_strict(b"a"), OPEN, tag(b"new", TEXT, b"new")
+    yield script(a, point, K1, K2, new, CLOSE, ADD)  # the refused tag's value is not stored
+    yield script(a, point, K1, K1, K1, new, K1, CLOSE, ADD)  # the same value too
+    for kind in range(TEXT, BOOL + 1):  # every kind behind every kind
+        yield script(a, point, tag(b"k", kind, contents(kind)[1]), *(tag(b"k", other, contents(other)[1]) for other in range(TEXT, BOOL + 1)), CLOSE, ADD)
+    yield script(a, point, K1, CLOSE, point, K2, K1, CLOSE, point, new, K1, new, CLOSE, ADD)  # another feature may have the key
+    # Abandoned, the feature has no tags any more, and the layer is still strict.
+    yield script(a, point, K1, ABANDON, point, K2, K1, CLOSE, ADD)
+    yield script(a, point, K1, K2, ABANDON, point, K1, K2, CLOSE, ADD)
+    yield script(a, point, K1, CLOSE, point, K2, new, K1, ABANDON, point, new, K2, new, K1, CLOSE, ADD)
+    yield script(a, point, K1, ABANDON, point, new, K1, new, ABANDON, point, new, CLOSE, ADD)
+    # A word of the geometry, of another feature's tags or of a value's index is no key.
+    one, two, three = ([tag(key, INT, n) for n in range(3)] for key in (b"one", b"two", b"three"))
+    yield script(a, point, one[0], two[1], three[2], CLOSE, point, one[1], two[2], three[0], three[1], CLOSE, point, one[2], two[0], three[1], one[0], CLOSE, ADD)
+    yield script(a, open_feature(LINE, [0, 1, 0, 1]), one[0], two[0], CLOSE, open_feature(LINE, [1, 0, 1, 0]), two[0], one[0], one[0], two[0], CLOSE, ADD)
+    yield script(a, point, set_id(0), K1, set_id(1), K2, CLOSE, point, K1, CLOSE, ADD)
+
+
+def again_in_order():
+    """The checks before AGAIN: TEXT, UTF8, TURN."""
+    a, point, long_text, latin = create_strict(b"a"), OPEN, b"v" * 1025, b"stra\xdfe"
+    yield script(a, point, K1, tag(b"k", TEXT, long_text), tag(b"k", TEXT, latin), tag(b"k", TEXT, b"\xe9" * 1025), tag(b"k", TEXT, b"v"), CLOSE, ADD)
+    yield script(a, point, K1, tag(long_text, INT, 1), tag(long_text, INT, 1), tag(latin, INT, 1), tag(latin, INT, 1), CLOSE, ADD)  # no such key is there
+    yield script(a, K1, point, K1, CLOSE, K1, K2, point, K2, K1, ABANDON, K1, K2, ADD, K1, K2)  # TURN, though the feature before it has the key
+    yield script(a, point, K1, ADD, point, K2, open_feature(0), CLOSE, ADD)
+
+
+def again_by_bytes():
+    """Keys are one where their bytes are, and nothing else makes them one."""
+    def once_and_again(*keys):
+        return script(create_strict(b"a"), OPEN, *(tag(key, UINT, n) for n, key in enumerate(keys)), *(tag(key, UINT, 0) for key in keys), CLOSE, ADD)
+
+    yield once_and_again(b"")
+    yield once_and_again(b"", b"\0", b"\0\0", b" ")
+    yield once_and_again(b"a", b"ab", b"abc", b"abcd", b"abcde")  # each a part of the next
+    yield once_and_again(b"abcde", b"abcd", b"abc", b"ab", b"a", b"e", b"de")
+    yield once_and_again(b"aab", b"aac", b"bab", b"aba", b"A")  # of one length, of one letter
+    yield once_and_again("\u00e9".encode(), "e\u0301".encode(), b"e")  # nothing is normalised
+    yield once_and_again(b"k" * 1024, b"k" * 1023, b"k" * 1023 + b"l", b"l" + b"k" * 1023)
+    # A value's text and the layer's name are no keys.
+    yield script(create_strict(b"k"), OPEN, tag(b"v", TEXT, b"k"), tag(b"k", TEXT, b"v"), tag(b"k", TEXT, b"k"), tag(b"v", TEXT, b"v"), CLOSE, ADD)
+    yield script(create_strict(b""), OPEN, tag(b"", TEXT, b""), tag(b"a", TEXT, b""), tag(b"", TEXT, b"a"), CLOSE, ADD)
+    # Both zeros are one value: the key alone decides.
+    yield script(create_strict(b"a"), OPEN, tag(b"k", FLOAT, 0), tag(b"k", FLOAT, 2**31), tag(b"l", FLOAT, 2**31), CLOSE, ADD)
+
+
+def strict_creations():
+    """The layer's choice is its own, and creating asks TEXT and UTF8; what cannot be read ends the script."""
+    point, long_text, latin = OPEN, b"n" * 1025, b"stra\xdfe"
+    twice = point, K1, K2, K1, CLOSE
+    yield script(create(b"a"), *twice, ADD, create_strict(b"b"), *twice, ADD, create(b"c"), *twice, ADD)
+    yield script(create_strict(b"a"), point, K1, create(b"b"), *twice, ADD)
+    yield script(create(b"a"), point, K1, create_strict(b"b"), *twice, ADD)
+    # A refused layer leaves the one at hand, strict or not.
+    yield script(create_strict(b"a"), point, K1, create(latin), K2, create(long_text), K2, CLOSE, ADD)
+    yield script(create(b"a"), point, K1, create_strict(latin), K2, create_strict(long_text), K2, CLOSE, ADD)
+    yield script(create_strict(long_text), create_strict(b"\xe9" * 1025), create_strict(latin), ADD, create_strict(b"n" * 1024), *twice, ADD)
+    yield script(create_strict(b"a", 1), *twice, ADD, create_strict(b"a"), ADD, create_strict(b"a"), ADD, create(b"a"), ADD)  # EXTENT, NAME
+    added = [create_strict(b"a"), *twice, ADD]
+    for damage in (le([8]), le([8, 4096]), le([8, 4096, 5, 0]), le([8, 4096, 1, 0x6161]), le([9])):
+        yield script(*added, damage)
+

@@ -9,7 +9,7 @@ import sys
 
 import cases
 import keep
-from cases import ADD, LIMIT, LINE, POINT, POLYGON, TEXT, create, job, open_feature, script, tag
+from cases import ADD, LIMIT, LINE, POINT, POLYGON, TEXT, create, create_strict, job, open_feature, script, tag
 
 TEN, HUNDRED = (0, 10, 0, 10), (0, 100, 0, 100)
 CORNER = [(2, 2), (2, 10), (10, 10)]
@@ -63,6 +63,8 @@ SAMPLES = [
     ("tiles", tagged_tile(1024, 1024), ACCEPTED),
     ("tiles", tagged_tile(1025, 1), "outside TEXT at 3"),
     ("tiles", tagged_tile(1, 1025), "outside TEXT at 3"),
+    # Request (xiv): the Rust has no strict layers.
+    ("tiles", script(create_strict(b"a"), ADD).hex(), "outside JOB at 1"),
 ]
 
 

@@ -83,6 +83,11 @@ class Script:
         self.out += struct.pack(f"<3I{len(given)}I", 2, kind, len(given), *given)
         self.open = None
 
+    def create(self, operation, words, place):
+        """A layer by one of the two operations that create one: its name and, if it is another, its extent."""
+        extent = unsigned(words[1], place) if len(words) == 2 else self.extent
+        self.out += struct.pack("<2I", operation, extent) + text(words[0])
+
     def line(self, words, place):
         if self.geometry(words, place):
             return
@@ -96,8 +101,9 @@ class Script:
         elif name == "box":
             self.edges = box(words, place)
         elif name == "layer" and len(rest) in (1, 2):
-            extent = unsigned(rest[1], place) if len(rest) == 2 else self.extent
-            self.out += struct.pack("<2I", 1, extent) + text(rest[0])
+            self.create(1, rest, place)
+        elif name == "strict" and rest[:1] == ["layer"] and len(rest) in (2, 3):
+            self.create(8, rest[1:], place)
         elif name == "feature" and len(rest) == 1:
             self.open = (kind_of(rest[0], place), [], [], place)
         elif name == "id" and len(rest) == 1:

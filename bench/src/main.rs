@@ -32,8 +32,8 @@ fn ours(work: &Work, memory: &mut Memory) {
         Work::Decode { words } => {
             black_box(ours::decode(words, &mut memory.numbers));
         }
-        Work::Tile { given, way } => {
-            black_box(tiles::ours(given, *way, &mut memory.tiles));
+        Work::Tile { given, manner } => {
+            black_box(tiles::ours(given, *manner, &mut memory.tiles));
         }
     }
 }
@@ -91,8 +91,8 @@ extern "C" fn getrandom(to: *mut u8, length: usize, _flags: u32) -> isize {
 
 /// Whether the two tiles are the same, before their instructions are compared.
 fn same(work: &Work, memory: &mut Memory) {
-    if let Work::Tile { given, way } = work {
-        let bytes = tiles::ours(given, *way, &mut memory.tiles);
+    if let Work::Tile { given, manner } = work {
+        let bytes = tiles::ours(given, *manner, &mut memory.tiles);
         assert!(bytes == tiles::rust(given), "the tiles differ");
         println!("{} bytes", bytes.len());
     }
@@ -114,7 +114,9 @@ fn main() {
         exit(2)
     };
     let lists = match &work {
-        Work::Tile { given, way } => tiles::Memory::new(given.tags(), *way == tiles::Way::Many),
+        Work::Tile { given, manner } => {
+            tiles::Memory::new(given.tags(), manner.way == tiles::Way::Many)
+        }
         _ => tiles::Memory::new(0, false),
     };
     let mut memory = Memory {

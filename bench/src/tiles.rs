@@ -38,6 +38,13 @@ pub enum Way {
     Calls,
 }
 
+/// By which way, and whether into a strict layer.
+#[derive(Clone, Copy)]
+pub struct Manner {
+    pub way: Way,
+    pub is_strict: bool,
+}
+
 /// The features of a tile, and the same as one call takes them, one behind the other.
 pub struct Given {
     features: Vec<Feature>,
@@ -177,10 +184,24 @@ pub fn values(count: usize) -> Given {
     Given::new((0..count as u64 / 8).map(feature).collect())
 }
 
+/// So many different keys, 52 at most, in each of ten features.
+pub fn tags(count: usize) -> Given {
+    const KEYS: &str = "abcdefghijklmnopqrstuvwxyzABCDEFGHIJKLMNOPQRSTUVWXYZ";
+    let feature = |at: u64| {
+        let tag = |k: usize| (&KEYS[k..k + 1], Content::Bits(5, k as u64));
+        Feature::new(at, &POINT, (0..count).map(tag).collect())
+    };
+    Given::new((0..10).map(feature).collect())
+}
+
 /// The tile's bytes by our library.
-pub fn ours<'a>(given: &Given, way: Way, memory: &'a mut Memory) -> &'a [u8] {
+pub fn ours<'a>(given: &Given, manner: Manner, memory: &'a mut Memory) -> &'a [u8] {
     let tile = tiles::tile(EXTENT);
-    let mut layer = tile.create_layer(b"posts", &mut memory.texts).layer;
+    let mut layer = if manner.is_strict {
+        tile.create_strict_layer(b"posts", &mut memory.texts).layer
+    } else {
+        tile.create_layer(b"posts", &mut memory.texts).layer
+    };
     let mut lists = Lists {
         keys: &mut memory.keys,
         values: &mut memory.values,
@@ -191,7 +212,7 @@ pub fn ours<'a>(given: &Given, way: Way, memory: &'a mut Memory) -> &'a [u8] {
         keys: &mut memory.key_index,
         values: &mut memory.value_index,
     };
-    layer = match way {
+    layer = match manner.way {
         Way::Many | Way::Scan => {
             let all = Features {
                 heads: &given.heads,

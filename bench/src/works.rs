@@ -1,6 +1,6 @@
 //! The pieces of work, by name.
 
-use crate::tiles::{self, Given, Way};
+use crate::tiles::{self, Given, Manner, Way};
 
 pub enum Work {
     /// One part.
@@ -19,7 +19,7 @@ pub enum Work {
     /// A tile of one layer with these features.
     Tile {
         given: Given,
-        way: Way,
+        manner: Manner,
     },
 }
 
@@ -57,6 +57,19 @@ pub const NAMES: &[&str] = &[
     "tile-calls-10",
     "tile-calls-100",
     "tile-calls-1000",
+    "tile-strict-10",
+    "tile-strict-100",
+    "tile-strict-1000",
+    "tile-strict-calls-10",
+    "tile-strict-calls-100",
+    "tile-tags-5",
+    "tile-tags-10",
+    "tile-tags-20",
+    "tile-tags-40",
+    "tile-strict-tags-5",
+    "tile-strict-tags-10",
+    "tile-strict-tags-20",
+    "tile-strict-tags-40",
     "values-1024",
     "values-4096",
     "values-16384",
@@ -155,7 +168,12 @@ pub fn named(name: &str) -> Option<Work> {
         edges: EDGES,
         segments,
     };
-    let tile = |given, way| Work::Tile { given, way };
+    let layer = |given, way, is_strict| {
+        let manner = Manner { way, is_strict };
+        Work::Tile { given, manner }
+    };
+    let tile = |given, way| layer(given, way, false);
+    let strict = |given, way| layer(given, way, true);
     Some(match kind {
         "tile-same" => tile(tiles::posts(count, false), Way::Many),
         "tile-own" => tile(tiles::posts(count, true), Way::Many),
@@ -165,6 +183,10 @@ pub fn named(name: &str) -> Option<Work> {
         "tile-scan" => tile(tiles::posts(count, true), Way::Scan),
         "tile-whole" => tile(tiles::posts(count, true), Way::Whole),
         "tile-calls" => tile(tiles::posts(count, true), Way::Calls),
+        "tile-strict" => strict(tiles::posts(count, false), Way::Many),
+        "tile-strict-calls" => strict(tiles::posts(count, true), Way::Calls),
+        "tile-tags" => tile(tiles::tags(count), Way::Many),
+        "tile-strict-tags" => strict(tiles::tags(count), Way::Many),
         "values" => tile(tiles::values(count), Way::Many),
         "values-scan" => tile(tiles::values(count), Way::Scan),
         "line-inside" => line(inside(count)),

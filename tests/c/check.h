@@ -1,4 +1,4 @@
-/* What the C tests share: numbers compared and counted, and the layout of structs. */
+/* What the C tests share: numbers compared and counted, the layout of structs, and layers compared. Stands behind brinepost.h. */
 #include <stdio.h>
 #include <string.h>
 
@@ -18,6 +18,13 @@ static void same_at(const char *file, int line, const char *what, long long expe
 
 #define AT(type, field, place) _Static_assert(offsetof(type, field) == (place), #type "." #field)
 #define SIZE(type, bytes) _Static_assert(sizeof(type) == (bytes), #type)
+
+/* Whether two layers differ in a field; what stands between the fields no promise speaks of. */
+static inline int layers_differ(bp_layer a, bp_layer b)
+{
+    return a.extent != b.extent || a.is_open != b.is_open || a.is_strict != b.is_strict || a.name != b.name ||
+           memcmp(&a.used, &b.used, sizeof a.used) != 0 || memcmp(&a.since, &b.since, sizeof a.since) != 0;
+}
 
 static int ended(const char *what)
 {

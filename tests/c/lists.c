@@ -22,10 +22,7 @@ static const uint32_t words[] = {9, 2, 4};
 
 static void layers_alike(int line, bp_layer p, bp_layer w)
 {
-    same("extent", line, p.extent, w.extent);
-    same("is_open", line, p.is_open, w.is_open);
-    same("name", line, p.name, w.name);
-    same("used and since", line, 0, memcmp(&p.used, &w.used, sizeof p.used) | memcmp(&p.since, &w.since, sizeof p.since));
+    same("the layer", line, 0, layers_differ(p, w));
     same("the memory", line, 0, memcmp(&plain, &with, sizeof plain));
 }
 
@@ -48,7 +45,11 @@ static void counted_alike(int line, size_t expected, bp_counted p, bp_counted w)
 
 static bp_layer tagged(bp_tile t)
 {
-    bp_layer s = ALIKE(bp_layer_new(TEXT("ab"), 7, plain.texts, COUNT(plain.texts)), bp_layer_new_in(TEXT("ab"), 7, &lists));
+    bp_layer s = ALIKE(bp_strict_layer_new(TEXT("abcd"), 7, plain.texts, COUNT(plain.texts)), bp_strict_layer_new_in(TEXT("abcd"), 7, &lists));
+    SAME(1, s.is_strict), SAME(4, s.name), SAME(7, s.extent);
+    s = ALIKE(bp_layer_new(TEXT("ab"), 7, plain.texts, COUNT(plain.texts)), bp_layer_new_in(TEXT("ab"), 7, &lists));
+    s = ALIKE(bp_create_strict_layer(t, TEXT("abcd"), plain.texts, COUNT(plain.texts)), bp_create_strict_layer_in(t, TEXT("abcd"), &lists));
+    SAME(1, s.is_strict), SAME(4, s.name), SAME(300, s.extent);
     s = ALIKE(bp_create_layer(t, TEXT("abc"), plain.texts, COUNT(plain.texts)), bp_create_layer_in(t, TEXT("abc"), &lists));
     s = ALIKE(bp_into_feature(s, BP_LINE, words, 3, LISTS(plain)), bp_into_feature_in(s, BP_LINE, words, 3, &lists));
     s = ALIKE(bp_set_id(s, 0x8102030405060708u, LISTS(plain)), bp_set_id_in(s, 0x8102030405060708u, &lists));
@@ -102,6 +103,7 @@ static void nulls(void)
     bp_changed c = bp_layer_new_in(NULL, 0, 7, &none);
     SAME(0, c.refusal), SAME(7, c.layer.extent), SAME(0, c.layer.name);
     SAME(0, bp_create_layer_in(bp_tile_new(7), NULL, 0, &none).refusal);
+    SAME(1, bp_strict_layer_new_in(NULL, 0, 7, &none).layer.is_strict), SAME(1, bp_create_strict_layer_in(bp_tile_new(7), NULL, 0, &none).layer.is_strict);
     SAME(BP_ROOM, bp_into_feature_in(c.layer, BP_POINT, NULL, 0, &none).refusal);
     SAME(BP_ROOM, bp_add_feature_in(c.layer, &(const bp_feature){.kind = BP_POINT}, &none).refusal);
     SAME(0, bp_add_features_in(c.layer, &no_features, &none, &no_index).refusal);

@@ -5,9 +5,9 @@
 
 int main(void)
 {
-    for (uint32_t n = BP_JOB; n <= BP_UTF8; n++)
+    for (uint32_t n = BP_JOB; n <= BP_AGAIN; n++)
         if (strcmp(bp_refusal_name(n), "UNKNOWN") != 0)
             printf("%u %s\n", (unsigned)n, bp_refusal_name(n));
-    printf("0 %s, 9 %s, %u %s\n", bp_refusal_name(BP_ACCEPTED), bp_refusal_name(9), BP_UTF8 + 1u, bp_refusal_name(BP_UTF8 + 1));
+    printf("0 %s, 9 %s, %u %s\n", bp_refusal_name(BP_ACCEPTED), bp_refusal_name(9), BP_AGAIN + 1u, bp_refusal_name(BP_AGAIN + 1));
     return 0;
 }

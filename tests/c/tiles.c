@@ -8,16 +8,17 @@ SIZE(bp_figures, 32);
 AT(bp_figures, values, 8);
 AT(bp_figures, texts, 16);
 AT(bp_figures, features, 24);
-SIZE(bp_layer, 80);
+SIZE(bp_layer, 88);
 AT(bp_layer, is_open, 4);
-AT(bp_layer, name, 8);
-AT(bp_layer, used, 16);
-AT(bp_layer, since, 48);
-SIZE(bp_changed, 88);
+AT(bp_layer, is_strict, 8);
+AT(bp_layer, name, 16);
+AT(bp_layer, used, 24);
+AT(bp_layer, since, 56);
+SIZE(bp_changed, 96);
 AT(bp_changed, layer, 8);
-SIZE(bp_many, 96);
+SIZE(bp_many, 104);
 AT(bp_many, layer, 8);
-AT(bp_many, count, 88);
+AT(bp_many, count, 96);
 SIZE(bp_counted, 16);
 AT(bp_counted, count, 8);
 SIZE(bp_named, 24);
@@ -74,7 +75,7 @@ static void figures_are(int line, bp_figures f, size_t keys, size_t values, size
 static void given_back(int line, bp_layer s, bp_changed c, uint32_t refusal)
 {
     same("refusal", line, refusal, c.refusal);
-    same("the layer given back", line, 0, memcmp(&s, &c.layer, sizeof s));
+    same("the layer given back", line, 0, layers_differ(s, c.layer));
     same("the lists", line, 0, memcmp(&m, &should, sizeof m));
 }
 #define GIVEN_BACK(s, c, refusal) given_back(__LINE__, s, c, refusal)
@@ -91,7 +92,7 @@ static bp_layer made(void)
     GIVEN_BACK(none, bp_layer_new(TEXT("ab"), 1, m.texts, 1), BP_ROOM);
     bp_changed c = bp_layer_new(TEXT("ab"), 0x80000001u, m.texts, COUNT(m.texts));
     memcpy(should.texts, "ab", 2);
-    SAME(0, c.refusal), SAME(0x80000001u, c.layer.extent), SAME(0, c.layer.is_open), SAME(2, c.layer.name), HELD();
+    SAME(0, c.refusal), SAME(0x80000001u, c.layer.extent), SAME(0, c.layer.is_open), SAME(0, c.layer.is_strict), SAME(2, c.layer.name), HELD();
     FIGURES(c.layer.used, 0, 0, 2, 0), FIGURES(c.layer.since, 0, 0, 0, 0);
     return c.layer;
 }
@@ -178,7 +179,7 @@ static void none_added(int line, bp_layer s, bp_many a, uint32_t refusal)
 {
     same("refusal", line, refusal, a.refusal);
     same("the count", line, 0, a.count);
-    same("the layer given back", line, 0, memcmp(&s, &a.layer, sizeof s));
+    same("the layer given back", line, 0, layers_differ(s, a.layer));
     same("the lists", line, 0, memcmp(&m, &should, sizeof m));
 }
 #define NONE_ADDED(s, a, refusal) none_added(__LINE__, s, a, refusal)
@@ -372,7 +373,13 @@ static void states(bp_layer open)
     refused(s);
     s.is_open = 0x80000000u;
     refused(s);
-    s.is_open = 0, s.since.keys = SIZE_MAX; /* what lies behind a 0 is not looked at */
+    static const uint32_t marks[] = {2, 3, 0x10000, 0x80000000u, 0xFFFFFFFFu};
+    for (size_t i = 0; i < COUNT(marks); i++)
+        for (uint32_t is_open = 0; is_open <= 1; is_open++) {
+            s = open, s.is_open = is_open, s.is_strict = marks[i];
+            refused(s);
+        }
+    s = open, s.is_open = 0, s.since.keys = SIZE_MAX; /* what lies behind a 0 is not looked at */
     SAME(0, bp_num_features(s, LISTS).refusal), SAME(1, bp_num_features(s, LISTS).count);
     GIVEN_BACK(s, bp_into_layer(s, LISTS), BP_TURN);
 }

@@ -1,7 +1,7 @@
 -- A layer and a tile as C carries them, and what they stand for. An open feature is a flag of 1 and the figures at its opening; 0 is none, and then the
--- figures mean nothing.
+-- figures mean nothing. A strict layer has a mark of 1, an ordinary one of 0.
 use Prim.Native.Nat.{ℕ}
-use mathlib.Core.Bool.{cond}
+use mathlib.Core.Bool.{Bool, true, false, cond, _||_}
 use lib.Dec.{ltb, eqb}
 use Rattle.layer.specs.declared.Figures.{Figures}
 use Rattle.layer.specs.declared.Open.{Open}
@@ -32,22 +32,37 @@ abbrev pub sinceTo : Open → BpFigures
 sinceTo Shut = noFigures
 sinceTo (Since o) = figuresTo o
 
+abbrev pub markTo : Bool → ℕ
+markTo true = 1
+markTo false = 0
+
 -- a layer that breaks a rule of STATE, whatever lists are lent: its name runs past its texts
 abbrev pub broken : Layer
-broken = record { extent = 0; name = 1; used = record { keys = 0; values = 0; texts = 0; features = 0 }; feature = Shut }
+broken = record { extent = 0; strict = false; name = 1; used = record { keys = 0; values = 0; texts = 0; features = 0 }; feature = Shut }
 
--- the layer that C's numbers stand for; a flag that is neither 0 nor 1 is STATE
+-- a flag or a mark that is neither 0 nor 1
+abbrev pub isBroken : BpLayer → Bool
+isBroken s = ltb 1 (s .«is_open») || ltb 1 (s .«is_strict»)
+
+-- the layer that C's numbers stand for; a bad flag or mark is STATE
 unfoldable pub layerOf : BpLayer → Layer
 layerOf s =
-    cond (ltb 1 (s .«is_open»))
+    cond (isBroken s)
     broken
-    (record { extent = s .extent; name = s .name; used = figuresOf (s .used); feature = openOf (s .«is_open») (s .since) })
+    (record {
+      extent = s .extent;
+      strict = eqb (s .«is_strict») 1;
+      name = s .name;
+      used = figuresOf (s .used);
+      feature = openOf (s .«is_open») (s .since);
+    })
 
 unfoldable pub layerTo : Layer → BpLayer
 layerTo s =
     record {
       extent = s .extent;
       «is_open» = flagTo (s .feature);
+      «is_strict» = markTo (s .strict);
       name = s .name;
       used = figuresTo (s .used);
       since = sinceTo (s .feature);

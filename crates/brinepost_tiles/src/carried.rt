@@ -1,8 +1,8 @@
 // A layer and a tile as C carries them: the numbers of `Layer` and `Tile`. Whether a feature is open is a flag, and the figures at its opening stand behind
-// it; what lies behind a flag of 0 is not looked at. A flag that is neither 0 nor 1 stands for a layer that breaks a rule, so every call refuses it as STATE,
-// in the place that STATE has among its checks.
+// it; what lies behind a flag of 0 is not looked at. Whether the layer is strict is a mark. A flag or a mark that is neither 0 nor 1 stands for a layer that
+// breaks a rule, so every call refuses it as STATE, in the place that STATE has among its checks.
 ghost use mathlib.Core.Path.{_≡_};
-ghost use Rattle.brinepost_tiles.specs.Carried.{figuresOf, figuresTo, openOf, flagTo, sinceTo, broken, layerOf, layerTo, noLayer, tileOf, tileTo};
+ghost use Rattle.brinepost_tiles.specs.Carried.{figuresOf, figuresTo, openOf, flagTo, sinceTo, markTo, broken, layerOf, layerTo, noLayer, tileOf, tileTo};
 use layer::Figures;
 use layer::Layer;
 use layer::Open;
@@ -20,6 +20,7 @@ pub struct BpFigures {
 pub struct BpLayer {
     pub extent: u32,
     pub is_open: u32,
+    pub is_strict: u32,
     pub name: usize,
     pub used: BpFigures,
     pub since: BpFigures,
@@ -86,6 +87,15 @@ fn since_to(f: Open) -> BpFigures
     }
 }
 
+fn mark_to(strict: bool) -> u32
+    ensures { λ r. ⌜ r ≡ markTo strict ⌝ }
+{
+    if strict {
+        return 1;
+    }
+    0
+}
+
 // A layer that breaks a rule of STATE, whatever lists are lent: its name runs past its texts.
 fn broken_layer() -> Layer
     ensures { λ r. ⌜ r ≡ broken ⌝ }
@@ -98,18 +108,20 @@ fn broken_layer() -> Layer
     };
     Layer {
         extent: 0,
+        strict: false,
         name: 1,
         used: none,
         feature: Open::Shut,
     }
 }
 
-// The layer that C carries; of a bad flag it is the broken one.
+// The layer that C carries; of a bad flag or mark it is the broken one. Both are asked by one test, so that an ordinary layer pays little for the mark.
 pub(crate) fn layer_of(s: BpLayer) -> Layer
     ensures { λ r. ⌜ r ≡ layerOf s ⌝ }
 {
     let flag = s.is_open;
-    if 1 < flag {
+    let mark = s.is_strict;
+    if (1 < flag) | (1 < mark) {
         return broken_layer();
     }
     let u = s.used;
@@ -118,6 +130,7 @@ pub(crate) fn layer_of(s: BpLayer) -> Layer
     let feature = open_of(flag, o);
     Layer {
         extent: s.extent,
+        strict: mark == 1,
         name: s.name,
         used: used,
         feature: feature,
@@ -131,11 +144,13 @@ pub(crate) fn layer_to(s: Layer) -> BpLayer
     let f = s.feature;
     let u = s.used;
     let flag = flag_to(f);
+    let mark = mark_to(s.strict);
     let since = since_to(f);
     let used = figures_to(u);
     BpLayer {
         extent: s.extent,
         is_open: flag,
+        is_strict: mark,
         name: s.name,
         used: used,
         since: since,

@@ -1,7 +1,7 @@
 // The calls that change a layer, from C: the layer goes in and comes back by value, its keys, values, texts and feature records stand in four lent lists.
 ghost use Prim.Native.Nat.{_%_, _/_};
 ghost use Rattle.promise.specs.Answers.{Gives};
-ghost use Rattle.layer.specs.Calls.{created, intoFeature, setId, intoLayer, abandoned};
+ghost use Rattle.layer.specs.Calls.{created, createdStrict, intoFeature, setId, intoLayer, abandoned};
 ghost use Rattle.telling.specs.Telling.{told};
 ghost use Rattle.brinepost_tiles.specs.Answers.{flatCreated};
 ghost use Rattle.brinepost_tiles.specs.Lending.{Called, CalledMany, wholeFeature};
@@ -21,6 +21,15 @@ pub extern "C" fn bp_layer_new(name: &[u8], extent: u32, texts: &mut [u8]) -> Bp
     ensures { λ r. ⌜ Gives (told flatCreated (created (now (name .entry)) extent (now (texts .entry)))) r (now (texts .exit)) ⌝ }
 {
     let r = Layer::new(name, extent, texts);
+    crate::answers::created(r)
+}
+
+// TEXT, UTF8, ROOM, else the same, strict: a layer that takes no key twice in a feature.
+#[no_mangle]
+pub extern "C" fn bp_strict_layer_new(name: &[u8], extent: u32, texts: &mut [u8]) -> BpChanged
+    ensures { λ r. ⌜ Gives (told flatCreated (createdStrict (now (name .entry)) extent (now (texts .entry)))) r (now (texts .exit)) ⌝ }
+{
+    let r = Layer::new_strict(name, extent, texts);
     crate::answers::created(r)
 }
 
@@ -91,8 +100,8 @@ pub extern "C" fn bp_abandon(
     changed(given, r)
 }
 
-// JOB, KIND, STATE, TEXT, UTF8, TURN, ROOM, of all that it is given, else a whole feature, with an id where has_id is not 0. A tag is five words: where its key
-// starts in bytes and how long it is, the kind of its value, and where the text starts and how long it is or the low and the high half of the content.
+// JOB, KIND, STATE, TEXT, UTF8, TURN, AGAIN, ROOM, of all that it is given, else a whole feature, with an id where has_id is not 0. A tag is five words: where
+// its key starts in bytes and how long it is, the kind of its value, and where the text starts and how long it is or the low and the high half of the content.
 #[no_mangle]
 pub extern "C" fn bp_add_feature(
     given: BpLayer,

@@ -1,4 +1,5 @@
-// A tag of the open feature, from C: a call for each kind of value. Floats and doubles are given by their bits. Each refuses STATE, TEXT, UTF8, TURN and ROOM.
+// A tag of the open feature, from C: a call for each kind of value. Floats and doubles are given by their bits. Each refuses STATE, TEXT, UTF8, TURN,
+// AGAIN (of a strict layer) and ROOM.
 ghost use Rattle.table.specs.Values.{floatKind, doubleKind, intKind, uintKind, sintKind, boolKind};
 ghost use Rattle.layer.specs.Calls.{addTag, tagString, tagBits, bitsOf, bitOf};
 ghost use Rattle.brinepost_tiles.specs.Calls.{isTrue};

@@ -2,7 +2,7 @@
 ghost use mathlib.Core.Path.{_≡_};
 ghost use Rattle.promise.specs.Answers.{Gives};
 ghost use Rattle.layer.specs.Lending.{entered};
-ghost use Rattle.layer.specs.Calls.{created};
+ghost use Rattle.layer.specs.Calls.{created, createdStrict};
 ghost use Rattle.tile.specs.Tiles.{tileEntered, tileLeft, freshTile};
 ghost use Rattle.tile.specs.Asking.{layerSize, numLayers, computeSize, toBytes};
 ghost use Rattle.telling.specs.Telling.{told};
@@ -37,6 +37,16 @@ pub extern "C" fn bp_create_layer(tile: BpTile, name: &[u8], texts: &mut [u8]) -
 {
     let t = tile_of(tile);
     let r = t.create_layer(name, texts);
+    crate::answers::created(r)
+}
+
+// TEXT, UTF8, ROOM, else the same, strict: a layer that takes no key twice in a feature.
+#[no_mangle]
+pub extern "C" fn bp_create_strict_layer(tile: BpTile, name: &[u8], texts: &mut [u8]) -> BpChanged
+    ensures { λ r. ⌜ Gives (told flatCreated (createdStrict (now (name .entry)) (tile .extent) (now (texts .entry)))) r (now (texts .exit)) ⌝ }
+{
+    let t = tile_of(tile);
+    let r = t.create_strict_layer(name, texts);
     crate::answers::created(r)
 }
 

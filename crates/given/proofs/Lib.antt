@@ -12,3 +12,4 @@ pub mod Courses
 pub mod Runs
 pub mod Corollaries
 pub mod Texts
+pub mod Once

@@ -30,7 +30,7 @@ use Rattle.given.specs.Given.{Drawing}
 use Rattle.given.specs.Messages.{tileMessage, p-tile}
 use Rattle.given.specs.Asked.{Made, calls, whole, asked, gives, FineMade}
 use Rattle.given.specs.Layout.{no-keys, no-values, Stands}
-use Rattle.given.specs.Runs.{Page, Step, steppedAll, Plan, begun, pageOf, AllFine, Sound, AllSound, layerOf, drawings}
+use Rattle.given.specs.Runs.{Page, Step, steppedAll, Plan, creating, begun, pageOf, AllFine, Sound, AllSound, layerOf, drawings}
 use Rattle.given.proofs.Courses.{Keeps, run-keeps}
 use Rattle.given.proofs.Standing.{stands-lengths, Kept, call-stands}
 use Rattle.given.proofs.Whole.{whole-stands}
@@ -45,7 +45,7 @@ pub accepted-stands : (c : Made) → FineMade c → (v : Seen) (d : Drawing) →
 accepted-stands c g v d S t h e = let K : Kept (gives c d) v (holds t h) = subst (Kept (gives c d) v) e (made-stands c g v d S) in K .stands
 
 -- ---- in memory
-abbrev StandsIn : Layer → Memory → Drawing → Type 0
+abbrev pub StandsIn : Layer → Memory → Drawing → Type 0
 StandsIn s m d = Stands (seen s m) d
 
 abbrev pub PageStands : Page → Type 0
@@ -56,8 +56,11 @@ as-laid : (s : Layer) (m : Memory) (e : Drawing) (x : Change) → Kept e (seen s
 as-laid s m e (refuses r) K = tt
 as-laid s m e (holds t h) K = rw (seen-after t h m (record { lengths = stands-lengths _ e (K .stands); room = K .room })) (K .stands)
 
+pub stands-on : (c : Made) → FineMade c → (s : Layer) (m : Memory) (d : Drawing) → StandsIn s m d → Keeps StandsIn s m (gives c d) (asked c (seen s m))
+stands-on c g s m d S = as-laid s m (gives c d) (asked c (seen s m)) (made-stands c g (seen s m) d S)
+
 pub all-stand : (cs : List Step) → AllFine cs → (p : Page) → PageStands p → PageStands (steppedAll cs p)
-all-stand = run-keeps StandsIn (λ c g s m d S. as-laid s m (gives c d) (asked c (seen s m)) (made-stands c g (seen s m) d S))
+all-stand = run-keeps StandsIn stands-on
 
 -- ---- a new layer
 -- an accepted one passed its three checks
@@ -78,13 +81,25 @@ passed name extent ts e = by (shortText (length name)) (isUtf8 name) (leb (lengt
 room-for : (name : List ℕ) (extent : ℕ) (ts : List ℕ) → created name extent ts .answer .number ≡ 0 → length name ≤ length ts
 room-for name extent ts e = omega (arith, leb-true (length name) (smaller (length ts) maxTexts) (passed name extent ts e .room), smaller-le (length ts) maxTexts)
 
--- what is begun with is what creating answered and left
-pub begun-is : (p : Plan) → created (p .name) (p .extent) (p .lent .texts) .answer .number ≡ 0 → created (p .name) (p .extent) (p .lent .texts) ≡ record { answer = accepted (begun p .layer ∷ []); memory = begun p .memory .texts }
-begun-is p e = let A = passed (p .name) (p .extent) (p .lent .texts) e in rw (A .short, A .utf8, A .room)
+-- strict or not, a new layer is accepted where an ordinary one is
+pub creates-new : (p : Plan) → creating p .answer .number ≡ 0 → created (p .name) (p .extent) (p .lent .texts) .answer .number ≡ 0
+creates-new p e = by (p .strict) refl
+  where
+    by : (b : Bool) → p .strict ≡ b → created (p .name) (p .extent) (p .lent .texts) .answer .number ≡ 0
+    by true q = rw q at e
+    by false q = rw q at e
 
-pub begun-stands : (p : Plan) → created (p .name) (p .extent) (p .lent .texts) .answer .number ≡ 0 → PageStands (begun p)
+-- what is begun with is what creating answered and left
+pub begun-is : (p : Plan) → creating p .answer .number ≡ 0 → creating p ≡ record { answer = accepted (begun p .layer ∷ []); memory = begun p .memory .texts }
+begun-is p e = by (p .strict) refl
+  where
+    by : (b : Bool) → p .strict ≡ b → creating p ≡ record { answer = accepted (begun p .layer ∷ []); memory = begun p .memory .texts }
+    by true q = let A = passed (p .name) (p .extent) (p .lent .texts) (creates-new p e) in rw (q, A .short, A .utf8, A .room)
+    by false q = let A = passed (p .name) (p .extent) (p .lent .texts) (creates-new p e) in rw (q, A .short, A .utf8, A .room)
+
+pub begun-stands : (p : Plan) → creating p .answer .number ≡ 0 → PageStands (begun p)
 begun-stands p e =
-    let h = room-for (p .name) (p .extent) (p .lent .texts) e in
+    let h = room-for (p .name) (p .extent) (p .lent .texts) (creates-new p e) in
     let t : take (length (p .name)) (lay 0 (p .name) (p .lent .texts)) ≡ p .name = take-at (p .name) _ (length (p .name)) refl in
     record {
       extent-is = refl;
@@ -139,7 +154,7 @@ what-was-given extent ns bs ps s =
 
 -- ---- document 01's tile: extent 4096, layer "a" without features
 abbrev pub plainPlan : Plan
-plainPlan = record { name = 97 ∷ []; extent = 4096; lent = mem [] [] (0 ∷ []) []; calls = [] }
+plainPlan = record { name = 97 ∷ []; extent = 4096; strict = false; lent = mem [] [] (0 ∷ []) []; calls = [] }
 
 pub p-run : let a : At = record { tile = freshTile 4096; memory = lists (0 ∷ 0 ∷ []) (replicate 11 0) } in let b = afterAll (map layerOf (map pageOf (plainPlan ∷ []))) a in usedBytes (b .tile) (b .memory) ≡ 26 ∷ 8 ∷ 10 ∷ 1 ∷ 97 ∷ 40 ∷ 128 ∷ 32 ∷ 120 ∷ 2 ∷ []
 p-run =

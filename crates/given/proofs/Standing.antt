@@ -71,18 +71,18 @@ module _ (v : Seen) (d : Drawing) (S : Stands v d) (s : v .layer .feature ≡ Sh
 
 -- ---- with a feature open
 module _ (v : Seen) (d : Drawing) (S : Stands v d) (o : Figures) (s : v .layer .feature ≡ Since o) where
-  abbrev there : (f : Feature) × (d .pending ≡ some f) × HeldAs (v .layer .used) (v .layer .name) (v .held) (d .name) (d .features ++ (f ∷ [])) × HeldAs o (v .layer .name) (heldBy o (v .held)) (d .name) (d .features)
+  abbrev pub there : (f : Feature) × (d .pending ≡ some f) × HeldAs (v .layer .used) (v .layer .name) (v .held) (d .name) (d .features ++ (f ∷ [])) × HeldAs o (v .layer .name) (heldBy o (v .held)) (d .name) (d .features)
   there = one-open (v .layer .used) (v .layer .name) (v .held) (d .name) (d .features) o (v .layer .feature) (d .pending) s (S .parts)
 
   -- the open record starts behind those completed
   module _ (f : Feature) (A : HeldAs (v .layer .used) (v .layer .name) (v .held) (d .name) (d .features ++ (f ∷ []))) (B : HeldAs o (v .layer .name) (heldBy o (v .held)) (d .name) (d .features)) where
-    abbrev keys : List (List ℕ)
+    abbrev pub keys : List (List ℕ)
     keys = keysOf (d .features ++ (f ∷ []))
 
-    abbrev values : List Content
+    abbrev pub values : List Content
     values = valuesOf (d .features ++ (f ∷ []))
 
-    starts : o .features ≡ length (each (recordOf keys values) (d .features))
+    pub starts : o .features ≡ length (each (recordOf keys values) (d .features))
     starts = sym (B .word-count) ∙ ap length (B .records-are) ∙ records-long (keysOf (d .features)) keys (valuesOf (d .features)) values (d .features)
 
     four : o .features + 1 + 3 ≤ length (v .held .features)
@@ -90,7 +90,7 @@ module _ (v : Seen) (d : Drawing) (S : Stands v d) (o : Figures) (s : v .layer .
         let before = each (recordOf keys values) (d .features) in
         omega (arith, starts, ap length (A .records-are ∙ each-last (recordOf keys values) (d .features) f), length-append before (recordOf keys values f), length-append (f .geometry) (tagIndices keys values (f .tags)))
 
-    met : Met keys values (allTags (d .features) ++ f .tags)
+    pub met : Met keys values (allTags (d .features) ++ f .tags)
     met = rw (← tags-last (d .features) f) (all-met [] [] (allTags (d .features ++ (f ∷ []))))
 
     id-parts : (n : ℕ) → OpenAs (v .layer .used) (v .layer .name) (withFeatures (v .held) (lay (o .features + 1) (1 ∷ n % 4294967296 ∷ n / 4294967296 ∷ []) (v .held .features))) (d .name) (d .features) (Since o) (some (identified n f))
@@ -176,7 +176,7 @@ module _ (v : Seen) (d : Drawing) (S : Stands v d) where
       by-open P (v .layer .feature) _ tt (λ o f. record { stands = id-stands v d S o f n; room = valid-parts v e .room }))
   call-stands (tags key c) g =
       let P = Kept (after (tags key c) d) v in
-      by-tag P (tagOf key c) v (λ q n. tt) (λ e u o f h. record { stands = tag-stands v d S o f key c g; room = h })
+      by-tag P (tagOf key c) v (λ q n. tt) (λ e u o f a h. record { stands = tag-stands v d S o f key c g; room = h })
   call-stands closes g =
       let P = Kept (after closes d) v in
       by-check P (valid v) State _ tt (λ e.

@@ -22,10 +22,10 @@ use Rattle.given.specs.Asked.{Made, calls, whole, tagOf, contentAt, tags
 use Rattle.given.specs.Runs.{Plan, begun, pageOf, Sound, AllSound, layerOf, drawings}
 use Rattle.given.specs.Texts.{Every, TagText, FeatureText, AllText}
 use Rattle.given.proofs.Courses.{Keeps, run-keeps}
-use Rattle.given.proofs.Runs.{passed}
+use Rattle.given.proofs.Runs.{passed, creates-new}
 
 -- ---- one behind the other
-every-behind : {A : Type 0} (P : A → Type 0) (xs ys : List A) → Every P xs → Every P ys → Every P (xs ++ ys)
+pub every-behind : {A : Type 0} (P : A → Type 0) (xs ys : List A) → Every P xs → Every P ys → Every P (xs ++ ys)
 every-behind P [] ys a b = b
 every-behind P (x ∷ xs) ys a b = (a .0, every-behind P xs ys (a .1) b)
 
@@ -51,7 +51,7 @@ module _ (s : Layer) (m : Memory) (d : Drawing) (A : AllText d) where
   call-text (opens kind words) = always s m _ (asks (opens kind words) (seen s m)) (record { named = A .named; complete = A .complete; started = (tt, tt) })
   call-text (identifies n) = always s m _ (asks (identifies n) (seen s m)) (record { named = A .named; complete = A .complete; started = marked n (d .pending) (A .started) })
   call-text (tags key c) =
-      by-tag (Keeps TextIn s m (after (tags key c) d)) (tagOf key c) (seen s m) (λ q n. tt) (λ e u o f h.
+      by-tag (Keeps TextIn s m (after (tags key c) d)) (tagOf key c) (seen s m) (λ q n. tt) (λ e u o f a h.
       record { named = A .named; complete = A .complete; started = tagged-text (record { key = key; value = c }) (d .pending) (A .started) u })
   call-text closes =
       always s m _ (asks closes (seen s m)) (record { named = A .named; complete = every-behind FeatureText (d .features) (completed (d .pending)) (A .complete) (A .started); started = tt })
@@ -85,7 +85,7 @@ tags-given bytes (start ∷ len ∷ kind ∷ low ∷ high ∷ ws) u =
 
 whole-text : (f : Head) (words ws bytes : List ℕ) (s : Layer) (m : Memory) (d : Drawing) → AllText d → Keeps TextIn s m (added (featureGiven f words ws bytes) d) (addFeature f words ws bytes (seen s m))
 whole-text f words ws bytes s m d A =
-    by-feature (Keeps TextIn s m (added (featureGiven f words ws bytes) d)) f words ws bytes (seen s m) (λ q. tt) (λ l k e u i h.
+    by-feature (Keeps TextIn s m (added (featureGiven f words ws bytes) d)) f words ws bytes (seen s m) (λ q. tt) (λ l k e u i a h.
     record { named = A .named; complete = every-behind FeatureText (d .features) (featureGiven f words ws bytes ∷ []) (A .complete) (tags-given bytes ws u, tt); started = tt })
 
 made-text : (c : Made) → FineMade c → (s : Layer) (m : Memory) (d : Drawing) → AllText d → Keeps TextIn s m (gives c d) (asked c (seen s m))
@@ -96,7 +96,7 @@ made-text (whole f words ws bytes) g s m d A = whole-text f words ws bytes s m d
 pub texts-are-utf8 : (p : Plan) → Sound p → AllText (pageOf p .drawing)
 texts-are-utf8 p s =
     run-keeps TextIn made-text (p .calls) (s .fine) (begun p)
-    (record { named = passed (p .name) (p .extent) (p .lent .texts) (s .creates) .utf8; complete = tt; started = tt })
+    (record { named = passed (p .name) (p .extent) (p .lent .texts) (creates-new p (s .creates)) .utf8; complete = tt; started = tt })
 
 -- and so of every layer of a tile, whose bytes are the message of these drawings (`what-was-given`)
 pub tile-texts : (ps : List Plan) → AllSound ps → (a : At) → Every AllText (drawings (map pageOf ps) a)

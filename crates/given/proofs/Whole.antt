@@ -138,6 +138,6 @@ module _ (f : Head) (words ws bytes : List ℕ) (g : Words ws) (v : Seen) (d : D
   pub whole-stands : Kept (added (featureGiven f words ws bytes) d) v (addFeature f words ws bytes v)
   whole-stands =
       let P = Kept (added (featureGiven f words ws bytes) d) v in
-      by-feature P f words ws bytes v (λ q. tt) (λ e k x u s r.
+      by-feature P f words ws bytes v (λ q. tt) (λ e k x u s a r.
       let C = put-stands e s in
       record { stands = record { extent-is = C .extent-is; parts = C .parts }; room = rw (feature-room f words (tagsOf bytes ws) v) at r })

@@ -4,3 +4,4 @@ pub mod Asked
 pub mod Layout
 pub mod Runs
 pub mod Texts
+pub mod Once

@@ -2,7 +2,7 @@
 -- calls that were accepted.
 use Prim.Native.Nat.{ℕ}
 use mathlib.Core.Path.{_≡_}
-use mathlib.Core.Bool.{cond}
+use mathlib.Core.Bool.{Bool, cond}
 use mathlib.Core.List.{List, [], _∷_}
 use lib.Dec.{eqb}
 use lib.ListN.{take}
@@ -11,7 +11,7 @@ use Rattle.promise.specs.Laid.{lay}
 use Rattle.refusal.specs.Said.{Said}
 use Rattle.layer.specs.declared.Layer.{Layer}
 use Rattle.layer.specs.Held.{Memory, mem, seen, written}
-use Rattle.layer.specs.Calls.{newLayer, created}
+use Rattle.layer.specs.Calls.{newLayer, chosen, created, createdStrict}
 use Rattle.layer.specs.Many.{Many, addFeatures}
 use Rattle.tile.specs.Holding.{Given, At, call, after}
 use Rattle.given.specs.Given.{Drawing, blank}
@@ -56,18 +56,23 @@ abbrev pub steppedAll : List Step → Page → Page
 steppedAll [] p = p
 steppedAll (c ∷ cs) p = steppedAll cs (stepped c p)
 
--- what is lent and called: a name, an extent and four lists for creating a layer, and the calls on it
+-- what is lent and called: a name, an extent, whether it is to be strict and four lists for creating a layer, and the calls on it
 pub record Plan : Type 0 where
   pub name : List ℕ
   pub extent : ℕ
+  pub strict : Bool
   pub lent : Memory
   pub calls : List Step
+
+-- the call that creates the layer
+abbrev pub creating : Plan → Written (Said (List Layer)) (List ℕ)
+creating p = cond (p .strict) (createdStrict (p .name) (p .extent) (p .lent .texts)) (created (p .name) (p .extent) (p .lent .texts))
 
 -- the layer as it is created, where that is accepted: its name is the first text
 abbrev pub begun : Plan → Page
 begun p =
     record {
-      layer = newLayer (p .name) (p .extent);
+      layer = chosen (p .strict) (newLayer (p .name) (p .extent));
       memory = mem (p .lent .keys) (p .lent .values) (lay 0 (p .name) (p .lent .texts)) (p .lent .features);
       drawing = blank (p .name) (p .extent);
     }
@@ -85,7 +90,7 @@ AllFine (c ∷ cs) = FineStep c × AllFine cs
 
 -- creating was accepted, and numbers are those of the calls' types
 pub record Sound (p : Plan) : Type 0 where
-  pub creates : created (p .name) (p .extent) (p .lent .texts) .answer .number ≡ 0
+  pub creates : creating p .answer .number ≡ 0
   pub fine : AllFine (p .calls)
 
 abbrev pub AllSound : List Plan → Type 0

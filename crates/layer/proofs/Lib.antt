@@ -13,6 +13,7 @@ pub mod ByKind
 pub mod Noting
 pub mod Keeping
 pub mod Checked
+pub mod Choosing
 pub mod After
 pub mod Indexing
 pub mod Listing

@@ -10,12 +10,15 @@ use borrow.Author.Tests.{lt-ltb, le-ltb, not-true, not-false}
 use Rattle.promise.specs.Answers.{Gives}
 use Rattle.promise.specs.Widened.{Wide}
 use Rattle.promise.proofs.Steps.{next}
+use Rattle.refusal.specs.declared.Refusal.{Refusal}
+use Rattle.refusal.specs.declared.Refusal.the-variants.{Again}
+use Rattle.refusal.specs.Said.{Said}
 use Rattle.table.specs.Texts.{sameText, textOf}
 use Rattle.layer.specs.declared.Figures.{Figures}
 use Rattle.layer.specs.declared.Layer.{Layer}
 use Rattle.layer.specs.declared.Created.{Created}
 use Rattle.layer.specs.declared.Created.the-variants.{Done, Refused}
-use Rattle.layer.specs.Held.{Memory, mem, heldBy}
+use Rattle.layer.specs.Held.{Memory, mem, heldBy, Change, check, written}
 use Rattle.layer.specs.Answers.{saidCreated}
 use Rattle.layer.specs.Calls.{isKey, hasKey, lastTags, takesKey, created, chosen, strictly, createdStrict}
 use Rattle.layer.specs.TagLists.{keyGiven, keysOnce, onceAt, takesKeys}
@@ -23,7 +26,6 @@ use Rattle.layer.specs.Steps.{Ready, TagsThere}
 use Rattle.layer.proofs.Fitting.{fit}
 use Rattle.layer.proofs.Listing.{five}
 use Rattle.layer.proofs.Walking.{Looks}
-use Rattle.refusal.specs.declared.Refusal.{Refusal}
 
 -- ---- `is_key`
 module _ (ks ts : List ℕ) (k : ℕ) (key : List ℕ) where
@@ -68,12 +70,16 @@ tags-part fs w o n h s p =
     let d : drop (w - n) (take w fs) ≡ take (w - (w - n)) (drop (w - n) fs) = ap (drop (w - n)) t ∙ drop-at (take (w - n) fs) (take (w - (w - n)) (drop (w - n) fs)) (w - n) (length-take-le (w - n) fs (omega arith)) in
     rw (l, g, ← a, d)
 
-module _ (strict : Bool) (u o : Figures) (ks ts fs key : List ℕ) where
-  pub takes-any : not strict ≡ true → true ≡ takesKey strict (heldBy u (mem ks [] ts fs)) (o .features) key
-  takes-any h = rw (not-true strict h)
+pub new-told : (u o : Figures) (ks ts fs key : List ℕ) → TagsThere u o ks ts fs → (n : ℕ) → Wide (getD fs (o .features + 4) 0) n → (b : Bool) → b ≡ hasKey (take (u .keys * 2) ks) (take (u .texts) ts) (take (u .features - (u .features - n)) (drop (u .features - n) fs)) key → not b ≡ takesKey true (heldBy u (mem ks [] ts fs)) (o .features) key
+new-told u o ks ts fs key T n p b g = rw (← tags-part fs (u .features) (o .features) n (T .in-features) (T .six) p, ← g)
 
-  pub takes-told : not strict ≡ false → TagsThere u o ks ts fs → (n : ℕ) → Wide (getD fs (o .features + 4) 0) n → (b : Bool) → b ≡ hasKey (take (u .keys * 2) ks) (take (u .texts) ts) (take (u .features - (u .features - n)) (drop (u .features - n) fs)) key → not b ≡ takesKey strict (heldBy u (mem ks [] ts fs)) (o .features) key
-  takes-told h T n p b g = rw (not-false strict h, ← tags-part fs (u .features) (o .features) n (T .in-features) (T .six) p, ← g)
+-- ---- `tag_once`: the two sorts of layer
+module _ (b : Bool) (s : Layer) (m : Memory) (h : Memory) (at : ℕ) (key : List ℕ) (c : Change) (r : Said Layer) (n : Memory) where
+  pub as-strict : b ≡ true → Gives (written (check (takesKey true h at key) Again c) s m) r n → Gives (written (check (takesKey b h at key) Again c) s m) r n
+  as-strict e g = rw e g
+
+  pub as-ordinary : b ≡ false → Gives (written c s m) r n → Gives (written (check (takesKey b h at key) Again c) s m) r n
+  as-ordinary e g = rw e g
 
 -- what a tag's call has told
 pub tags-there : (s : Layer) (o : Figures) (key text : ℕ) (ks vs ts fs : List ℕ) → Ready s o key text (mem ks vs ts fs) → TagsThere (s .used) o ks ts fs

@@ -1,12 +1,14 @@
 -- The loops over a list of tags, five words at a time: whether a key or a value is given, and the figures, which only grow, so that those which do not fit never will.
-use Prim.Native.Nat.{ℕ, _+_, _-_, _≤_, _<_, zero-le}
+use Prim.Native.Nat.{ℕ, _+_, _-_, _*_, _/_, _≤_, _<_, zero-le}
 use mathlib.Core.Path.{_≡_, refl, sym, ap, _∙_}
-use mathlib.Core.Bool.{Bool, true, false, not}
+use mathlib.Core.Bool.{Bool, true, false, not, _&&_}
 use mathlib.Core.List.{List, [], _∷_, _++_}
 use native.Mathlib.Omega.{arith}
 use lib.ListN.{length, getD, take, drop, length-drop}
 use lib.Seq.{take-add}
+use lib.Dec.{leb}
 use borrow.Author.Tests.{leb-true, not-true, not-false}
+use Rattle.promise.proofs.Joined.{cond-both}
 use Rattle.table.specs.declared.Found.the-variants.{Nothing}
 use Rattle.table.specs.declared.Value.{Value}
 use Rattle.promise.specs.Widened.{Wide}
@@ -17,9 +19,9 @@ use Rattle.layer.specs.declared.tag_list.Place.{Place}
 use Rattle.layer.specs.Held.{fits}
 use Rattle.layer.specs.Calls.{grownBy}
 use Rattle.layer.specs.Steps.{Small}
-use Rattle.layer.specs.TagLists.{textPlace, shortAt, tagsShort, keyGiven}
+use Rattle.layer.specs.TagLists.{textPlace, shortTag, shortAt, tagsShort, keyGiven}
 use Rattle.layer.specs.WholeSteps.{placeAt}
-use Rattle.layer.specs.NeedSteps.{valueAmong, Step, mostOf, walked, stepAt, Capped, MostAsked}
+use Rattle.layer.specs.NeedSteps.{ample, valueAmong, Step, mostOf, walked, stepAt, Capped, MostAsked}
 use Rattle.layer.proofs.Fitting.{never, both, Within, within, fits-yes}
 use Rattle.layer.proofs.Listing.{five, short-at, short-after}
 
@@ -158,3 +160,47 @@ most-is w ws i p q r g = g ∙ ap (λ (x : Place). grownBy w Nothing Nothing (x 
 
 pub most-grows : Grow mostOf
 most-grows earlier a b c d e w = record { keys = omega arith; values = omega arith; texts = omega arith; features = omega arith }
+
+-- ---- so many tags, whatever they are
+-- figures with so many tags more, each of a new key and a new value with the longest texts
+abbrev Bounded : Figures → ℕ → Figures → Type 0
+Bounded w n u = Within u (record { keys = w .keys + n; values = w .values + n; texts = w .texts + n * (2 * maxBytes); features = w .features + n * 2 })
+
+most-bound : (earlier ws : List ℕ) (w : Figures) → tagsShort ws ≡ true → Bounded w (length ws / 5) (walked mostOf earlier ws w)
+most-bound earlier [] w e = record { keys = omega arith; values = omega arith; texts = omega arith; features = omega arith }
+most-bound earlier (a ∷ []) w e = record { keys = omega arith; values = omega arith; texts = omega arith; features = omega arith }
+most-bound earlier (a ∷ b ∷ []) w e = record { keys = omega arith; values = omega arith; texts = omega arith; features = omega arith }
+most-bound earlier (a ∷ b ∷ c ∷ []) w e = record { keys = omega arith; values = omega arith; texts = omega arith; features = omega arith }
+most-bound earlier (a ∷ b ∷ c ∷ d ∷ []) w e = record { keys = omega arith; values = omega arith; texts = omega arith; features = omega arith }
+most-bound earlier (start ∷ len ∷ kind ∷ low ∷ high ∷ ws) w e =
+    let p = cond-both (shortTag len kind low high) (tagsShort ws) e in
+    let q = both (shortText len) (shortText (textPlace kind low high .len)) (p .0) in
+    let k = leb-true len maxBytes (q .0) in
+    let t = leb-true (textPlace kind low high .len) maxBytes (q .1) in
+    let I = most-bound (earlier ++ (start ∷ len ∷ kind ∷ low ∷ high ∷ [])) ws (mostOf earlier start len kind low high w) (p .1) in
+    record { keys = omega (arith, I .keys); values = omega (arith, I .values); texts = omega (arith, I .texts, k, t); features = omega (arith, I .features) }
+
+pub ample-met : (ws : List ℕ) (w room : Figures) (r : Bool) → tagsShort ws ≡ true → r ≡ ample w (length ws / 5) room → r ≡ true → true ≡ fits (walked mostOf [] ws w) room
+ample-met ws w room r e g y =
+    let n = length ws / 5 in
+    let p = cond-both (fits w room) _ (sym g ∙ y) in
+    let W = within w room (p .0) in
+    let a = both (leb n (room .keys - w .keys)) (leb n (room .values - w .values) && (leb n ((room .texts - w .texts) / (2 * maxBytes)) && leb n ((room .features - w .features) / 2))) (p .1) in
+    let b = both (leb n (room .values - w .values)) (leb n ((room .texts - w .texts) / (2 * maxBytes)) && leb n ((room .features - w .features) / 2)) (a .1) in
+    let c = both (leb n ((room .texts - w .texts) / (2 * maxBytes))) (leb n ((room .features - w .features) / 2)) (b .1) in
+    let k = leb-true n (room .keys - w .keys) (a .0) in
+    let v = leb-true n (room .values - w .values) (b .0) in
+    let t = leb-true n ((room .texts - w .texts) / (2 * maxBytes)) (c .0) in
+    let f = leb-true n ((room .features - w .features) / 2) (c .1) in
+    let B = most-bound [] ws w e in
+    sym (fits-yes (walked mostOf [] ws w) room (record { keys = omega (arith, B .keys, W .keys); values = omega (arith, B .values, W .values); texts = omega (arith, B .texts, W .texts); features = omega (arith, B .features, W .features) }))
+
+-- `is_ample`
+pub fitting : (w room : Figures) (b : Bool) → b ≡ fits w room → not b ≡ false → Within w room
+fitting w room b g h = within w room (sym g ∙ not-false b h)
+
+pub not-ample : (w : Figures) (n : ℕ) (room : Figures) (b : Bool) → b ≡ fits w room → not b ≡ true → false ≡ ample w n room
+not-ample w n room b g h = rw (← g, not-true b h)
+
+pub ample-told : (w : Figures) (n : ℕ) (room : Figures) (b : Bool) → b ≡ fits w room → not b ≡ false → (leb n (room .keys - w .keys) && (leb n (room .values - w .values) && (leb n ((room .texts - w .texts) / (2 * maxBytes)) && leb n ((room .features - w .features) / 2)))) ≡ ample w n room
+ample-told w n room b g h = rw (← g, not-false b h)

@@ -1,19 +1,20 @@
 -- What the private steps ask for and give that reckon whether a feature has room before anything is written. No promise of a public function rests on this.
-use Prim.Native.Nat.{ℕ, _+_, _≤_}
+use Prim.Native.Nat.{ℕ, _+_, _-_, _*_, _/_, _≤_}
 use mathlib.Core.Path.{_≡_}
-use mathlib.Core.Bool.{Bool, true, false, cond}
+use mathlib.Core.Bool.{Bool, true, false, cond, _&&_}
 use mathlib.Core.List.{List, [], _∷_, _++_}
 use lib.ListN.{length, getD, take}
+use lib.Dec.{leb}
 use Rattle.table.specs.declared.Found.{Found}
 use Rattle.table.specs.declared.Found.the-variants.{At, Nothing}
 use Rattle.table.specs.declared.Text.{Text}
 use Rattle.table.specs.declared.Value.{Value}
-use Rattle.table.specs.Texts.{textOf}
+use Rattle.table.specs.Texts.{textOf, maxBytes}
 use Rattle.table.specs.Keys.{findKey}
 use Rattle.table.specs.Values.{sameValue, findValue}
 use Rattle.index.specs.Hashes.{hashText, hashValue}
 use Rattle.layer.specs.declared.Figures.{Figures}
-use Rattle.layer.specs.Held.{maxKeys, maxValues, maxTexts, maxFeatureWords}
+use Rattle.layer.specs.Held.{fits, maxKeys, maxValues, maxTexts, maxFeatureWords}
 use Rattle.layer.specs.Calls.{grownBy}
 use Rattle.layer.specs.TagLists.{tagWords, lenAt, kindAt, lowAt, highAt, valueGiven, textPlace, tagsShort, shortAt, tagsOk, keyGiven}
 use Rattle.layer.specs.Lookup.{keyBy, valueBy}
@@ -65,6 +66,15 @@ needOf ks vs ts bytes earlier start len kind low high w =
 -- every key and every value is put
 abbrev pub mostOf : Step
 mostOf earlier start len kind low high w = grownBy w Nothing Nothing len (textPlace kind low high .len)
+
+-- so many tags fit, whatever they are: a new key and a new value each, of the longest texts
+abbrev pub ample : Figures → ℕ → Figures → Bool
+ample w n room =
+    cond (fits w room)
+    (leb n (room .keys - w .keys)
+    && (leb n (room .values - w .values)
+    && (leb n ((room .texts - w .texts) / (2 * maxBytes)) && leb n ((room .features - w .features) / 2))))
+    false
 
 -- all tags of a list, behind those before it
 abbrev pub walked : Step → List ℕ → List ℕ → Figures → Figures

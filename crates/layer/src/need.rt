@@ -8,7 +8,7 @@ ghost use Rattle.layer.specs.Lending.{sees, lists};
 ghost use Rattle.layer.specs.TagLists.{tagsOf, keyGiven};
 ghost use Rattle.layer.specs.Lookup.{idx};
 ghost use Rattle.layer.specs.WholeSteps.{Asking, Decides};
-ghost use Rattle.layer.specs.NeedSteps.{valueAmong, ifGiven, keyKnown, valueKnown, needOf, mostOf, walked, needed, stepAt};
+ghost use Rattle.layer.specs.NeedSteps.{ample, valueAmong, ifGiven, keyKnown, valueKnown, needOf, mostOf, walked, needed, stepAt};
 ghost use Rattle.layer.specs.NeedSteps.{KeyAsked, ValueAsked, MostAsked, NeedAsked, MostLoop, NeedLoop};
 use crate::Figures;
 use crate::Layer;
@@ -153,11 +153,27 @@ fn most_of(w: Figures, tags: &[u32], i: usize) -> Figures
     grown(w, Found::Nothing, Found::Nothing, p.key.len, p.text.len)
 }
 
+// Whether so many tags fit, whatever they are: a new key and a new value each, of the longest texts. Where there is much room no tag is looked at.
+fn is_ample(w: Figures, tags: usize, room: Figures) -> bool
+    ensures { λ r. ⌜ r ≡ ample w tags room ⌝ }
+{
+    if !fits_in(w, room) {
+        return false;
+    }
+    (tags <= room.keys - w.keys)
+        & ((tags <= room.values - w.values)
+            & ((tags <= (room.texts - w.texts) / (2 * Text::MAX_BYTES))
+                & (tags <= (room.features - w.features) / 2)))
+}
+
 // Whether all tags would fit if every key and every value were new. Figures only grow, so once they do not fit they never will.
 fn is_most_met(w: Figures, tags: &[u32], room: Figures) -> bool
     requires { ⌜ MostLoop (now tags) room ⌝ }
     ensures { λ r. ⌜ r ≡ fits (walked mostOf [] (now (tags .entry)) w) room ⌝ }
 {
+    if is_ample(w, tags.len() / Place::WORDS, room) {
+        return true;
+    }
     let mut u = w;
     let mut i = 0;
     while Place::WORDS <= tags.len() - i {

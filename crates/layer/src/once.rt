@@ -10,7 +10,6 @@ ghost use Rattle.layer.specs.Calls.{isKey, hasKey, takesKey};
 ghost use Rattle.layer.specs.TagLists.{okAt, tagsOk, onceAt, keysOnce, takesKeys};
 ghost use Rattle.layer.specs.Steps.{TagsThere};
 use crate::Figures;
-use crate::Layer;
 use crate::need::key_given;
 use crate::tag_list::Place;
 use number::wide;
@@ -44,22 +43,18 @@ fn has_key(keys: &[u32], texts: &[u8], tags: &[u32], key: &[u8]) -> bool
     false
 }
 
-// Whether the layer takes a tag of this key in the feature opened at o, whose record is the last, so that its tag words are the last ones.
-pub(crate) fn takes_key(
-    s: Layer,
+// Whether the feature opened at o has no tag of this key. Its record is the last, so its tag words are the last ones.
+pub(crate) fn is_new(
+    u: Figures,
     o: Figures,
     key: &[u8],
     keys: &[u32],
     texts: &[u8],
     features: &[u32],
 ) -> bool
-    requires { ⌜ TagsThere (s .used) o (now keys) (now texts) (now features) ⌝ }
-    ensures { λ r. ⌜ r ≡ takesKey (s .strict) (heldBy (s .used) (mem (now (keys .entry)) [] (now (texts .entry)) (now (features .entry)))) (o .features) (now (key .entry)) ⌝ }
+    requires { ⌜ TagsThere u o (now keys) (now texts) (now features) ⌝ }
+    ensures { λ r. ⌜ r ≡ takesKey true (heldBy u (mem (now (keys .entry)) [] (now (texts .entry)) (now (features .entry)))) (o .features) (now (key .entry)) ⌝ }
 {
-    if !s.strict {
-        return true;
-    }
-    let u = s.used;
     let k = u.keys * 2;
     let t = u.texts;
     let end = u.features;

@@ -1,16 +1,19 @@
 // The tags of a layer's open feature (in the Rust: add_tag_string to add_tag_bool of Feature): one call for each kind of value. Floats and doubles are
 // given by their bits, since values are equal by bits. Each call costs its STATE check, which reads the used part of every list once, and a scan of the
 // keys and of the values.
+ghost use mathlib.Core.Bool.{true};
 ghost use lib.ListN.{length};
+ghost use Rattle.refusal.specs.declared.Refusal.the-variants.{Again};
 ghost use Rattle.table.specs.Values.{floatKind, doubleKind, intKind, uintKind, sintKind, boolKind};
-ghost use Rattle.layer.specs.Calls.{tagged, taggedOnce, addTag, bitsOf, bitOf, tagString, tagBits};
+ghost use Rattle.layer.specs.Calls.{tagged, takesKey, taggedOnce, addTag, bitsOf, bitOf, tagString, tagBits};
 ghost use Rattle.layer.specs.Steps.{Ready};
+ghost use Rattle.layer.specs.Held.{check};
 ghost use Rattle.layer.specs.Lending.{Does, given, lists};
 use crate::Changed;
 use crate::Figures;
 use crate::Layer;
 use crate::Open;
-use crate::once::takes_key;
+use crate::once::is_new;
 use crate::putting::grown;
 use crate::putting::put_tag;
 use crate::state::is_valid;
@@ -58,6 +61,29 @@ fn tag_open(
     })
 }
 
+// A tag of a strict layer's feature opened at o, if that has none of its key and it has room. It stands by itself, so that the ordinary layer's way is compiled
+// without it.
+fn tag_strict(
+    s: Layer,
+    o: Figures,
+    key: &[u8],
+    v: Value,
+    text: &[u8],
+    keys: &mut [u32],
+    values: &mut [u32],
+    texts: &mut [u8],
+    features: &mut [u32],
+) -> Changed
+    requires { ⌜ Ready s o (length (now key)) (length (now text)) (lists keys values texts features) ⌝ }
+    ensures { λ r. ⌜ Does (λ w. check (takesKey true (w .held) (o .features) (now (key .entry))) Again (tagged (given key v text) w o)) s r keys values texts features ⌝ }
+{
+    let u = s.used;
+    if !is_new(u, o, key, &keys[..], &texts[..], &features[..]) {
+        return Changed::Refused(Refusal::Again, s);
+    }
+    tag_open(s, o, key, v, text, keys, values, texts, features)
+}
+
 // A tag of the feature opened at o, if the layer takes its key and it has room.
 fn tag_once(
     s: Layer,
@@ -73,8 +99,8 @@ fn tag_once(
     requires { ⌜ Ready s o (length (now key)) (length (now text)) (lists keys values texts features) ⌝ }
     ensures { λ r. ⌜ Does (λ w. taggedOnce (given key v text) w o) s r keys values texts features ⌝ }
 {
-    if !takes_key(s, o, key, &keys[..], &texts[..], &features[..]) {
-        return Changed::Refused(Refusal::Again, s);
+    if s.strict {
+        return tag_strict(s, o, key, v, text, keys, values, texts, features);
     }
     tag_open(s, o, key, v, text, keys, values, texts, features)
 }

@@ -117,10 +117,16 @@ fn print_all(bytes: &[u8], cases: &[u32]) {
     }
 }
 
-fn main() {
+fn replay_file(path: &[u8]) {
     let mut bytes = io::large_buffer();
     let mut cases = [0u32; 16384];
-    let n = replay::read_file(b"tiles-1.bin", &mut bytes);
-    let m = replay::load(b"tiles-1.bin", &mut cases);
+    let n = replay::read_file(path, &mut bytes);
+    let m = replay::load(path, &mut cases);
     print_all(&bytes[..n], &cases[..m]);
+}
+
+// The scripts that the Rust can be asked, and their neighbours; then those with strict layers, which it does not know.
+fn main() {
+    replay_file(b"tiles-1.bin");
+    replay_file(b"tiles-2.bin");
 }

@@ -30,8 +30,7 @@ use Rattle.layer.specs.TagLists.{tagsOk, tagsShort, tagsUtf8, tagsOf, takesKeys
 use Rattle.layer.specs.Whole.{featureOpened, tagsPut, featureShut, featurePut, addFeature}
 use Rattle.layer.specs.Lookup.{Index, indexed}
 use Rattle.layer.specs.Many.{Many, headOf, headsOk, andNext, done, addAll, addFeatures, alongIndex}
-use Rattle.layer.proofs.Keeping.{by-check, by-open}
-use Rattle.layer.proofs.Checked.{by-tag, by-feature}
+use Rattle.layer.proofs.Choosing.{Chose, opened-chose, marked-chose, tag-chose, closed-chose, abandoned-chose, feature-chose}
 use Rattle.tile.specs.declared.Tile.{Tile}
 use Rattle.tile.specs.Tiles.{TileMemory}
 use Rattle.tile.specs.Layers.{layerField, layerBytes, nameAt}
@@ -46,37 +45,12 @@ use Rattle.rollback.specs.Strict.{choice, saidWith, manyWith, toldWith, 
 chosen-same : (s : Layer) (b : Bool) → s .strict ≡ b → chosen b s ≡ s
 chosen-same s b e = subst (λ (c : Bool). chosen c s ≡ s) e refl
 
--- of a change: nothing, where it refuses
-abbrev Chose : Bool → Change → Type 0
-Chose b (refuses r) = Unit {0}
-Chose b (holds t h) = t .strict ≡ b
-
 call-chose : (c : Call) (v : Seen) → Chose (v .layer .strict) (does c v)
-call-chose (opens kind words) v =
-    let P = Chose (v .layer .strict) in
-    by-check P (isKind kind) Kind _ tt (λ k.
-    by-check P (valid v) State _ tt (λ e.
-    by-check P (isShut (v .layer .feature)) Turn _ tt (λ f.
-    by-check P (leb (length words) maxWords) Room _ tt (λ m.
-    by-check P (fits (moreWords (v .layer .used) (6 + length words)) (v .room)) Room _ tt (λ h. refl)))))
-call-chose (marks low high) v =
-    let P = Chose (v .layer .strict) in
-    by-check P (valid v) State _ tt (λ e. by-open P (v .layer .feature) _ tt (λ o f. refl))
-call-chose (tags t g) v = by-tag (Chose (v .layer .strict)) t v (λ q n. tt) (λ e u o f a h. refl)
-call-chose closes v =
-    let P = Chose (v .layer .strict) in
-    by-check P (valid v) State _ tt (λ e. by-open P (v .layer .feature) _ tt (λ o f. refl))
-call-chose abandons v =
-    let P = Chose (v .layer .strict) in
-    by-check P (valid v) State _ tt (λ e. by-open P (v .layer .feature) _ tt (λ o f. refl))
-
-tags-chose : (o : Figures) (ts : List Tag) (v : Seen) → tagsPut o ts v .layer .strict ≡ v .layer .strict
-tags-chose o [] v = refl
-tags-chose o (t ∷ ts) v = tags-chose o ts (tagPut o t v)
-
-feature-chose : (f : Head) (words ws bytes : List ℕ) (v : Seen) → Chose (v .layer .strict) (addFeature f words ws bytes v)
-feature-chose f words ws bytes v =
-    by-feature (Chose (v .layer .strict)) f words ws bytes v (λ q. tt) (λ l k e u s a h. tags-chose (v .layer .used) (tagsOf bytes ws) (featureOpened f words v))
+call-chose (opens kind words) v = opened-chose v kind words
+call-chose (marks low high) v = marked-chose v low high
+call-chose (tags t g) v = tag-chose v t
+call-chose closes v = closed-chose v
+call-chose abandons v = abandoned-chose v
 
 -- what a change leaves
 left-chose : (s : Layer) (m : Memory) (x : Change) → Chose (s .strict) x → written x s m .answer .values .strict ≡ s .strict
@@ -103,7 +77,7 @@ all-chose n (x ∷ y ∷ z ∷ w ∷ []) words ws bytes s m b e = done-chose n s
 all-chose n (x ∷ y ∷ z ∷ w ∷ t ∷ []) words ws bytes s m b e = done-chose n s m ∙ e
 all-chose n (kind ∷ mark ∷ low ∷ high ∷ w ∷ t ∷ hs) words ws bytes s m b e =
     next-chose b (addFeature (headOf kind mark low high) (take w words) (take t ws) bytes (seen s m)) s m n (λ u l. addAll (suc n) hs (drop w words) (drop t ws) bytes u l) e
-    (subst (λ (c : Bool). Chose c (addFeature (headOf kind mark low high) (take w words) (take t ws) bytes (seen s m))) e (feature-chose (headOf kind mark low high) (take w words) (take t ws) bytes (seen s m)))
+    (subst (λ (c : Bool). Chose c (addFeature (headOf kind mark low high) (take w words) (take t ws) bytes (seen s m))) e (feature-chose (seen s m) (headOf kind mark low high) (take w words) (take t ws) bytes))
     (λ u l k. all-chose (suc n) hs (drop w words) (drop t ws) bytes u l b k)
 
 many-chose : (hs words ws bytes : List ℕ) (s : Layer) (m : Memory) → addFeatures hs words ws bytes s m .answer .values .layer .strict ≡ s .strict
@@ -111,7 +85,7 @@ many-chose hs words ws bytes s m = either-chose (headsOk (length words) (length 
 
 pub keeps-choice : (l : Later) (g : Given) → following l g .layer .strict ≡ g .layer .strict
 keeps-choice (calls c) g = left-chose (g .layer) (g .memory) (does c (seenOf g)) (call-chose c (seenOf g))
-keeps-choice (adds f words ws bytes) g = left-chose (g .layer) (g .memory) (addFeature f words ws bytes (seenOf g)) (feature-chose f words ws bytes (seenOf g))
+keeps-choice (adds f words ws bytes) g = left-chose (g .layer) (g .memory) (addFeature f words ws bytes (seenOf g)) (feature-chose (seenOf g) f words ws bytes)
 keeps-choice (addsMany hs words ws bytes x) g = many-chose hs words ws bytes (g .layer) (g .memory)
 keeps-choice asksState g = refl
 keeps-choice asksFeatures g = refl
@@ -247,7 +221,7 @@ module _ (b : Bool) where
       next-beside (addFeature f (take w words) (take t ws) bytes (seen (chosen b s) m)) (addFeature f (take w words) (take t ws) bytes (seen (chosen false s) m)) s m n
       (λ u l. addAll (suc n) hs (drop w words) (drop t ws) bytes u l)
       (feature-beside b f (take w words) (take t ws) bytes (seen s m))
-      (feature-chose f (take w words) (take t ws) bytes (seen (chosen false s) m))
+      (feature-chose (seen (chosen false s) m) f (take w words) (take t ws) bytes)
       (λ u l. all-beside (suc n) hs (drop w words) (drop t ws) bytes u l)
 
   many-beside : (hs words ws bytes : List ℕ) (s : Layer) (m : Memory) → BesideMany b (addFeatures hs words ws bytes (chosen b s) m) (addFeatures hs words ws bytes (chosen false s) m)

@@ -61,8 +61,8 @@ text-alike ts start len x key h e =
     same (sameText ts start len key) (alike x key)
     (λ y. is-alike x key (sym e ∙ text-is ts start len key y))
     (λ y. let k : textOf ts start len ≡ key = e ∙ alike-is x key y in
-        let n : length (take len (drop start ts)) ≡ len = length-take-le len (drop start ts) (omega (arith, length-drop start ts)) in
-        rw (← k, le-leb (start + len) (length ts) h, n, eq-eqb len len refl) (begins-part (drop start ts) len))
+    let n : length (take len (drop start ts)) ≡ len = length-take-le len (drop start ts) (omega (arith, length-drop start ts)) in
+    rw (← k, le-leb (start + len) (length ts) h, n, eq-eqb len len refl) (begins-part (drop start ts) len))
 
 -- ---- entry k of the keys is there, and its text is x
 pub record Named (ks ts : List ℕ) (k : ℕ) (x : List ℕ) : Type 0 where

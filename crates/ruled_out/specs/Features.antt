@@ -8,7 +8,7 @@ use lib.ListN.{length, take, drop}
 use native.Mathlib.Omega.{arith}
 use Rattle.promise.specs.Answers.{Written}
 use Rattle.refusal.specs.declared.Refusal.{Refusal}
-use Rattle.refusal.specs.declared.Refusal.the-variants.{Kind, State, Room, Text as TextRefusal, Utf8, Turn}
+use Rattle.refusal.specs.declared.Refusal.the-variants.{Kind, State, Room, Text as TextRefusal, Utf8, Turn, Again}
 use Rattle.refusal.specs.Said.{Said}
 use Rattle.whole.specs.Twos.{wide}
 use Rattle.table.specs.Texts.{inside}
@@ -20,7 +20,7 @@ use Rattle.layer.specs.declared.whole_feature.Head.{Head}
 use Rattle.layer.specs.Held.{Memory, mem, Seen, seen, refuses, check, next}
 use Rattle.layer.specs.State.{valid}
 use Rattle.layer.specs.Calls.{isShut, newLayer, recordWith, Tag, ifRoom}
-use Rattle.layer.specs.TagLists.{tagOk, tagsShort, tagsUtf8, tagOf, tagsOf}
+use Rattle.layer.specs.TagLists.{tagOk, tagsShort, tagsUtf8, tagOf, tagsOf, takesKeys}
 use Rattle.layer.specs.Whole.{markOf, featurePut, addFeature}
 use Rattle.layer.specs.Lookup.{Index, idx, indexed}
 use Rattle.layer.specs.Many.{Many, headOf, headsOk, andNext, addAll, addFeatures, addIndexed}
@@ -72,7 +72,8 @@ kind-eight h = let e : _≡_ {A = ℕ} 0 1 = ap bit (h 0 0 0 8 0 0) in omega ari
 -- a list of tags that is none is taken
 pub tag-list-unasked : ((f : Head) (words ws bytes : List ℕ) (v : Seen) → addFeature f words ws bytes v
     ≡ check (isKind (f .kind)) Kind (check (valid v) State (check (tagsShort ws) TextRefusal (check (tagsUtf8 (tagsOf bytes ws)) Utf8
-    (check (isShut (v .layer .feature)) Turn (check (leb (length words) maxWords) Room (ifRoom (featurePut f words (tagsOf bytes ws) v)))))))) → ⊥
+    (check (isShut (v .layer .feature)) Turn (check (takesKeys (v .layer .strict) bytes ws) Again
+    (check (leb (length words) maxWords) Room (ifRoom (featurePut f words (tagsOf bytes ws) v))))))))) → ⊥
 unfolding valid
 tag-list-unasked h = let e : _≡_ {A = ℕ} 1 2 = ap refusalOf (h (headWith 9 false 0) [] (1 ∷ []) [] whole) in omega arith
 

@@ -8,7 +8,7 @@ use lib.ListN.{length, replicate}
 use native.Mathlib.Omega.{arith}
 use Rattle.promise.specs.Answers.{kept}
 use Rattle.promise.specs.Laid.{lay}
-use Rattle.refusal.specs.declared.Refusal.the-variants.{Job, Kind, State, Room, Text as TextRefusal, Utf8, Turn}
+use Rattle.refusal.specs.declared.Refusal.the-variants.{Job, Kind, State, Room, Text as TextRefusal, Utf8, Turn, Again}
 use Rattle.refusal.specs.Said.{accepted, refused}
 use Rattle.table.specs.Texts.{shortText}
 use Rattle.utf8.specs.Utf8.{within, tail, isUtf8}
@@ -17,8 +17,8 @@ use Rattle.layer.specs.declared.whole_feature.Head.{Head}
 use Rattle.layer.specs.declared.Open.the-variants.{Shut}
 use Rattle.layer.specs.Held.{mem, Seen, seen, check, whenOpen, smaller, maxTexts}
 use Rattle.layer.specs.State.{valid}
-use Rattle.layer.specs.Calls.{isShut, Tag, tagged, addTag, tagString, tagBits, newLayer, created, ifRoom}
-use Rattle.layer.specs.TagLists.{tagsOk, tagsShort, tagUtf8, tagsUtf8, tagsOf}
+use Rattle.layer.specs.Calls.{isShut, Tag, taggedOnce, addTag, tagString, tagBits, newLayer, created, ifRoom}
+use Rattle.layer.specs.TagLists.{tagsOk, tagsShort, tagUtf8, tagsUtf8, tagsOf, takesKeys}
 use Rattle.layer.specs.Whole.{featurePut, addFeature}
 use Rattle.ruled_out.specs.Inputs.{bit, refusalOf, figures, layerOf, whole, begun}
 
@@ -58,20 +58,20 @@ no-character-refused h = let e : _≡_ {A = ℕ} 1 0 = ap bit (h []) in omega ar
 -- UTF8 is asked before TEXT
 pub utf8-before-text : ((t : Tag) (v : Seen) → addTag t v ≡ check (valid v) State (check (isUtf8 (t .key)) Utf8 (check (isUtf8 (t .text)) Utf8
     (check (shortText (length (t .key))) TextRefusal (check (shortText (length (t .text))) TextRefusal
-    (whenOpen (v .layer .feature) (λ o. tagged t v o))))))) → ⊥
+    (whenOpen (v .layer .feature) (λ o. taggedOnce t v o))))))) → ⊥
 unfolding valid
 utf8-before-text h = let e : _≡_ {A = ℕ} 11 22 = ap refusalOf (h (tagString (0xFF ∷ []) (replicate 1025 0)) whole) in omega arith
 
 -- UTF8 is asked after TURN
 pub utf8-after-turn : ((t : Tag) (v : Seen) → addTag t v ≡ check (valid v) State (check (shortText (length (t .key))) TextRefusal
     (check (shortText (length (t .text))) TextRefusal (whenOpen (v .layer .feature)
-    (λ o. check (isUtf8 (t .key)) Utf8 (check (isUtf8 (t .text)) Utf8 (tagged t v o))))))) → ⊥
+    (λ o. check (isUtf8 (t .key)) Utf8 (check (isUtf8 (t .text)) Utf8 (taggedOnce t v o))))))) → ⊥
 unfolding valid
 utf8-after-turn h = let e : _≡_ {A = ℕ} 22 12 = ap refusalOf (h (tagString (0xFF ∷ []) []) whole) in omega arith
 
 -- a key that is not UTF-8 is taken where the value is no text
 pub key-taken : ((t : Tag) (v : Seen) → addTag t v ≡ check (valid v) State (check (shortText (length (t .key))) TextRefusal
-    (check (shortText (length (t .text))) TextRefusal (check (isUtf8 (t .text)) Utf8 (whenOpen (v .layer .feature) (λ o. tagged t v o)))))) → ⊥
+    (check (shortText (length (t .text))) TextRefusal (check (isUtf8 (t .text)) Utf8 (whenOpen (v .layer .feature) (λ o. taggedOnce t v o)))))) → ⊥
 unfolding valid
 key-taken h = let e : _≡_ {A = ℕ} 22 12 = ap refusalOf (h (tagBits 5 (0xFF ∷ []) 5) whole) in omega arith
 
@@ -99,8 +99,8 @@ point = record { kind = 1; «has_id» = false; id = 0 }
 -- UTF8 is asked before TEXT
 pub feature-utf8-before-text : ((f : Head) (words ws bytes : List ℕ) (v : Seen) → addFeature f words ws bytes v
     ≡ check (tagsOk (length bytes) ws) Job (check (isKind (f .kind)) Kind (check (valid v) State (check (tagsUtf8 (tagsOf bytes ws)) Utf8
-    (check (tagsShort ws) TextRefusal (check (isShut (v .layer .feature)) Turn (check (leb (length words) maxWords) Room
-    (ifRoom (featurePut f words (tagsOf bytes ws) v))))))))) → ⊥
+    (check (tagsShort ws) TextRefusal (check (isShut (v .layer .feature)) Turn (check (takesKeys (v .layer .strict) bytes ws) Again (check (leb (length words) maxWords) Room
+    (ifRoom (featurePut f words (tagsOf bytes ws) v)))))))))) → ⊥
 unfolding valid
 feature-utf8-before-text h =
     let e : _≡_ {A = ℕ} 11 22 = ap refusalOf (h point [] (0 ∷ 1 ∷ 1 ∷ 0 ∷ 1025 ∷ []) (replicate 1025 0xFF) whole) in omega arith
@@ -108,8 +108,8 @@ feature-utf8-before-text h =
 -- UTF8 is asked after TURN
 pub feature-utf8-after-turn : ((f : Head) (words ws bytes : List ℕ) (v : Seen) → addFeature f words ws bytes v
     ≡ check (tagsOk (length bytes) ws) Job (check (isKind (f .kind)) Kind (check (valid v) State (check (tagsShort ws) TextRefusal
-    (check (isShut (v .layer .feature)) Turn (check (tagsUtf8 (tagsOf bytes ws)) Utf8 (check (leb (length words) maxWords) Room
-    (ifRoom (featurePut f words (tagsOf bytes ws) v))))))))) → ⊥
+    (check (isShut (v .layer .feature)) Turn (check (tagsUtf8 (tagsOf bytes ws)) Utf8 (check (takesKeys (v .layer .strict) bytes ws) Again (check (leb (length words) maxWords) Room
+    (ifRoom (featurePut f words (tagsOf bytes ws) v)))))))))) → ⊥
 unfolding valid
 feature-utf8-after-turn h = let e : _≡_ {A = ℕ} 22 12 = ap refusalOf (h point [] (0 ∷ 1 ∷ 5 ∷ 1 ∷ 0 ∷ []) (0xFF ∷ []) begun) in omega arith
 

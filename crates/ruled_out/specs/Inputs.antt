@@ -1,6 +1,6 @@
 -- What the laws of this crate are proved at: small boxes, points, states, layers and tiles; and how two unlike answers are told apart, by one number of each.
 use Prim.Native.Nat.{ℕ, suc}
-use mathlib.Core.Bool.{Bool, cond}
+use mathlib.Core.Bool.{Bool, false, cond}
 use mathlib.Core.List.{List, [], _∷_}
 use lib.Dec.{eqb}
 use lib.IntN.{ℤ, pos, natAbs}
@@ -186,7 +186,7 @@ lent =
     (1 ∷ 1 ∷ 7 ∷ 0 ∷ 2 ∷ 3 ∷ 9 ∷ 4 ∷ 4 ∷ 0 ∷ 0 ∷ 0 ∷ 0 ∷ 0 ∷ 0 ∷ 0 ∷ 0 ∷ 0 ∷ [])
 
 abbrev pub layerOf : Figures → Open → Layer
-layerOf used feature = record { extent = 4096; name = 1; used = used; feature = feature }
+layerOf used feature = record { extent = 4096; strict = false; name = 1; used = used; feature = feature }
 
 -- the figures when its feature was opened, and now
 abbrev pub before : Figures

@@ -1,7 +1,7 @@
 -- Crate `layer`: wrong rooms, wrong STATE, and wrong answers of the calls on a layer.
 use Prim.Native.Nat.{ℕ, _+_, _/_}
 use mathlib.Core.Path.{_≡_, ap}
-use mathlib.Core.Bool.{cond, _&&_}
+use mathlib.Core.Bool.{false, cond, _&&_}
 use mathlib.Core.List.{List, [], _∷_, _++_}
 use lib.Dec.{leb}
 use lib.ListN.{length, take, getD, replicate}
@@ -50,7 +50,7 @@ pub name-past : ((v : Seen) → valid v ≡ (fits (v .layer .used) (v .room) && 
     && (valuesIn (v .layer .used .texts) (v .held .values) && recordsOk (v .layer .feature) (v .layer .used) (v .held .features))))) → ⊥
 unfolding valid
 name-past h =
-    let e : _≡_ {A = ℕ} 0 1 = ap bit (h (seen (record { extent = 4096; name = 9; used = figures 0 0 3 0; feature = Shut }) lent)) in omega arith
+    let e : _≡_ {A = ℕ} 0 1 = ap bit (h (seen (record { extent = 4096; strict = false; name = 9; used = figures 0 0 3 0; feature = Shut }) lent)) in omega arith
 
 -- the rule of opening figures left out
 pub opening-over : ((o used : Figures) (ws : List ℕ) → recordsOk (Since o) used ws ≡ (follow (take (o .features) ws) && oneRecord ws (o .features))) → ⊥
@@ -64,7 +64,7 @@ last-elsewhere h = let e : _≡_ {A = ℕ} 1 0 = ap bit (h before (figures 0 0 1
 -- ---- Layer::new
 -- the name's bytes are not counted
 pub name-unused : ((name : List ℕ) (extent : ℕ)
-    → newLayer name extent ≡ record { extent = extent; name = length name; used = figures 0 0 0 0; feature = Shut }) → ⊥
+    → newLayer name extent ≡ record { extent = extent; strict = false; name = length name; used = figures 0 0 0 0; feature = Shut }) → ⊥
 name-unused h = let e : _≡_ {A = ℕ} 1 0 = ap (λ (s : Layer). s .used .texts) (h (97 ∷ []) 4096) in omega arith
 
 -- the name is not written

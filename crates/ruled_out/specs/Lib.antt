@@ -14,6 +14,7 @@ pub mod Tables
 pub mod Layers
 pub mod TagCalls
 pub mod IllFormed
+pub mod Strict
 pub mod Features
 pub mod Wire
 pub mod LayerMessages

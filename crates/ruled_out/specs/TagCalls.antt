@@ -21,7 +21,7 @@ use Rattle.layer.specs.declared.Layer.{Layer}
 use Rattle.layer.specs.Held.{Memory, mem, Seen, seen, check, whenOpen, heldBy, onto, written}
 use Rattle.layer.specs.State.{valid}
 use Rattle.layer.specs.Calls.{Tag, indexOf}
-use Rattle.layer.specs.Calls.{putOf, keyWords, valueWords, withTag, heldWith, taggedBy, tagged, addTag, valueOf, bitsOf, bitOf, tagString, tagBits}
+use Rattle.layer.specs.Calls.{putOf, keyWords, valueWords, withTag, heldWith, taggedBy, tagged, taggedOnce, addTag, valueOf, bitsOf, bitOf, tagString, tagBits}
 use Rattle.ruled_out.specs.Inputs.{item, figures, refusalOf, usedAfter, heldAfter, layerOf}
 use Rattle.ruled_out.specs.Inputs.{before, now, whole, begun}
 
@@ -71,13 +71,13 @@ value-not-shared h = let e : _≡_ {A = ℕ} 1 2 = ap (λ c. usedAfter c .values
 -- TURN is asked before TEXT
 pub turn-before-text : ((t : Tag) (v : Seen) → addTag t v ≡ check (valid v) State (whenOpen (v .layer .feature)
     (λ o. check (shortText (length (t .key))) TextRefusal (check (shortText (length (t .text))) TextRefusal
-    (check (isUtf8 (t .key)) Utf8 (check (isUtf8 (t .text)) Utf8 (tagged t v o))))))) → ⊥
+    (check (isUtf8 (t .key)) Utf8 (check (isUtf8 (t .text)) Utf8 (taggedOnce t v o))))))) → ⊥
 unfolding valid
 turn-before-text h = let e : _≡_ {A = ℕ} 11 12 = ap refusalOf (h (tagString (replicate 1025 0) []) whole) in omega arith
 
 -- a value's text of more than 1,024 bytes is taken
 pub long-value-taken : ((t : Tag) (v : Seen) → addTag t v ≡ check (valid v) State (check (shortText (length (t .key))) TextRefusal
-    (check (isUtf8 (t .key)) Utf8 (check (isUtf8 (t .text)) Utf8 (whenOpen (v .layer .feature) (λ o. tagged t v o)))))) → ⊥
+    (check (isUtf8 (t .key)) Utf8 (check (isUtf8 (t .text)) Utf8 (whenOpen (v .layer .feature) (λ o. taggedOnce t v o)))))) → ⊥
 unfolding valid
 long-value-taken h = let e : _≡_ {A = ℕ} 11 12 = ap refusalOf (h (tagString [] (replicate 1025 0)) whole) in omega arith
 

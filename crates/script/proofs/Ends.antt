@@ -54,9 +54,9 @@ module _ (ns : List ℕ) where
   earlier at from (Is op n) h w = record { on = omega (arith, w .on); inside = w .inside }
   earlier at from Bad h w = tt
 
-  create-ends : (at : ℕ) → Ends ns at (creates ns at)
+  create-ends : (strict : Bool) (at : ℕ) → Ends ns at (creates strict ns at)
   unfolding creates Ends
-  create-ends at =
+  create-ends strict at =
       by (Ends ns at) (ltb at (length ns)) (λ h.
       with-ends at (at + 1) (textAt ns (at + 1)) _ (text-ends (at + 1)) (λ p n w. record { on = omega (arith, w .on); inside = w .inside }))
       tt
@@ -126,13 +126,14 @@ module _ (ns : List ℕ) where
   unfolding Ends
   follow-ends number at h =
       let here : Reaches ns at at = record { on = omega arith; inside = h } in
-      by (Ends ns at) (eqb number 1) (λ e. create-ends at)
+      by (Ends ns at) (eqb number 1) (λ e. create-ends false at)
       (by (Ends ns at) (eqb number 2) (λ e. open-ends at)
       (by (Ends ns at) (eqb number 3) (λ e. id-ends at)
       (by (Ends ns at) (eqb number 4) (λ e. tag-ends at)
       (by (Ends ns at) (eqb number 5) (λ e. here)
       (by (Ends ns at) (eqb number 6) (λ e. here)
-      (by (Ends ns at) (eqb number 7) (λ e. here) tt))))))
+      (by (Ends ns at) (eqb number 7) (λ e. here)
+      (by (Ends ns at) (eqb number 8) (λ e. create-ends true at) tt)))))))
 
   op-ends : (at : ℕ) → Ends ns (at + 1) (operation ns at)
   unfolding operation

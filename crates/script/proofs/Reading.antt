@@ -58,14 +58,14 @@ module _ (r : Taken) (ns : List ℕ) (at : ℕ) where
     with-bad f = let g : textAt ns at ≡ TakenBad = sym e ∙ f in rw g
 
 module _ (r : Taken) (ns : List ℕ) (at : ℕ) where
-  module _ (h : at < length ns) (e : r ≡ textAt ns (at + 1)) where
-    pub create-is : (name : Part) (next : ℕ) → r ≡ TakenIs name next → Is (Create (getD ns at 0) name) next ≡ creates ns at
+  module _ (strict : Bool) (h : at < length ns) (e : r ≡ textAt ns (at + 1)) where
+    pub create-is : (name : Part) (next : ℕ) → r ≡ TakenIs name next → Is (Create (getD ns at 0) name strict) next ≡ creates strict ns at
     unfolding creates
-    create-is name next f = rw (lt-ltb at (length ns) h) (with-is r ns (at + 1) e (λ name next. Is (Create (getD ns at 0) name) next) name next f)
+    create-is name next f = rw (lt-ltb at (length ns) h) (with-is r ns (at + 1) e (λ name next. Is (Create (getD ns at 0) name strict) next) name next f)
 
-    pub create-bad : r ≡ TakenBad → Bad ≡ creates ns at
+    pub create-bad : r ≡ TakenBad → Bad ≡ creates strict ns at
     unfolding creates
-    create-bad f = rw (lt-ltb at (length ns) h) (with-bad r ns (at + 1) e (λ name next. Is (Create (getD ns at 0) name) next) f)
+    create-bad f = rw (lt-ltb at (length ns) h) (with-bad r ns (at + 1) e (λ name next. Is (Create (getD ns at 0) name strict) next) f)
 
   module _ (e : r ≡ textAt ns at) where
     pub string-is : (key text : Part) (next : ℕ) → r ≡ TakenIs text next → Is (Tag key (Text text)) next ≡ stringAt key ns at

@@ -1,7 +1,7 @@
 -- oracle/README.md, "Tile script": one operation of a script, at a place of its numbers. "A text is its length in bytes and then its bytes, filled up with
 -- zero bytes to a multiple of four."
 use Prim.Native.Nat.{ℕ, _+_, _-_, _*_, _/_, _%_, _^_}
-use mathlib.Core.Bool.{Bool, true, cond}
+use mathlib.Core.Bool.{Bool, true, false, cond}
 use mathlib.Core.List.{List, []}
 use lib.Dec.{leb, ltb, eqb}
 use lib.ListN.{length, getD, take, drop}
@@ -46,9 +46,9 @@ withText TakenBad go = Bad
 abbrev pub pairAt : List ℕ → ℕ → ℕ
 pairAt ns at = wide (getD ns at 0) (getD ns (at + 1) 0)
 
--- 1: extent, name
-unfoldable pub creates : List ℕ → ℕ → Next
-creates ns at = cond (ltb at (length ns)) (withText (textAt ns (at + 1)) (λ name next. Is (Create (getD ns at 0) name) next)) Bad
+-- 1, and 8 for a strict layer: extent, name
+unfoldable pub creates : Bool → List ℕ → ℕ → Next
+creates strict ns at = cond (ltb at (length ns)) (withText (textAt ns (at + 1)) (λ name next. Is (Create (getD ns at 0) name strict) next)) Bad
 
 -- 2: kind, word count, words
 unfoldable pub opens : List ℕ → ℕ → Next
@@ -98,14 +98,15 @@ tags ns at = withText (textAt ns at) (λ key next. valued key ns next)
 -- ---- an operation: its number, and what follows it
 abbrev pub follows : ℕ → List ℕ → ℕ → Next
 follows number ns at =
-    cond (eqb number 1) (creates ns at) (
+    cond (eqb number 1) (creates false ns at) (
     cond (eqb number 2) (opens ns at) (
     cond (eqb number 3) (sets ns at) (
     cond (eqb number 4) (tags ns at) (
     cond (eqb number 5) (Is Close at) (
     cond (eqb number 6) (Is Abandon at) (
-    cond (eqb number 7) (Is Add at)
-    Bad))))))
+    cond (eqb number 7) (Is Add at) (
+    cond (eqb number 8) (creates true ns at)
+    Bad)))))))
 
 unfoldable pub operation : List ℕ → ℕ → Next
 operation ns at = cond (ltb at (length ns)) (follows (getD ns at 0) ns (at + 1)) Bad

@@ -29,9 +29,9 @@ pub enum Value {
     Bool(bool),
 }
 
-// One operation.
+// One operation. Creating says whether the layer is strict.
 pub enum Op {
-    Create(u32, Part),
+    Create(u32, Part, bool),
     Open(u32, Part),
     SetId(u64),
     Tag(Part, Value),
@@ -55,6 +55,8 @@ impl Op {
     pub const ABANDON: u32 = 6;
 
     pub const ADD: u32 = 7;
+
+    pub const CREATE_STRICT: u32 = 8;
 }
 
 // An operation and where the next one begins, or nothing that can be read.
@@ -63,15 +65,15 @@ pub enum Next {
     Bad,
 }
 
-// Creating: extent, name.
-fn read_create(numbers: &[u32], at: usize) -> Next
-    ensures { λ r. ⌜ r ≡ creates (now (numbers .entry)) at ⌝ }
+// Creating, strict or not: extent, name.
+fn read_create(numbers: &[u32], at: usize, strict: bool) -> Next
+    ensures { λ r. ⌜ r ≡ creates strict (now (numbers .entry)) at ⌝ }
 {
     if numbers.len() <= at {
         return Next::Bad;
     }
     match read_text(numbers, at + 1) {
-        Taken::Is(name, next) => Next::Is(Op::Create(numbers[at], name), next),
+        Taken::Is(name, next) => Next::Is(Op::Create(numbers[at], name, strict), next),
         Taken::Bad => Next::Bad,
     }
 }
@@ -135,7 +137,7 @@ pub fn read_op(numbers: &[u32], at: usize) -> Next
     let number = numbers[at];
     let from = at + 1;
     if number == Op::CREATE {
-        return read_create(numbers, from);
+        return read_create(numbers, from, false);
     }
     if number == Op::OPEN {
         return read_open(numbers, from);
@@ -154,6 +156,9 @@ pub fn read_op(numbers: &[u32], at: usize) -> Next
     }
     if number == Op::ADD {
         return Next::Is(Op::Add, from);
+    }
+    if number == Op::CREATE_STRICT {
+        return read_create(numbers, from, true);
     }
     Next::Bad
 }

@@ -5,8 +5,8 @@ use mathlib.Core.Bool.{Bool, true, false, not}
 use mathlib.Core.List.{List, [], _∷_}
 use native.Mathlib.Omega.{arith}
 use lib.ListN.{length, getD, drop, drop-of-length-le, length-drop}
-use lib.Dec.{leb}
-use borrow.Author.Tests.{not-true, not-false}
+use lib.Dec.{leb, eqb}
+use borrow.Author.Tests.{not-true, not-false, eqb-true, eqb-false}
 use mathlib.Core.Bool.{cond}
 use Rattle.table.specs.Keys.{keysIn}
 use Rattle.promise.proofs.Steps.{next}
@@ -24,11 +24,13 @@ odd bytes (w ∷ []) z h = refl
 odd bytes (w ∷ v ∷ l) z h = absurd (omega arith)
 
 module _ (bytes : ℕ) (keys : List ℕ) (i : ℕ) (I : Inv bytes keys i) where
-  pub ends-odd : i < length keys → length keys - i < 2 → false ≡ keysIn bytes keys
-  ends-odd z h = rw (I .rest, odd bytes (drop i keys) (rw length-drop (omega arith)) (rw length-drop h))
-
-  pub ends : length keys ≤ i → true ≡ keysIn bytes keys
-  ends h = rw (I .rest, drop-of-length-le keys {i = i} h)
+  -- behind the last two words there is nothing, or one that is no key
+  pub ends : length keys - i < 2 → eqb i (length keys) ≡ keysIn bytes keys
+  ends h = by (eqb i (length keys)) refl
+    where
+      by : (t : Bool) → eqb i (length keys) ≡ t → t ≡ keysIn bytes keys
+      by true q = let e = eqb-true i (length keys) q in rw (I .rest, drop-of-length-le keys {i = i} (omega (arith, e)))
+      by false q = let n = eqb-false i (length keys) q in rw (I .rest, odd bytes (drop i keys) (rw length-drop (omega (arith, n, I .at))) (rw length-drop h))
 
   step : 2 ≤ length keys - i → keysIn bytes (drop i keys) ≡ cond (leb (getD keys i 0 + getD keys (i + 1) 0) bytes) (keysIn bytes (drop (i + 2) keys)) false
   step h = rw (next keys i (i + 1) (omega arith) (omega arith), next keys (i + 1) (i + 2) (omega arith) (omega arith))

@@ -8,7 +8,7 @@ use native.Mathlib.Numerals.{add-one}
 use native.Mathlib.Omega.{arith}
 use lib.ListN.{length, getD, drop, drop-of-length-le, length-drop}
 use lib.Dec.{leb, eqb}
-use borrow.Author.Tests.{not-true, not-false, eq-eqb}
+use borrow.Author.Tests.{not-true, not-false, eq-eqb, eqb-true, eqb-false}
 use Rattle.table.specs.declared.Found.the-variants.{At, Nothing}
 use Rattle.table.specs.declared.Value.{Value}
 use Rattle.promise.specs.Widened.{Wide}
@@ -78,11 +78,13 @@ all-odd bytes (a ∷ b ∷ []) z h = refl
 all-odd bytes (a ∷ b ∷ c ∷ vs) z h = absurd (omega arith)
 
 module _ (bytes : ℕ) (vs : List ℕ) (i : ℕ) (I : All bytes vs i) where
-  pub all-ends-odd : i < length vs → length vs - i < 3 → false ≡ valuesIn bytes vs
-  all-ends-odd z h = rw (I .rest, all-odd bytes (drop i vs) (rw length-drop (omega arith)) (rw length-drop h))
-
-  pub all-ends : length vs ≤ i → true ≡ valuesIn bytes vs
-  all-ends h = rw (I .rest, drop-of-length-le vs {i = i} h)
+  -- behind the last three words there is nothing, or too few for a value
+  pub all-ends : length vs - i < 3 → eqb i (length vs) ≡ valuesIn bytes vs
+  all-ends h = by (eqb i (length vs)) refl
+    where
+      by : (t : Bool) → eqb i (length vs) ≡ t → t ≡ valuesIn bytes vs
+      by true q = let e = eqb-true i (length vs) q in rw (I .rest, drop-of-length-le vs {i = i} (omega (arith, e)))
+      by false q = let n = eqb-false i (length vs) q in rw (I .rest, all-odd bytes (drop i vs) (rw length-drop (omega (arith, n, I .at))) (rw length-drop h))
 
   module _ (z : 3 ≤ length vs - i) (b : Bool) (g : b ≡ valueOk bytes (getD vs i 0) (getD vs (i + 1) 0) (getD vs (i + 2) 0)) where
     all-step : valuesIn bytes (drop i vs) ≡ cond b (valuesIn bytes (drop (i + 3) vs)) false

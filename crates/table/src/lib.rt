@@ -171,10 +171,7 @@ pub fn keys_in(keys: &[u32], bytes: usize) -> bool
     ensures { λ r. ⌜ r ≡ keysIn bytes (now (keys .entry)) ⌝ }
 {
     let mut i = 0;
-    while i < keys.len() {
-        if keys.len() - i < 2 {
-            return false;
-        }
+    while 2 <= keys.len() - i {
         let start = wide(keys[i]);
         let len = wide(keys[i + 1]);
         if !has_room(start, len, bytes) {
@@ -182,7 +179,7 @@ pub fn keys_in(keys: &[u32], bytes: usize) -> bool
         }
         i += 2;
     }
-    true
+    i == keys.len()
 }
 
 // Whether the three words are a value, its text, if it is one, within so many bytes.
@@ -208,14 +205,11 @@ pub fn values_in(values: &[u32], bytes: usize) -> bool
     ensures { λ r. ⌜ r ≡ valuesIn bytes (now (values .entry)) ⌝ }
 {
     let mut i = 0;
-    while i < values.len() {
-        if values.len() - i < 3 {
-            return false;
-        }
+    while 3 <= values.len() - i {
         if !value_ok(bytes, values[i], values[i + 1], values[i + 2]) {
             return false;
         }
         i += 3;
     }
-    true
+    i == values.len()
 }

@@ -1,5 +1,6 @@
 -- What each way through an operation answers: nothing at hand, or what the layer's call gave; and one value for each answer.
 use mathlib.Core.Path.{_≡_, refl, sym, _∙_, ap, subst}
+use mathlib.Core.Bool.{Bool, true, false}
 use mathlib.Core.List.{List}
 use Prim.Native.Nat.{ℕ}
 use Rattle.promise.specs.Answers.{Gives}
@@ -14,12 +15,12 @@ use Rattle.layer.specs.declared.Created.{Created}
 use Rattle.layer.specs.declared.Created.the-variants.{Done as CreatedDone, Refused as CreatedRefused}
 use Rattle.layer.specs.Held.{Memory, Seen, seen, Change, written}
 use Rattle.layer.specs.Answers.{saidChanged, saidCreated}
-use Rattle.layer.specs.Calls.{Tag, created, addTag}
+use Rattle.layer.specs.Calls.{Tag, created, createdStrict, addTag}
 use Rattle.tile_run.specs.declared.hand.Hand.{Hand}
 use Rattle.tile_run.specs.declared.hand.Hand.the-variants.{Nothing, Holds}
 use Rattle.tile_run.specs.declared.hand.Handled.{Handled}
 use Rattle.tile_run.specs.declared.hand.Handled.the-variants.{Done, Refused}
-use Rattle.tile_run.specs.Hands.{saidHandled, holding, onHand, newHand, creating}
+use Rattle.tile_run.specs.Hands.{saidHandled, holding, onHand, newHand, making, creating}
 
 -- ---- a layer's answer, taken into the hand
 module _ (c : Changed) (s : Layer) where
@@ -36,10 +37,16 @@ module _ (h : Hand) (c : Created) where
   pub new-refused : (r : Refusal) → c ≡ CreatedRefused r → refused r h ≡ newHand h (saidCreated c)
   new-refused r e = rw e
 
-pub new-held : (name : List ℕ) (extent : ℕ) (h : Hand) (ts l : List ℕ) (a : Said (List Layer)) (b : Said Hand)
-    → Gives (created name extent ts) a l → b ≡ newHand h a → Gives (creating name extent h ts) b l
-unfolding creating
-new-held name extent h ts l a b g e = record { answer = e ∙ ap (newHand h) (g .answer); memory = g .memory }
+module _ (strict : Bool) (name : List ℕ) (extent : ℕ) (h : Hand) (ts l : List ℕ) (a : Said (List Layer)) (b : Said Hand) (e : b ≡ newHand h a) where
+  new-held : Gives (making strict name extent ts) a l → Gives (creating strict name extent h ts) b l
+  unfolding creating
+  new-held g = record { answer = e ∙ ap (newHand h) (g .answer); memory = g .memory }
+
+  pub strict-held : strict ≡ true → Gives (createdStrict name extent ts) a l → Gives (creating strict name extent h ts) b l
+  strict-held t g = new-held (rw t g)
+
+  pub plain-held : strict ≡ false → Gives (created name extent ts) a l → Gives (creating strict name extent h ts) b l
+  plain-held t g = new-held (rw t g)
 
 -- ---- a call on what is at hand
 module _ (call : Seen → Change) (h : Hand) (m : Memory) where

@@ -1,5 +1,6 @@
 -- What each way through an operation gives, over plain lists; and one value for each answer.
 use mathlib.Core.Path.{_≡_, refl, sym, _∙_, ap}
+use mathlib.Core.Bool.{Bool}
 use mathlib.Core.List.{List}
 use Prim.Native.Nat.{ℕ, _%_, _/_}
 use native.Mathlib.Omega.{arith}
@@ -80,11 +81,12 @@ module _ (bytes ns : List ℕ) (op : Op) (w : Work) (m : Lists) where
   op-is o e = ap (λ (x : Op). performed bytes ns x w m) e
 
   module _ (a : Said Hand) (b : Said Work) (f : b ≡ working (w .tile) a) where
-    pub create-op : (extent : ℕ) (name : Part) (text ts : List ℕ) → op ≡ Create extent name → text ≡ textOf bytes name → Gives (creating text extent (w .hand) (m .layer .texts)) a ts
-        → Gives (performed bytes ns op w m) b (lists (withTexts (m .layer) ts) (m .tile))
+    pub create-op : (extent : ℕ) (name : Part) (strict : Bool) (text ts : List ℕ) → op ≡ Create extent name strict → text ≡ textOf bytes name
+        → Gives (creating strict text extent (w .hand) (m .layer .texts)) a ts → Gives (performed bytes ns op w m) b (lists (withTexts (m .layer) ts) (m .tile))
     unfolding performed
-    create-op extent name text ts e t g =
-        through-texts (creating text extent (w .hand) (m .layer .texts)) a b ts (op-is _ e ∙ ap (λ (x : List ℕ). inTexts (w .tile) m (creating x extent (w .hand) (m .layer .texts))) (sym t)) g f
+    create-op extent name strict text ts e t g =
+        through-texts (creating strict text extent (w .hand) (m .layer .texts)) a b ts
+        (op-is _ e ∙ ap (λ (x : List ℕ). inTexts (w .tile) m (creating strict x extent (w .hand) (m .layer .texts))) (sym t)) g f
 
     module _ (n : Memory) where
       pub open-op : (kind : ℕ) (words : Part) (run : List ℕ) → op ≡ Open kind words → run ≡ wordsOf ns words → Gives (onHand (intoFeature kind run) (w .hand) (m .layer)) a n

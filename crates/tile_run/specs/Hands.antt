@@ -1,15 +1,16 @@
 -- oracle/README.md, "Tile script": "Creating a layer takes the place of the one at hand (a refused one leaves it). An operation that needs a layer where there
 -- is none, or after the layer was added, is `refused 12`."
 use Prim.Native.Nat.{ℕ}
+use mathlib.Core.Bool.{Bool, cond}
 use mathlib.Core.List.{List, [], _∷_}
 use Rattle.promise.specs.Answers.{Written, kept}
 use Rattle.refusal.specs.declared.Refusal.the-variants.{Turn}
 use Rattle.refusal.specs.Said.{Said, accepted, refused}
 use Rattle.layer.specs.declared.Layer.{Layer}
 use Rattle.layer.specs.Held.{Memory, Seen, seen, Change, written}
-use Rattle.layer.specs.Calls.{Tag, created, bitsOf, bitOf, tagString, tagBits}
+use Rattle.layer.specs.Calls.{Tag, created, createdStrict, bitsOf, bitOf, tagString, tagBits}
 use Rattle.script.specs.declared.Value.{Value}
-use Rattle.script.specs.declared.Value.the-variants.{Text, Float, Double, Int, Uint, Sint, Bool}
+use Rattle.script.specs.declared.Value.the-variants.{Text, Float, Double, Int, Uint, Sint, Bool as BoolValue}
 use Rattle.script.specs.Script.{textOf}
 use Rattle.tile_run.specs.declared.hand.Hand.{Hand}
 use Rattle.tile_run.specs.declared.hand.Hand.the-variants.{Nothing, Holds}
@@ -38,8 +39,12 @@ orElse h (s ∷ ss) = Holds s
 abbrev pub newHand : Hand → Said (List Layer) → Said Hand
 newHand h a = record { number = a .number; place = a .place; values = orElse h (a .values) }
 
-unfoldable pub creating : List ℕ → ℕ → Hand → List ℕ → Written (Said Hand) (List ℕ)
-creating name extent h ts = record { answer = newHand h (created name extent ts .answer); memory = created name extent ts .memory }
+-- a layer, strict or not
+abbrev pub making : Bool → List ℕ → ℕ → List ℕ → Written (Said (List Layer)) (List ℕ)
+making strict name extent ts = cond strict (createdStrict name extent ts) (created name extent ts)
+
+unfoldable pub creating : Bool → List ℕ → ℕ → Hand → List ℕ → Written (Said Hand) (List ℕ)
+creating strict name extent h ts = record { answer = newHand h (making strict name extent ts .answer); memory = making strict name extent ts .memory }
 
 -- what a script's value tags with: a text of the script's bytes, or the bits of its kind
 abbrev pub tagOf : List ℕ → List ℕ → Value → Tag
@@ -49,4 +54,4 @@ tagOf bytes key (Double x) = tagBits 3 key x
 tagOf bytes key (Int x) = tagBits 4 key (bitsOf x)
 tagOf bytes key (Uint x) = tagBits 5 key x
 tagOf bytes key (Sint x) = tagBits 6 key (bitsOf x)
-tagOf bytes key (Bool x) = tagBits 7 key (bitOf x)
+tagOf bytes key (BoolValue x) = tagBits 7 key (bitOf x)

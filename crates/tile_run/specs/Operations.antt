@@ -68,7 +68,7 @@ abbrev pub onLayer : Work → Lists → (Seen → Change) → Written (Said Work
 onLayer w m call = inLayer (w .tile) (m .tile) (onHand call (w .hand) (m .layer))
 
 unfoldable pub performed : List ℕ → List ℕ → Op → Work → Lists → Written (Said Work) Lists
-performed bytes ns (Create extent name) w m = inTexts (w .tile) m (creating (textOf bytes name) extent (w .hand) (m .layer .texts))
+performed bytes ns (Create extent name strict) w m = inTexts (w .tile) m (creating strict (textOf bytes name) extent (w .hand) (m .layer .texts))
 performed bytes ns (Open kind words) w m = onLayer w m (intoFeature kind (wordsOf ns words))
 performed bytes ns (SetId id) w m = onLayer w m (setId (id % 4294967296) (id / 4294967296))
 performed bytes ns (Tag key v) w m = onLayer w m (addTag (tagOf bytes (textOf bytes key) v))

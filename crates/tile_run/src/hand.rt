@@ -44,10 +44,13 @@ fn hold_new(h: Hand, c: Created) -> Handled
     }
 }
 
-// Creates a layer.
-pub(crate) fn create(h: Hand, name: &[u8], extent: u32, texts: &mut [u8]) -> Handled
-    ensures { λ r. ⌜ Gives (creating (now (name .entry)) extent h (now (texts .entry))) (saidHandled r) (now (texts .exit)) ⌝ }
+// Creates a layer, strict or not.
+pub(crate) fn create(h: Hand, strict: bool, name: &[u8], extent: u32, texts: &mut [u8]) -> Handled
+    ensures { λ r. ⌜ Gives (creating strict (now (name .entry)) extent h (now (texts .entry))) (saidHandled r) (now (texts .exit)) ⌝ }
 {
+    if strict {
+        return hold_new(h, Layer::new_strict(name, extent, texts));
+    }
     hold_new(h, Layer::new(name, extent, texts))
 }
 

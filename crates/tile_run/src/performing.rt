@@ -108,9 +108,9 @@ pub(crate) fn perform(
     let tile = w.tile;
     let h = w.hand;
     match op {
-        Op::Create(extent, name) => {
+        Op::Create(extent, name, strict) => {
             let text = script::text(bytes, name);
-            keep(tile, crate::hand::create(h, text, extent, texts))
+            keep(tile, crate::hand::create(h, strict, text, extent, texts))
         }
         Op::Open(kind, words) => {
             let run = script::words(numbers, words);

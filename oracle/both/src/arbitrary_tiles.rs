@@ -1,7 +1,8 @@
 //! Arbitrary layers, tiles and lists through our library: no crash, every guard unharmed, a refused call writes nothing and gives its state back.
 //! Most are valid ones with something damaged. The refusals before ROOM are held against document 01's rules (`held`); whole features in everything that they
 //! answer and write (`whole`), by turns with lists about as long as they need. Texts that are given may be no UTF-8, which is refused; those
-//! that are stored may be none too, and no call looks into them.
+//! that are stored may be none too, and no call looks into them. Half of the layers are strict, some with a key twice in their table or their open feature, and
+//! tag words may be an odd number; AGAIN is expected exactly where request (xiv) has it, before ROOM.
 
 use crate::held::{Held, STATE};
 use crate::judge::{JOB, KIND, ROOM};
@@ -9,9 +10,29 @@ use crate::lent::Watched;
 use crate::many::{self, Together};
 use crate::random::Random;
 use crate::report::{Difference, Tally};
-use crate::tile_judge::{refuses_texts, Memory, EXTENT, NAME, TEXT, TURN, UTF8};
+use crate::side::{by_extent, by_tile};
+use crate::tile_judge::{refuses_texts, Memory, AGAIN, EXTENT, NAME, TEXT, TURN, UTF8};
 use crate::whole::Whole;
-use ours::tiles::{self, Changed, Counted, Figures, Head, Indexes, Layer, Tile, Value};
+use ours::tiles::{Changed, Counted, Figures, Head, Indexes, Layer, Tile, Value};
+
+/// What is changed of ours before it is judged, to show that it is found.
+#[derive(Clone, Copy)]
+pub enum Spoil {
+    Nothing,
+    /// ROOM is said for AGAIN.
+    Room,
+    /// AGAIN is not said where the lookup finds another entry of the key than the feature has.
+    Second,
+    /// AGAIN is said of a lone last word.
+    Lone,
+    /// A mark that is neither 0 nor 1 is taken.
+    Mark,
+}
+
+/// What tags show of AGAIN; of a full list, one without room for a tag's two words.
+const FULL: &str = "AGAIN in a full list";
+const SECOND: &str = "AGAIN by another entry than the lookup finds";
+const LONE: &str = "no AGAIN by a lone last word";
 
 /// A number: any bits, a small one, or one at a boundary.
 fn number(random: &mut Random) -> u32 {
@@ -57,7 +78,8 @@ fn value(random: &mut Random, texts: usize) -> [u32; 3] {
     }
 }
 
-fn record(random: &mut Random) -> Vec<u32> {
+/// A record whose tags, often, are of so many keys.
+fn record(random: &mut Random, keys: usize) -> Vec<u32> {
     let (tags, geometry) = (random.below(5), random.below(4));
     let mut words = vec![
         random.between(1, 3) as u32,
@@ -67,43 +89,59 @@ fn record(random: &mut Random) -> Vec<u32> {
         tags as u32,
         geometry as u32,
     ];
-    words.extend((0..tags + geometry).map(|_| number(random)));
+    words.extend((0..geometry).map(|_| number(random)));
+    for _ in 0..tags {
+        let (any, of_key) = (number(random), random.below(keys + 1) as u32);
+        words.push(random.pick(&[any, of_key, of_key, of_key]));
+    }
     words
+}
+
+/// Where the keys of a table stand, some of them twice.
+fn key_words(random: &mut Random, texts: usize) -> Vec<u32> {
+    let mut keys: Vec<u32> = Vec::new();
+    for _ in 0..random.below(4) {
+        if !keys.is_empty() && random.chance(2) {
+            keys.extend_from_within(..2);
+        } else {
+            keys.extend(place(random, texts));
+        }
+    }
+    keys
 }
 
 /// A layer and a tile that break no rule.
 fn valid(random: &mut Random) -> Held {
     let mut texts = bytes(random, 12);
     let used_texts = texts.len();
-    let mut keys = Vec::new();
-    for _ in 0..random.below(4) {
-        keys.extend(place(random, used_texts));
-    }
+    let mut keys = key_words(random, used_texts);
+    let entries = keys.len() / 2;
     let mut values = Vec::new();
     for _ in 0..random.below(4) {
         values.extend(value(random, used_texts));
     }
     let mut features = Vec::new();
     for _ in 0..random.below(3) {
-        features.extend(record(random));
+        features.extend(record(random, entries));
     }
     let mut layer = Layer {
         extent: random.below(2) as u32,
+        is_strict: random.below(2) as u32,
         name: random.below(used_texts + 1),
         ..Layer::default()
     };
     if random.chance(2) {
         layer.is_open = 1;
         layer.since = Figures {
-            keys: random.below(keys.len() / 2 + 1),
+            keys: random.below(entries + 1),
             values: random.below(values.len() / 3 + 1),
             texts: random.below(used_texts + 1),
             features: features.len(),
         };
-        features.extend(record(random));
+        features.extend(record(random, entries));
     }
     layer.used = Figures {
-        keys: keys.len() / 2,
+        keys: entries,
         values: values.len() / 3,
         texts: used_texts,
         features: features.len(),
@@ -182,8 +220,9 @@ fn cut<T>(random: &mut Random, list: &mut Vec<T>) {
 /// One figure, word or length is changed.
 fn damage(random: &mut Random, held: &mut Held) {
     let Held { layer, tile, .. } = held;
-    match random.below(24) {
+    match random.below(25) {
         0 => layer.is_open = random.pick(&[0, 1, 2, u32::MAX]),
+        24 => layer.is_strict = random.pick(&[0, 1, 2, 255, 256, 1 << 31, u32::MAX]),
         1 => layer.name = figure(random, layer.name),
         2 => layer.used.keys = figure(random, layer.used.keys),
         3 => layer.used.values = figure(random, layer.used.values),
@@ -224,6 +263,7 @@ fn wild(random: &mut Random) -> Held {
         layer: Layer {
             extent: number(random),
             is_open: number(random),
+            is_strict: number(random),
             name: figure(random, 3),
             used: figures(random),
             since: figures(random),
@@ -256,6 +296,8 @@ struct Said {
     within: bool,
     /// Which lists an accepted call may write beyond what they are expected to hold.
     writes: &'static str,
+    /// What it shows of AGAIN.
+    shows: Vec<&'static str>,
 }
 
 fn state_or_turn(held: &Held, wanted: u32) -> u32 {
@@ -266,6 +308,14 @@ fn state_or_turn(held: &Held, wanted: u32) -> u32 {
     }
 }
 
+fn within(held: &Held, used: Figures) -> bool {
+    2 * used.keys.min(1 << 40) <= held.keys.len()
+        && 3 * used.values.min(1 << 40) <= held.values.len()
+        && used.texts <= held.texts.len()
+        && used.features <= held.features.len()
+}
+
+/// Of a call that keeps the layer's mark.
 fn changed(
     held: &Held,
     call: &'static str,
@@ -274,19 +324,16 @@ fn changed(
     rest: &'static [u32],
     writes: &'static str,
 ) -> Said {
-    let used = given.layer.used;
-    let within = 2 * used.keys.min(1 << 40) <= held.keys.len()
-        && 3 * used.values.min(1 << 40) <= held.values.len()
-        && used.texts <= held.texts.len()
-        && used.features <= held.features.len();
+    let is_marked = given.layer.is_strict == held.layer.is_strict;
     Said {
         call,
         refusal: given.refusal,
         first,
         rest,
         back: given.layer == held.layer,
-        within,
+        within: within(held, given.layer.used) && is_marked,
         writes,
+        shows: Vec::new(),
     }
 }
 
@@ -300,6 +347,7 @@ fn foreseen(call: &'static str, refusal: u32, expected: u32, alike: bool) -> Sai
         back: alike,
         within: alike,
         writes: "",
+        shows: Vec::new(),
     }
 }
 
@@ -312,6 +360,7 @@ fn counted(call: &'static str, given: Counted, first: u32) -> Said {
         back: given.count == 0,
         within: true,
         writes: "",
+        shows: Vec::new(),
     }
 }
 
@@ -324,8 +373,34 @@ fn text(random: &mut Random) -> Vec<u8> {
     bytes(random, 4)
 }
 
+/// A key as the layer has it, or a text.
+fn key(random: &mut Random, held: &Held) -> Vec<u8> {
+    let entries = held.layer.used.keys.min(held.keys.len() / 2);
+    if entries > 0 && random.chance(2) {
+        if let Some(key) = held.key(random.below(entries)) {
+            return key.to_vec();
+        }
+    }
+    text(random)
+}
+
+/// What a tag with this key shows of AGAIN, where nothing comes before it.
+fn shown(held: &Held, key: &[u8]) -> Vec<&'static str> {
+    let is_key = |entry: u32| held.key(entry as usize) == Some(key);
+    let pairs = held.tag_words().chunks_exact(2);
+    if !held.has_key(key) {
+        let is_lone = pairs.remainder().iter().any(|word| is_key(*word));
+        return is_lone.then_some(LONE).into_iter().collect();
+    }
+    let found = (0..held.layer.used.keys as u32).find(|entry| is_key(*entry));
+    let is_second = pairs.into_iter().all(|pair| Some(pair[0]) != found);
+    let is_full = held.features.len() - held.layer.used.features < 2;
+    let shows = [is_second.then_some(SECOND), is_full.then_some(FULL)];
+    shows.into_iter().flatten().collect()
+}
+
 fn tag(random: &mut Random, held: &Held, memory: &mut Memory) -> Said {
-    let (key, content) = (text(random), text(random));
+    let (key, content) = (key(random, held), text(random));
     let kind = random.between(1, 7) as u32;
     let bits = u64::from(number(random)) | u64::from(number(random)) << 32;
     let value = match kind {
@@ -335,12 +410,23 @@ fn tag(random: &mut Random, held: &Held, memory: &mut Memory) -> Said {
     let (mut lists, _) = memory.lent();
     let given = held.layer.add_tag(&key, value, &mut lists);
     let texts = if kind == 1 { &content[..] } else { &[] };
-    let first = match (state_or_turn(held, 1), refuses_texts(&[&key, texts])) {
+    let asked = match (state_or_turn(held, 1), refuses_texts(&[&key, texts])) {
         (STATE, _) => STATE,
         (turn, 0) => turn,
         (_, refusal) => refusal,
     };
-    changed(held, "tags", given, first, &[ROOM], "kvtf")
+    // An ordinary layer does not look.
+    let looks = asked == 0 && held.layer.is_strict == 1;
+    let first = if looks && held.has_key(&key) {
+        AGAIN
+    } else {
+        asked
+    };
+    let mut said = changed(held, "tags", given, first, &[ROOM], "kvtf");
+    if looks {
+        said.shows = shown(held, &key);
+    }
+    said
 }
 
 const WHOLE: &str = "whole features";
@@ -487,12 +573,12 @@ fn open(random: &mut Random, held: &Held, memory: &mut Memory) -> Said {
 }
 
 fn create(random: &mut Random, held: &Held, memory: &mut Memory) -> Said {
-    let name = text(random);
+    let (name, is_strict) = (text(random), random.chance(2));
     let (lists, _) = memory.lent();
     let given = if random.chance(2) {
-        held.tile.create_layer(&name, lists.texts)
+        by_tile(held.tile, is_strict, &name, lists.texts)
     } else {
-        tiles::layer(&name, number(random), lists.texts)
+        by_extent(number(random), is_strict, &name, lists.texts)
     };
     let first = match refuses_texts(&[&name]) {
         0 if name.len() > held.texts.len() => ROOM,
@@ -500,6 +586,8 @@ fn create(random: &mut Random, held: &Held, memory: &mut Memory) -> Said {
     };
     let mut said = changed(held, "layers created", given, first, &[], "t");
     said.back = given.layer == Layer::refused();
+    let is_marked = given.layer.is_strict == u32::from(is_strict);
+    said.within = within(held, given.layer.used) && is_marked;
     said
 }
 
@@ -520,6 +608,7 @@ fn add(held: &Held, memory: &mut Memory) -> Said {
         back: given.tile == held.tile,
         within: given.tile.used <= held.bytes.len() && given.tile.layers <= held.names.len() / 2,
         writes: "nb",
+        shows: Vec::new(),
     }
 }
 
@@ -688,11 +777,31 @@ fn case(random: &mut Random) -> (Held, &'static str, Said, Memory) {
     (held, how, said, memory)
 }
 
-pub fn run(seed: u64, count: usize, tally: &mut Tally) -> Option<Difference> {
+/// Whether the mark is all that breaks a rule of the layer.
+fn is_marked_alone(held: &Held) -> bool {
+    let mut ordinary = held.clone();
+    ordinary.layer.is_strict = 0;
+    !held.good_layer() && ordinary.good_layer()
+}
+
+/// The refusal, changed where that is wanted.
+fn told(said: &Said, held: &Held, spoil: Spoil) -> u32 {
+    let shows = |what| said.shows.contains(&what);
+    match (spoil, said.refusal) {
+        (Spoil::Room, AGAIN) => ROOM,
+        (Spoil::Second, AGAIN) if shows(SECOND) => 0,
+        (Spoil::Lone, _) if shows(LONE) => AGAIN,
+        (Spoil::Mark, STATE) if is_marked_alone(held) => 0,
+        (_, refusal) => refusal,
+    }
+}
+
+pub fn run(seed: u64, count: usize, spoil: Spoil, tally: &mut Tally) -> Option<Difference> {
     for at in 0..count {
         let number = seed.wrapping_add(at as u64);
         let mut random = Random::new(number.wrapping_mul(0xD134_2543_DE82_EF95));
-        let (held, how, said, memory) = case(&mut random);
+        let (held, how, mut said, memory) = case(&mut random);
+        said.refusal = told(&said, &held, spoil);
         if let Some(what) = wrong(&said, &held, &memory) {
             return Some(Difference {
                 what,
@@ -710,6 +819,7 @@ pub fn run(seed: u64, count: usize, tally: &mut Tally) -> Option<Difference> {
         if [WHOLE, SEVERAL].contains(&said.call) {
             tally.add(of_whole, 1);
         }
+        said.shows.iter().for_each(|what| tally.add(what, 1));
     }
     None
 }
@@ -727,6 +837,7 @@ fn names(refusal: u32) -> [&'static str; 2] {
         EXTENT => ["EXTENT", ""],
         NAME => ["NAME", ""],
         UTF8 => ["UTF8", "features UTF8"],
+        AGAIN => ["AGAIN", "features AGAIN"],
         _ => panic!("refusal {refusal} is in no rule"),
     }
 }

@@ -1,16 +1,17 @@
 //! A layer that is one entry short of the most keys or values: one more is accepted, another is refused as ROOM though the lists have room, and one that is there is found.
-//! The same with whole features. The Rust has no such cap, so this is document 01's word alone.
+//! The same with whole features, and in a strict layer, where a key that the feature has is AGAIN before that. The Rust has no such cap, so this is document 01's word
+//! and request (xiv)'s.
 
 use crate::held::Held;
 use crate::judge::ROOM;
 use crate::lent::Watched;
 use crate::many::{self, Together};
 use crate::report::{Difference, Tally};
-use crate::tile_judge::MAX_ENTRIES as MOST;
+use crate::tile_judge::{AGAIN, MAX_ENTRIES as MOST};
 use ours::tiles::{Changed, Figures, Head, Indexes, Layer, Tile, Value};
 
 /// A layer with a feature open and so many entries of each kind; the keys are all empty, the values uints that ascend from 0.
-fn full(keys: usize, values: usize) -> Held {
+fn full(keys: usize, values: usize, is_strict: bool) -> Held {
     let mut key_words = vec![0; 2 * keys];
     key_words.resize(2 * (MOST + 4), 9);
     let mut value_words: Vec<u32> = (0..values as u32).flat_map(|n| [5, n, 0]).collect();
@@ -30,6 +31,7 @@ fn full(keys: usize, values: usize) -> Held {
     let layer = Layer {
         extent: 4096,
         is_open: 1,
+        is_strict: u32::from(is_strict),
         name: 0,
         used,
         since,
@@ -47,11 +49,11 @@ fn full(keys: usize, values: usize) -> Held {
 }
 
 /// One entry short of the most keys, or of the most values.
-fn one_short(by_key: bool) -> Held {
+fn one_short(by_key: bool, is_strict: bool) -> Held {
     if by_key {
-        full(MOST - 1, 1)
+        full(MOST - 1, 1, is_strict)
     } else {
-        full(1, MOST - 1)
+        full(1, MOST - 1, is_strict)
     }
 }
 
@@ -89,15 +91,18 @@ fn steps(by_key: bool) -> [Step; 4] {
     }
 }
 
-fn wrong(by_key: bool) -> Option<String> {
-    let held = one_short(by_key);
+fn wrong(by_key: bool, is_strict: bool) -> Option<String> {
+    let held = one_short(by_key, is_strict);
     let (mut layer, mut memory) = (held.layer, held.lent());
+    let mut had = Vec::new();
     for (at, step) in steps(by_key).into_iter().enumerate() {
+        let is_again = is_strict && had.contains(&step.key);
         let mut wanted = Changed {
-            refusal: step.refusal,
+            refusal: if is_again { AGAIN } else { step.refusal },
             layer,
         };
-        if step.refusal == 0 {
+        if wanted.refusal == 0 {
+            had.push(step.key);
             let place = layer.used.features;
             memory.features.expect(place, &step.found);
             memory.features.expect(4, &[place as u32 - 6 + 2]);
@@ -148,11 +153,14 @@ fn features(by_key: bool) -> [(Vec<u32>, u32); 4] {
 }
 
 /// The same through the calls that take whole features, with indexes lent, with none, and one feature by its own call.
-fn wrong_whole(by_key: bool, how: usize) -> Option<String> {
-    let mut held = one_short(by_key);
+fn wrong_whole(by_key: bool, is_strict: bool, how: usize) -> Option<String> {
+    let mut held = one_short(by_key, is_strict);
     held.layer.is_open = 0;
     let mut memory = held.lent();
-    for (at, (tags, refusal)) in features(by_key).into_iter().enumerate() {
+    for (at, (tags, room)) in features(by_key).into_iter().enumerate() {
+        // Both tags have their key at one place.
+        let is_again = is_strict && tags[0] == tags[5];
+        let refusal = if is_again { AGAIN } else { room };
         let head = Head {
             kind: 1,
             has_id: 0,
@@ -201,9 +209,10 @@ fn wrong_whole(by_key: bool, how: usize) -> Option<String> {
     None
 }
 
-pub fn compare(tally: &mut Tally) -> Option<Difference> {
+pub fn compare(is_strict: bool, tally: &mut Tally) -> Option<Difference> {
     for (by_key, what) in [(true, "keys"), (false, "values")] {
-        let found = wrong(by_key).or_else(|| (0..3).find_map(|how| wrong_whole(by_key, how)));
+        let whole = |how| wrong_whole(by_key, is_strict, how);
+        let found = wrong(by_key, is_strict).or_else(|| (0..3).find_map(whole));
         if let Some(found) = found {
             return Some(Difference {
                 what: found,

@@ -57,6 +57,7 @@ impl Held {
     pub fn good_layer(&self) -> bool {
         let Layer {
             is_open,
+            is_strict,
             name,
             used,
             since,
@@ -68,7 +69,7 @@ impl Held {
             texts: self.texts.len(),
             features: self.features.len(),
         };
-        if is_open > 1 || !fits(used, room) || name > used.texts {
+        if is_open > 1 || is_strict > 1 || !fits(used, room) || name > used.texts {
             return false;
         }
         let keys = self.keys[..2 * used.keys].chunks(2);
@@ -90,6 +91,27 @@ impl Held {
         last.len() >= 6
             && follow(last)
             && u64::from(last[4]) + u64::from(last[5]) == last.len() as u64 - 6
+    }
+
+    /// The bytes of that entry of the used keys, where there are any.
+    pub fn key(&self, entry: usize) -> Option<&[u8]> {
+        let mut used = self.keys.chunks_exact(2).take(self.layer.used.keys);
+        let words = used.nth(entry)?;
+        let text = self.texts.get(words[0] as usize..)?;
+        text.get(..words[1] as usize)
+    }
+
+    /// The open feature's tag words, of a layer that breaks no rule: they stand behind its geometry.
+    pub fn tag_words(&self) -> &[u32] {
+        let Layer { used, since, .. } = self.layer;
+        let record = &self.features[since.features..used.features];
+        &record[6 + record[5] as usize..]
+    }
+
+    /// Whether the open feature has that key: a pair of its tag words whose first is the entry of a key with these bytes. A lone last word is no pair.
+    pub fn has_key(&self, key: &[u8]) -> bool {
+        let mut pairs = self.tag_words().chunks_exact(2);
+        pairs.any(|pair| self.key(pair[0] as usize) == Some(key))
     }
 
     pub fn good_tile(&self) -> bool {

@@ -88,6 +88,7 @@ impl Element for u8 {
 }
 
 /// A list beside what it is expected to hold, guards and all.
+#[derive(Clone)]
 pub struct Watched<T> {
     all: Vec<T>,
     expected: Vec<T>,
@@ -122,6 +123,11 @@ impl<T: Element> Watched<T> {
     /// These elements are expected at that place from now on.
     pub fn expect(&mut self, at: usize, elements: &[T]) {
         self.expected[GUARD + at..GUARD + at + elements.len()].copy_from_slice(elements);
+    }
+
+    /// From now on it is expected to hold what that list holds, which is as long.
+    pub fn expect_like(&mut self, other: &Self) {
+        self.expect(0, &other.all[GUARD..GUARD + other.room()]);
     }
 
     pub fn expected(&self, at: usize) -> T {

@@ -1,6 +1,7 @@
 //! The same seeded cases through the Rust and through our compiled library, in one process.
 //! A kind of case is a module with a function `compare`, which ends at the first difference.
 
+mod again_cases;
 mod arbitrary;
 mod arbitrary_tiles;
 mod calls;
@@ -10,7 +11,9 @@ mod clips;
 mod counts;
 mod drawing;
 mod edges;
+mod features;
 mod held;
+mod held_calls;
 mod jobs;
 mod judge;
 mod laws;
@@ -23,8 +26,11 @@ mod recount;
 mod report;
 mod scripts;
 mod shrink;
+mod side;
+mod strict;
 mod text_lists;
 mod texts;
+mod tile_cases;
 mod tile_judge;
 mod tiles;
 mod varints;
@@ -35,7 +41,7 @@ use jobs::Spoil;
 use report::{Difference, Tally};
 use std::process::exit;
 
-const USAGE: &str = "usage: both jobs|clips|counts|laws|readings|texts|tiles|varints|arbitrary|arbitrary-tiles|spoiled-jobs|spoiled-clips|spoiled-turned|spoiled-moved|spoiled-edges|spoiled-calls|spoiled-taken|spoiled-boundary|spoiled-skipped|spoiled-taken-out|spoiled-refused|spoiled-most|spoiled-vertices|spoiled-finished|spoiled-readings|spoiled-place|spoiled-cuts|spoiled-command-count|spoiled-close|spoiled-nought|spoiled-written|spoiled-behind|spoiled-texts|spoiled-text-calls|spoiled-text-order|spoiled-tiles|spoiled-varints|spoiled-arbitrary SEED COUNT, or both cases jobs|large_jobs|clips|tiles|large_tiles|readings|texts SEED COUNT";
+const USAGE: &str = "usage: both jobs|clips|counts|laws|readings|strict|texts|tiles|varints|arbitrary|arbitrary-tiles|spoiled-jobs|spoiled-clips|spoiled-turned|spoiled-moved|spoiled-edges|spoiled-calls|spoiled-taken|spoiled-boundary|spoiled-skipped|spoiled-taken-out|spoiled-refused|spoiled-most|spoiled-vertices|spoiled-finished|spoiled-readings|spoiled-place|spoiled-cuts|spoiled-command-count|spoiled-close|spoiled-nought|spoiled-written|spoiled-behind|spoiled-texts|spoiled-text-calls|spoiled-text-order|spoiled-again|spoiled-elsewhere|spoiled-again-room|spoiled-mark|spoiled-tiles|spoiled-varints|spoiled-arbitrary|spoiled-carried-room|spoiled-carried-second|spoiled-carried-lone|spoiled-carried-mark SEED COUNT, or both cases jobs|large_jobs|clips|tiles|large_tiles|readings|texts SEED COUNT";
 
 fn run(kind: &str, seed: u64, count: usize, tally: &mut Tally) -> Option<Difference> {
     match kind {
@@ -83,13 +89,34 @@ fn run(kind: &str, seed: u64, count: usize, tally: &mut Tally) -> Option<Differe
         "tiles" => tiles::compare(seed, count, tiles::Spoil::Nothing, tally),
         // The same: a byte of ours is changed.
         "spoiled-tiles" => tiles::compare(seed, count, tiles::Spoil::Byte, tally),
+        "strict" => strict::compare(seed, count, strict::Spoil::Nothing, tally),
+        // The same: AGAIN is not said, it is said of a key that another feature has, ROOM is said for it; abandoning loses the mark.
+        "spoiled-again" => strict::compare(seed, count, strict::Spoil::Unsaid, tally),
+        "spoiled-elsewhere" => strict::compare(seed, count, strict::Spoil::Elsewhere, tally),
+        "spoiled-again-room" => strict::compare(seed, count, strict::Spoil::Room, tally),
+        "spoiled-mark" => strict::compare(seed, count, strict::Spoil::Mark, tally),
         "varints" => varints::compare(seed, count, false, tally),
         // The same: our size is one more.
         "spoiled-varints" => varints::compare(seed, count, true, tally),
         "arbitrary" => arbitrary::run(seed, count, false, tally),
         // The same: a count that a call on a state answers is one more.
         "spoiled-arbitrary" => arbitrary::run(seed, count, true, tally),
-        "arbitrary-tiles" => arbitrary_tiles::run(seed, count, tally),
+        "arbitrary-tiles" => {
+            arbitrary_tiles::run(seed, count, arbitrary_tiles::Spoil::Nothing, tally)
+        }
+        // The same: of layers that are carried, ROOM is said for AGAIN, AGAIN is not said by a key's second entry, it is said of a lone word, any mark is taken.
+        "spoiled-carried-room" => {
+            arbitrary_tiles::run(seed, count, arbitrary_tiles::Spoil::Room, tally)
+        }
+        "spoiled-carried-second" => {
+            arbitrary_tiles::run(seed, count, arbitrary_tiles::Spoil::Second, tally)
+        }
+        "spoiled-carried-lone" => {
+            arbitrary_tiles::run(seed, count, arbitrary_tiles::Spoil::Lone, tally)
+        }
+        "spoiled-carried-mark" => {
+            arbitrary_tiles::run(seed, count, arbitrary_tiles::Spoil::Mark, tally)
+        }
         _ => {
             eprintln!("{USAGE}");
             exit(2)

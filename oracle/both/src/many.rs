@@ -74,7 +74,8 @@ pub fn words(room: usize, turn: usize) -> usize {
     }
 }
 
-fn serves(words: usize, room: usize) -> bool {
+/// Whether an index of so many words is used for a list with room for so many entries.
+pub fn serves(words: usize, room: usize) -> bool {
     words / 2 > 0 && words / 2 >= room.min(MAX_ENTRIES)
 }
 

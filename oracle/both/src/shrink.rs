@@ -1,5 +1,7 @@
 //! The smallest input that still shows a difference: every simpler case is tried until none shows it any more.
 
+use std::panic::{catch_unwind, AssertUnwindSafe};
+
 /// Takes simpler cases as long as they differ; the last one and what differs in it.
 pub fn smallest<C: Clone>(
     first: C,
@@ -17,6 +19,14 @@ pub fn smallest<C: Clone>(
         }
         return (case, what);
     }
+}
+
+/// A panic differs too.
+pub fn caught<T>(run: impl FnOnce() -> Result<T, String>) -> Result<T, String> {
+    catch_unwind(AssertUnwindSafe(run)).unwrap_or_else(|panic| {
+        let text = panic.downcast_ref::<String>().cloned();
+        Err(format!("panic: {}", text.unwrap_or_default()))
+    })
 }
 
 /// Numbers nearer to zero than this one.

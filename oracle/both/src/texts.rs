@@ -3,6 +3,7 @@
 //! with the Rust beside ours. Where more than one check fails the answers are written out by hand.
 
 use crate::held::{Held, STATE};
+use crate::held_calls::{Call, EXTENT};
 use crate::judge::{KIND, ROOM};
 use crate::lent::Watched;
 use crate::random::Random;
@@ -11,10 +12,8 @@ use crate::scripts::{Operation, Value, ILL_FORMED};
 use crate::shrink::smallest;
 use crate::text_lists::{self, SHORT};
 use crate::tile_judge::{is_text, TEXT, TEXT_LIMIT, TURN, UTF8};
-use crate::tiles::{self, tag_lists};
-use ours::tiles::{layer, Changed, Figures, Head, Layer, Tile, Value as Given};
-
-const EXTENT: u32 = 4096;
+use crate::tiles;
+use ours::tiles::{layer, Changed, Figures, Layer, Tile};
 
 /// What is changed of ours before it is compared, to show that it is found.
 #[derive(Clone, Copy, PartialEq)]
@@ -207,15 +206,6 @@ fn random(seed: u64, count: usize, spoil: Spoil, tally: &mut Tally) -> Option<Di
         })
 }
 
-/// A call that is given texts.
-#[derive(Debug)]
-enum Call {
-    Name(Vec<u8>),
-    Tag(Vec<u8>, Value),
-    /// A whole feature of this kind.
-    Feature(u32, Vec<(Vec<u8>, Value)>),
-}
-
 /// A call on a layer whose feature is open (1) or not (0) or neither (2), with room or with none, and the refusal that comes first.
 #[derive(Debug)]
 struct Order {
@@ -319,45 +309,14 @@ fn orders(bad: &[u8]) -> Vec<Order> {
     found
 }
 
-/// What differs in the answer; a refused call gives the layer back and leaves every list as it is.
+/// What differs in the answer.
 fn out_of_order(order: &Order, spoil: Spoil) -> Option<String> {
-    let held = held(order.is_open, order.has_room);
-    let mut memory = held.lent();
-    let (mut lists, _) = memory.lent();
-    let given = held.layer;
-    let (mut said, back) = match &order.call {
-        Call::Name(name) => (layer(name, EXTENT, lists.texts), Layer::refused()),
-        Call::Tag(key, Value::Text(content)) => {
-            (given.add_tag(key, Given::Text(content), &mut lists), given)
-        }
-        Call::Tag(key, Value::Bits(kind, bits)) => (
-            given.add_tag(key, Given::Bits(*kind, *bits), &mut lists),
-            given,
-        ),
-        Call::Feature(kind, tags) => {
-            let tags: Vec<(&[u8], &Value)> = tags.iter().map(|(k, v)| (&k[..], v)).collect();
-            let (tags, bytes) = tag_lists(&tags);
-            let head = Head {
-                kind: *kind,
-                has_id: 0,
-                id: 0,
-            };
-            (
-                given.add_feature(head, &[], &tags, &bytes, &mut lists),
-                given,
-            )
-        }
+    let changed = |refusal| match (spoil, refusal) {
+        (Spoil::Order, UTF8) => TURN,
+        _ => refusal,
     };
-    if spoil == Spoil::Order && said.refusal == UTF8 {
-        said.refusal = TURN;
-    }
-    if said.refusal != order.refusal {
-        return Some(format!("refusal {}", said.refusal));
-    }
-    if order.refusal != 0 && said.layer != back {
-        return Some(format!("refused, and the layer is {:?}", said.layer));
-    }
-    memory.differs().filter(|_| order.refusal != 0)
+    let held = held(order.is_open, order.has_room);
+    order.call.differs(&held, order.refusal, changed)
 }
 
 fn in_order(spoil: Spoil, tally: &mut Tally) -> Option<Difference> {

@@ -13,6 +13,8 @@ pub const EXTENT: u32 = 13;
 pub const NAME: u32 = 14;
 /// A text that is not well-formed UTF-8: request (viii).
 pub const UTF8: u32 = 22;
+/// A key that the open feature of a strict layer already has: request (xiv). The Rust has no such layers.
+pub const AGAIN: u32 = 23;
 
 /// The most bytes of a text, from document 01.
 pub const TEXT_LIMIT: usize = 1_024;
@@ -39,6 +41,7 @@ pub fn refuses_texts(texts: &[&[u8]]) -> u32 {
 pub type Rooms = [usize; 6];
 
 /// The six lists of a layer and a tile.
+#[derive(Clone)]
 pub struct Memory {
     pub keys: Watched<u32>,
     pub values: Watched<u32>,
@@ -80,6 +83,25 @@ impl Memory {
             && figures.values <= (self.values.room() / 3).min(MAX_ENTRIES)
             && figures.texts <= self.texts.room()
             && figures.features <= self.features.room()
+    }
+
+    /// From now on each list is expected to hold what that memory's holds.
+    pub fn expect_like(&mut self, other: &Memory) {
+        self.keys.expect_like(&other.keys);
+        self.values.expect_like(&other.values);
+        self.texts.expect_like(&other.texts);
+        self.features.expect_like(&other.features);
+        self.names.expect_like(&other.names);
+        self.bytes.expect_like(&other.bytes);
+    }
+
+    /// Whether every guard is unharmed.
+    pub fn is_guarded(&self) -> bool {
+        [&self.keys, &self.values, &self.features, &self.names]
+            .iter()
+            .all(|list| list.kept(0))
+            && self.texts.kept(0)
+            && self.bytes.kept(0)
     }
 
     /// A key as that entry, its text at that place.

@@ -1,15 +1,16 @@
 //! Tile scripts through both, call by call: after every call the answer, the carried layer and tile, and every element of the six lists.
 
 use crate::caps;
-use crate::lent::Watched;
-use crate::many::{self, Together};
+use crate::features::Feature;
+use crate::many;
 use crate::near;
 use crate::random::Random;
 use crate::report::{Difference, Tally};
-use crate::scripts::{self, Operation, Value};
+use crate::scripts::{self, Operation};
 use crate::shrink;
-use crate::tile_judge::{is_text, Memory, Rooms, TileJudge, TEXT, UTF8};
-use ours::tiles::{self, Head, Indexes, Layer, Tile};
+use crate::side::{Said, Side};
+use crate::tile_cases::{bounds, disordered, peaks, rooms, simpler, Script};
+use crate::tile_judge::{is_text, TileJudge, TEXT, UTF8};
 
 /// What is changed of ours before it is compared, to show that it is found.
 #[derive(Clone, Copy, PartialEq)]
@@ -19,18 +20,6 @@ pub enum Spoil {
     Byte,
     /// UTF8 is said to be TEXT.
     Text,
-}
-
-#[derive(Clone, Debug)]
-struct Script {
-    extent: u32,
-    operations: Vec<Operation>,
-    /// Keys, values, texts, features, names, bytes.
-    rooms: Rooms,
-    /// Features that are opened and closed go through the call that takes a whole one.
-    whole: bool,
-    /// By which call they go, and which indexes are lent, starts with this turn.
-    turn: usize,
 }
 
 /// What was compared.
@@ -46,102 +35,10 @@ pub struct Counts {
     bytes: usize,
 }
 
-/// A feature that goes in by one call.
-struct Feature<'a> {
-    kind: u32,
-    words: &'a [u32],
-    id: Option<u64>,
-    tags: Vec<(&'a [u8], &'a Value)>,
-    operations: usize,
-}
-
-impl<'a> Feature<'a> {
-    /// The feature at the front, if it is opened, given ids and tags, and closed.
-    fn at(operations: &'a [Operation]) -> Option<Self> {
-        let Some(Operation::Open(kind, words)) = operations.first() else {
-            return None;
-        };
-        let (mut id, mut tags) = (None, Vec::new());
-        for (at, operation) in operations.iter().enumerate().skip(1) {
-            match operation {
-                Operation::SetId(given) => id = Some(*given),
-                Operation::Tag(key, value) => tags.push((&key[..], value)),
-                Operation::Close => {
-                    return Some(Feature {
-                        kind: *kind,
-                        words,
-                        id,
-                        tags,
-                        operations: at + 1,
-                    })
-                }
-                _ => return None,
-            }
-        }
-        None
-    }
-
-    /// So many features at the front at most, one behind the other.
-    fn several(operations: &'a [Operation], most: usize) -> Vec<Self> {
-        let (mut features, mut at) = (Vec::new(), 0);
-        while let Some(feature) = Feature::at(&operations[at..]).filter(|_| features.len() < most) {
-            at += feature.operations;
-            features.push(feature);
-        }
-        features
-    }
-
-    fn head(&self) -> Head {
-        Head {
-            kind: self.kind,
-            has_id: u32::from(self.id.is_some()),
-            id: self.id.unwrap_or(0),
-        }
-    }
-
-    /// The calls that it stands for.
-    fn calls(&self) -> Vec<Operation> {
-        let mut calls = vec![Operation::Open(self.kind, self.words.to_vec())];
-        calls.extend(self.id.map(Operation::SetId));
-        for (key, value) in &self.tags {
-            calls.push(Operation::Tag(key.to_vec(), (*value).clone()));
-        }
-        calls.push(Operation::Close);
-        calls
-    }
-
-    fn lists(&self) -> (Vec<u32>, Vec<u8>) {
-        tag_lists(&self.tags)
-    }
-}
-
-/// Tags as one call takes them, five words each, and the bytes of their texts.
-pub fn tag_lists(tags: &[(&[u8], &Value)]) -> (Vec<u32>, Vec<u8>) {
-    let (mut words, mut bytes) = (Vec::new(), Vec::new());
-    let mut put = |text: &[u8]| {
-        let place = [bytes.len() as u32, text.len() as u32];
-        bytes.extend(text);
-        place
-    };
-    for (key, value) in tags {
-        words.extend(put(key));
-        match value {
-            Value::Text(text) => {
-                words.push(scripts::TEXT);
-                words.extend(put(text));
-            }
-            Value::Bits(kind, bits) => words.extend([*kind, *bits as u32, (*bits >> 32) as u32]),
-        }
-    }
-    (words, bytes)
-}
-
 /// A run of both sides.
 struct Run {
     judge: TileJudge,
-    memory: Memory,
-    layer: Layer,
-    tile: Tile,
+    ours: Side,
     counts: Counts,
     /// The turn at the first call.
     turn: usize,
@@ -153,62 +50,20 @@ impl Run {
         self.turn + self.counts.calls
     }
 
-    /// One call of ours: its refusal, and the layer and the tile after it.
-    fn ours(&mut self, operation: &Operation) -> (u32, Layer, Tile) {
-        let (layer, tile, turn) = (self.layer, self.tile, self.turn());
-        let (mut lists, mut tile_lists) = self.memory.lent();
-        let lent = &mut lists;
-        let changed = match operation {
-            Operation::Create(extent, name) => {
-                // Both ways to a layer, by turns where both are one.
-                let made = if *extent == tile.extent && turn % 2 == 0 {
-                    tile.create_layer(name, lent.texts)
-                } else {
-                    tiles::layer(name, *extent, lent.texts)
-                };
-                if made.refusal != 0 {
-                    assert_eq!(made.layer, Layer::refused(), "a refused layer");
-                    return (made.refusal, layer, tile);
-                }
-                made
-            }
-            Operation::Open(kind, words) => layer.into_feature(*kind, words, lent),
-            Operation::SetId(id) => layer.set_id(*id, lent),
-            Operation::Tag(key, Value::Text(text)) => {
-                layer.add_tag(key, tiles::Value::Text(text), lent)
-            }
-            Operation::Tag(key, Value::Bits(kind, bits)) => {
-                layer.add_tag(key, tiles::Value::Bits(*kind, *bits), lent)
-            }
-            Operation::Close => layer.into_layer(lent),
-            Operation::Abandon => layer.abandon(lent),
-            Operation::Add => {
-                let added = tile.add_layer(layer, lent, &mut tile_lists);
-                if self.spoil == Spoil::Byte && added.refusal == 0 && added.tile.used > 12 {
-                    tile_lists.bytes[12] ^= 1;
-                }
-                return (added.refusal, layer, added.tile);
-            }
-        };
-        (changed.refusal, changed.layer, tile)
-    }
-
-    fn ours_whole(&mut self, feature: &Feature) -> (u32, Layer, Tile) {
-        let (tags, bytes) = feature.lists();
-        let (mut lists, _) = self.memory.lent();
-        let changed =
-            self.layer
-                .add_feature(feature.head(), feature.words, &tags, &bytes, &mut lists);
-        (changed.refusal, changed.layer, self.tile)
+    /// One call of ours.
+    fn called(&mut self, operation: &Operation) -> Said {
+        let said = self.ours.called(operation, self.turn());
+        let added = *operation == Operation::Add && said.0 == 0 && said.2.used > 12;
+        if added && self.spoil == Spoil::Byte {
+            self.ours.memory.bytes.lent()[12] ^= 1;
+        }
+        said
     }
 
     /// Features by one call, and what is expected of it: how many are accepted, the refusal, and what the indexes hold after it.
-    fn several(
-        &mut self,
-        features: &[Feature],
-    ) -> Result<(usize, u32, (u32, Layer, Tile)), String> {
+    fn several(&mut self, features: &[Feature]) -> Result<(usize, u32, Said), String> {
         // Which indexes are lent changes from call to call and from script to script.
-        let turn = self.turn() + self.memory.features.room();
+        let turn = self.turn() + self.ours.memory.features.room();
         let (mut accepted, mut refusal) = (0, 0);
         for feature in features {
             refusal = self.judged_whole(feature);
@@ -217,31 +72,19 @@ impl Run {
             }
             accepted += 1;
         }
-        let mut together = Together::default();
-        for feature in features {
-            let (tags, bytes) = feature.lists();
-            together.push(feature.head(), feature.words, &tags, &bytes);
-        }
-        let mut keys = Watched::new(many::words(self.memory.keys.room() / 2, turn));
-        let mut values = Watched::new(many::words(self.memory.values.room() / 3, turn / 4));
-        let (mut lists, _) = self.memory.lent();
-        let mut indexes = Indexes {
-            keys: keys.lent(),
-            values: values.lent(),
-        };
-        let said = self
-            .layer
-            .add_features(together.given(), &mut lists, &mut indexes);
+        let mut indexes = self.ours.indexes(turn);
+        let said = self.ours.several(features, &mut indexes);
         if said.count != accepted {
             return Err(format!(
                 "{} features accepted, expected {accepted}",
                 said.count
             ));
         }
+        let [mut keys, mut values] = indexes;
         // Without an accepted feature they stay.
         if accepted > 0 {
-            many::expect_keys(&mut keys, &self.memory, self.judge.layer.used);
-            many::expect_values(&mut values, &self.memory, self.judge.layer.used);
+            many::expect_keys(&mut keys, &self.ours.memory, self.judge.layer.used);
+            many::expect_values(&mut values, &self.ours.memory, self.judge.layer.used);
         }
         if let Some(differs) = keys
             .differs("keys' index")
@@ -250,7 +93,8 @@ impl Run {
             return Err(differs);
         }
         self.counts.many += 1;
-        Ok((accepted, refusal, (said.refusal, said.layer, self.tile)))
+        let said = (said.refusal, said.layer, self.ours.tile);
+        Ok((accepted, refusal, said))
     }
 
     /// What a whole feature is expected to answer. A refused one changes nothing; an accepted one is what its calls make, which are all accepted.
@@ -258,22 +102,17 @@ impl Run {
         let (kind, words) = (feature.kind, feature.words.len());
         let refusal = self
             .judge
-            .refuses_whole(kind, words, &feature.tags, &self.memory);
+            .refuses_whole(kind, words, &feature.tags, &self.ours.memory);
         if refusal == 0 {
             for call in feature.calls() {
-                let refused = self.judge.perform(&call, &mut self.memory);
+                let refused = self.judge.perform(&call, &mut self.ours.memory);
                 assert_eq!(refused, 0, "{call:?} of a feature that is accepted");
             }
         }
         refusal
     }
 
-    fn compared(
-        &mut self,
-        what: &str,
-        mut said: (u32, Layer, Tile),
-        refusal: u32,
-    ) -> Result<(), String> {
+    fn compared(&mut self, what: &str, mut said: Said, refusal: u32) -> Result<(), String> {
         if self.spoil == Spoil::Text && said.0 == UTF8 {
             said.0 = TEXT;
         }
@@ -282,10 +121,10 @@ impl Run {
         if said != wanted && (said.0 != wanted.0 || self.judge.has_layer() || said.2 != wanted.2) {
             return Err(format!("{what}: ours {said:?}, expected {wanted:?}"));
         }
-        if let Some(differs) = self.memory.differs() {
+        if let Some(differs) = self.ours.memory.differs() {
             return Err(format!("after {what}: {differs}"));
         }
-        (_, self.layer, self.tile) = said;
+        self.ours.carry(said);
         self.counts.calls += 1;
         self.counts.refused[refusal as usize] += 1;
         self.asked(what)
@@ -296,8 +135,8 @@ impl Run {
         let wanted_tile = self.judge.sizes();
         let has_layer = self.judge.has_layer();
         let (features, tags) = (self.judge.num_features(), self.judge.num_tags());
-        let (layer, tile) = (self.layer, self.tile);
-        let (mut lists, tile_lists) = self.memory.lent();
+        let (layer, tile) = (self.ours.layer, self.ours.tile);
+        let (mut lists, tile_lists) = self.ours.memory.lent();
         let told = [
             tile.num_layers(&tile_lists),
             tile.compute_size(&tile_lists),
@@ -323,7 +162,7 @@ impl Run {
                 ));
             }
         }
-        match self.memory.differs() {
+        match self.ours.memory.differs() {
             Some(differs) => Err(format!("after asking: {differs}")),
             None => Ok(()),
         }
@@ -333,9 +172,7 @@ impl Run {
 fn run(script: &Script, spoil: Spoil) -> Result<Counts, String> {
     let mut run = Run {
         judge: TileJudge::new(script.extent),
-        memory: Memory::new(script.rooms),
-        layer: Layer::default(),
-        tile: tiles::tile(script.extent),
+        ours: Side::new(script.extent, script.rooms, false),
         counts: Counts::default(),
         turn: script.turn,
         spoil,
@@ -356,14 +193,14 @@ fn run(script: &Script, spoil: Spoil) -> Result<Counts, String> {
             [] => {
                 at += 1;
                 (
-                    run.judge.perform(operation, &mut run.memory),
-                    run.ours(operation),
+                    run.judge.perform(operation, &mut run.ours.memory),
+                    run.called(operation),
                 )
             }
             [feature] if run.turn() % 2 == 0 => {
                 run.counts.whole += 1;
                 at += feature.operations;
-                (run.judged_whole(feature), run.ours_whole(feature))
+                (run.judged_whole(feature), run.ours.whole(feature))
             }
             several => {
                 let (accepted, refusal, said) = run
@@ -383,10 +220,7 @@ fn run(script: &Script, spoil: Spoil) -> Result<Counts, String> {
 }
 
 fn tried(script: &Script, spoil: Spoil) -> Result<Counts, String> {
-    std::panic::catch_unwind(|| run(script, spoil)).unwrap_or_else(|panic| {
-        let text = panic.downcast_ref::<String>().cloned();
-        Err(format!("panic: {}", text.unwrap_or_default()))
-    })
+    shrink::caught(|| run(script, spoil))
 }
 
 /// A script with more room than it can use: what was compared, or what differs.
@@ -404,185 +238,6 @@ pub fn answers(
         turn,
     };
     tried(&script, spoil)
-}
-
-/// More than a script can use of each list.
-fn bounds(operations: &[Operation]) -> Rooms {
-    let (mut tags, mut texts, mut words, mut adds) = (0, 0, 0, 0);
-    for operation in operations {
-        match operation {
-            Operation::Create(_, name) => texts += name.len(),
-            Operation::Open(_, given) => words += 6 + given.len(),
-            Operation::Tag(key, value) => {
-                tags += 1;
-                texts += key.len() + value.text().len();
-            }
-            Operation::Add => adds += 1,
-            _ => {}
-        }
-    }
-    let layer = 5 * (words + 2 * tags) + texts + 40 * operations.len() + 64;
-    [
-        2 * tags,
-        3 * tags,
-        texts,
-        words + 2 * tags,
-        2 * adds,
-        adds * layer,
-    ]
-}
-
-/// What a script uses of each list where there is room.
-fn peaks(extent: u32, operations: &[Operation]) -> Rooms {
-    let mut judge = TileJudge::new(extent);
-    let mut memory = Memory::new(bounds(operations));
-    for operation in operations {
-        if judge.has_layer() || matches!(operation, Operation::Create(..)) {
-            judge.perform(operation, &mut memory);
-        }
-    }
-    judge.peaks
-}
-
-/// By turns more than enough room, just enough, and less in one list or two.
-fn rooms(peaks: Rooms, random: &mut Random, at: usize) -> Rooms {
-    match at % 3 {
-        0 => peaks.map(|peak| peak + 9),
-        1 => peaks,
-        _ => {
-            let mut rooms = peaks;
-            for _ in 0..1 + random.below(2) {
-                let list = random.below(6);
-                rooms[list] = random.below(peaks[list].max(1));
-            }
-            rooms
-        }
-    }
-}
-
-fn simpler(script: &Script) -> Vec<Script> {
-    let mut found = Vec::new();
-    let mut push = |change: &dyn Fn(&mut Script)| {
-        let mut next = script.clone();
-        change(&mut next);
-        found.push(next);
-    };
-    for at in 0..script.operations.len() {
-        push(&|next| {
-            next.operations.remove(at);
-        });
-    }
-    for (at, operation) in script.operations.iter().enumerate() {
-        for smaller in smaller(operation) {
-            push(&|next| next.operations[at] = smaller.clone());
-        }
-    }
-    if script.whole {
-        push(&|next| next.whole = false);
-    }
-    for list in 0..6 {
-        for room in [script.rooms[list] / 2, script.rooms[list].saturating_sub(1)] {
-            if room < script.rooms[list] {
-                push(&|next| next.rooms[list] = room);
-            }
-        }
-    }
-    found
-}
-
-fn smaller(operation: &Operation) -> Vec<Operation> {
-    let shorter = |text: &[u8]| -> Vec<Vec<u8>> {
-        // A text is cut where what is left is one.
-        let good = is_text(text);
-        [0, text.len() / 2, text.len().saturating_sub(1)]
-            .into_iter()
-            .filter(|cut| *cut < text.len() && (!good || is_text(&text[..*cut])))
-            .map(|cut| text[..cut].to_vec())
-            .collect()
-    };
-    match operation {
-        Operation::Create(extent, name) => shorter(name)
-            .into_iter()
-            .map(|name| Operation::Create(*extent, name))
-            .collect(),
-        Operation::Open(kind, words) => {
-            let mut found = Vec::new();
-            for cut in [0, words.len() / 2, words.len().saturating_sub(1)] {
-                if cut < words.len() {
-                    found.push(Operation::Open(*kind, words[..cut].to_vec()));
-                }
-            }
-            for at in 0..words.len().min(16) {
-                if words[at] > 0 {
-                    let mut next = words.clone();
-                    next[at] = 0;
-                    found.push(Operation::Open(*kind, next));
-                }
-            }
-            found
-        }
-        Operation::SetId(id) if *id > 0 => vec![Operation::SetId(id / 2)],
-        Operation::Tag(key, value) => {
-            let mut found: Vec<Operation> = shorter(key)
-                .into_iter()
-                .map(|key| Operation::Tag(key, value.clone()))
-                .collect();
-            match value {
-                Value::Text(text) => found.extend(
-                    shorter(text)
-                        .into_iter()
-                        .map(|text| Operation::Tag(key.clone(), Value::Text(text))),
-                ),
-                Value::Bits(kind, bits) if *bits > 0 => {
-                    found.push(Operation::Tag(key.clone(), Value::Bits(*kind, bits / 2)))
-                }
-                _ => {}
-            }
-            found
-        }
-        _ => Vec::new(),
-    }
-}
-
-/// A script with operations doubled, moved, left out or spoiled: more turns, kinds and texts that are refused, and accepted calls after them.
-fn disordered(random: &mut Random, mut operations: Vec<Operation>) -> Vec<Operation> {
-    for _ in 0..1 + random.below(4) {
-        let count = operations.len();
-        if count == 0 {
-            break;
-        }
-        let (at, to) = (random.below(count), random.below(count));
-        match random.below(5) {
-            0 => operations.insert(to, operations[at].clone()),
-            1 => operations.swap(at, to),
-            2 => {
-                operations.remove(at);
-            }
-            3 => {
-                let extent = random.pick(&[0, 4096]);
-                operations.insert(to, Operation::Create(extent, b"a".to_vec()));
-            }
-            _ => spoil(random, &mut operations[at]),
-        }
-    }
-    operations
-}
-
-/// A kind that is none, or a text that is not UTF-8, about as long as the limit, or both.
-fn spoil(random: &mut Random, operation: &mut Operation) {
-    let mut text = vec![b't'; random.between(1023, 1026) as usize];
-    match random.below(4) {
-        0 => text[0] = 0xe9,
-        1 => text = random.pick(&scripts::ILL_FORMED).to_vec(),
-        _ => {}
-    }
-    match operation {
-        Operation::Create(_, name) => *name = text,
-        Operation::Open(kind, _) => *kind = random.pick(&[0, 4, 7, u32::MAX]),
-        Operation::Tag(_, Value::Text(content)) if random.chance(2) => *content = text,
-        Operation::Tag(key, _) => *key = text,
-        _ => {}
-    }
 }
 
 /// Whether all its texts are UTF-8.
@@ -754,7 +409,7 @@ pub fn compare(seed: u64, count: usize, spoil: Spoil, tally: &mut Tally) -> Opti
         }
     }
     let found = too_wide(spoil, tally)
-        .or_else(|| caps::compare(tally))
+        .or_else(|| caps::compare(false, tally))
         .or_else(|| near_full(seed, count / 10, spoil, tally));
     if found.is_some() {
         return found;

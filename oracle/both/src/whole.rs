@@ -1,9 +1,9 @@
 //! Whole features by the rules, written out: what a call with one of them, or with many, answers, and what the layer and its lists are after it.
-//! JOB, KIND, STATE, TEXT, UTF8, TURN, and ROOM last, of the exact need; only then is anything written, so that a refused feature changes nothing.
+//! JOB, KIND, STATE, TEXT, UTF8, TURN, in a strict layer AGAIN, and ROOM last, of the exact need; only then is anything written, so that a refused feature changes nothing.
 
 use crate::held::{inside, is_value, Held, STATE};
 use crate::judge::{JOB, KIND, MAX_WORDS, ROOM};
-use crate::tile_judge::{is_text, MAX_ENTRIES, TEXT, TEXT_LIMIT, TURN, UTF8};
+use crate::tile_judge::{is_text, AGAIN, MAX_ENTRIES, TEXT, TEXT_LIMIT, TURN, UTF8};
 use ours::tiles::{Features, Figures, Head, Layer};
 
 /// A feature with its geometry words, its tags of five words each, and the bytes of their texts.
@@ -37,6 +37,17 @@ impl Whole<'_> {
         self.tags
             .chunks(5)
             .any(|tag| bad(tag[0], tag[1]) || tag[2] == 1 && bad(tag[3], tag[4]))
+    }
+
+    /// Whether a tag has the key of an earlier one.
+    fn repeats(&self) -> bool {
+        let mut before = Vec::new();
+        self.tags.chunks(5).any(|tag| {
+            let key = text(self.bytes, tag[0], tag[1]);
+            let known = before.contains(&key);
+            before.push(key);
+            known
+        })
     }
 }
 
@@ -150,6 +161,9 @@ impl Held {
         }
         if self.layer.is_open == 1 {
             return TURN;
+        }
+        if self.layer.is_strict == 1 && whole.repeats() {
+            return AGAIN;
         }
         let mut grown = Grown::of(self);
         grown.put(whole);

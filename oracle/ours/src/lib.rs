@@ -3,7 +3,7 @@
 pub mod tiles;
 
 /// The number of the interface that is written down here; the archives have to be of it.
-pub const VERSION: u32 = 5;
+pub const VERSION: u32 = 6;
 
 #[repr(C)]
 #[derive(Clone, Copy, Debug, Default, PartialEq)]

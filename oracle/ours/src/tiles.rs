@@ -14,6 +14,7 @@ pub struct Figures {
 pub struct Layer {
     pub extent: u32,
     pub is_open: u32,
+    pub is_strict: u32,
     pub name: usize,
     pub used: Figures,
     pub since: Figures,
@@ -176,8 +177,22 @@ mod c {
             texts: *mut u8,
             texts_len: usize,
         ) -> Changed;
+        pub fn bp_strict_layer_new(
+            name: *const u8,
+            name_len: usize,
+            extent: u32,
+            texts: *mut u8,
+            texts_len: usize,
+        ) -> Changed;
         pub fn bp_tile_new(extent: u32) -> Tile;
         pub fn bp_create_layer(
+            tile: Tile,
+            name: *const u8,
+            name_len: usize,
+            texts: *mut u8,
+            texts_len: usize,
+        ) -> Changed;
+        pub fn bp_create_strict_layer(
             tile: Tile,
             name: *const u8,
             name_len: usize,
@@ -261,8 +276,21 @@ pub fn layer(name: &[u8], extent: u32, texts: &mut [u8]) -> Changed {
     }
 }
 
+/// A layer in which a feature has a key once.
+pub fn strict_layer(name: &[u8], extent: u32, texts: &mut [u8]) -> Changed {
+    unsafe {
+        c::bp_strict_layer_new(
+            name.as_ptr(),
+            name.len(),
+            extent,
+            texts.as_mut_ptr(),
+            texts.len(),
+        )
+    }
+}
+
 impl Layer {
-    /// What a refused new layer gives: its name runs past its texts, so every call refuses it as STATE.
+    /// What a refused new layer gives, strict or not: its name runs past its texts, so every call refuses it as STATE.
     pub fn refused() -> Layer {
         Layer {
             name: 1,
@@ -407,6 +435,18 @@ impl Tile {
     pub fn create_layer(self, name: &[u8], texts: &mut [u8]) -> Changed {
         unsafe {
             c::bp_create_layer(
+                self,
+                name.as_ptr(),
+                name.len(),
+                texts.as_mut_ptr(),
+                texts.len(),
+            )
+        }
+    }
+
+    pub fn create_strict_layer(self, name: &[u8], texts: &mut [u8]) -> Changed {
+        unsafe {
+            c::bp_create_strict_layer(
                 self,
                 name.as_ptr(),
                 name.len(),

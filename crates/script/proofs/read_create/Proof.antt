@@ -19,20 +19,20 @@ read-text-requires c κs = search needs
 enum-known-name : tie.Need-enum-known-name
 enum-known-name c = search needs
 
-mul-t9 : tie.Need-mul-t9
-mul-t9 c = search needs
+mul-t10 : tie.Need-mul-t10
+mul-t10 c = search needs
 
-shared-slice-read-t11 : tie.Need-shared-slice-read-t11
-shared-slice-read-t11 c = search needs
+shared-slice-read-t12 : tie.Need-shared-slice-read-t12
+shared-slice-read-t12 c = search needs
 
 enum-told : tie.Need-enum-told
 enum-told c = search needs
 
 returns-2 : tie.Need-returns-2
-returns-2 c = let k = c .before .before .before .before in let s = k .before .before .before in create-is _ (s .args .numbers .now) (s .args .at) (search needs) (k .read-text .ensures) _ _ (c .before .before .name .given .1)
+returns-2 c = let k = c .before .before .before .before in let s = k .before .before .before in create-is _ (s .args .numbers .now) (s .args .at) (s .args .strict) (search needs) (k .read-text .ensures) _ _ (c .before .before .name .given .1)
 
 returns-3 : tie.Need-returns-3
-returns-3 c = let k = c .before .before in let s = k .before .before .before in create-bad _ (s .args .numbers .now) (s .args .at) (search needs) (k .read-text .ensures) (c .enum-told .given .1)
+returns-3 c = let k = c .before .before in let s = k .before .before .before in create-bad _ (s .args .numbers .now) (s .args .at) (s .args .strict) (search needs) (k .read-text .ensures) (c .enum-told .given .1)
 
 pub read-create-spec : {M : Type 1} → statement M
 read-create-spec =
@@ -42,8 +42,8 @@ read-create-spec =
     add-read-text
     read-text-requires
     enum-known-name
-    mul-t9
-    shared-slice-read-t11
+    mul-t10
+    shared-slice-read-t12
     enum-told
     returns-2
     returns-3)

@@ -58,9 +58,16 @@ returns-8 : tie.Need-returns-8
 unfolding operation
 returns-8 c = search (needs, tests)
 
+read-create-requires-2 : tie.Need-read-create-requires-2
+read-create-requires-2 c κs = search needs
+
 returns-9 : tie.Need-returns-9
 unfolding operation
 returns-9 c = search (needs, tests)
+
+returns-10 : tie.Need-returns-10
+unfolding operation
+returns-10 c = search (needs, tests)
 
 pub read-op-spec : {M : Type 1} → statement M
 read-op-spec =
@@ -81,4 +88,6 @@ read-op-spec =
     returns-6
     returns-7
     returns-8
-    returns-9)
+    read-create-requires-2
+    returns-9
+    returns-10)

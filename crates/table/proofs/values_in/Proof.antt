@@ -1,7 +1,7 @@
 -- The loop's invariant: all values are values where those from i on are.
 use Prim.Native.Nat.{_-_}
 use lib.ListN.{length}
-use Rattle.table.proofs.Values.{All, all-start, all-ends-odd, all-ends, all-bad, all-further}
+use Rattle.table.proofs.Values.{All, all-start, all-ends, all-bad, all-further}
 use Rattle.table.proofs.values_in.Statement.{statement}
 use Rattle.table.proofs.values_in.Tie as tie
 use borrow.Author.Needs.{needs}
@@ -15,11 +15,8 @@ abbrev μ-loop : tie.MeasureT-loop
 loop-holds : tie.Need-loop-holds Inv-loop μ-loop
 loop-holds c = all-start _ _
 
-sub-if1 : tie.Need-sub-if1 Inv-loop μ-loop
-sub-if1 c = search needs
-
-returns : tie.Need-returns Inv-loop μ-loop
-returns c = search (needs, all-ends-odd)
+sub-loop : tie.Need-sub-loop Inv-loop μ-loop
+sub-loop c = search needs
 
 mul-value-ok : tie.Need-mul-value-ok Inv-loop μ-loop
 mul-value-ok c = search needs
@@ -48,8 +45,8 @@ shared-slice-read-value-ok-3 c = search needs
 value-ok-requires : tie.Need-value-ok-requires Inv-loop μ-loop
 value-ok-requires c κs = search needs
 
-returns-2 : tie.Need-returns-2 Inv-loop μ-loop
-returns-2 c = search (needs, all-bad)
+returns : tie.Need-returns Inv-loop μ-loop
+returns c = search (needs, all-bad)
 
 add-i : tie.Need-add-i Inv-loop μ-loop
 add-i c = search needs
@@ -59,10 +56,10 @@ loop-less c = search needs
 
 loop-again : tie.Need-loop-again Inv-loop μ-loop
 loop-again c = let e = c .before .before .before .before .before in
-    all-further _ _ _ (e .before .before .loop .inv) (e .if1 .left) _ (c .before .value-ok .ensures) (c .if2 .left)
+    all-further _ _ _ (e .before .loop .inv) (e .loop-test .taken) _ (c .before .value-ok .ensures) (c .if1 .left)
 
-returns-3 : tie.Need-returns-3 Inv-loop μ-loop
-returns-3 c = search (needs, all-ends)
+returns-2 : tie.Need-returns-2 Inv-loop μ-loop
+returns-2 c = search (needs, all-ends)
 
 pub values-in-spec : {M : Type 1} → statement M
 values-in-spec =
@@ -71,8 +68,7 @@ values-in-spec =
     Inv-loop
     μ-loop
     loop-holds
-    sub-if1
-    returns
+    sub-loop
     mul-value-ok
     shared-slice-read-value-ok
     add-value-ok
@@ -82,8 +78,8 @@ values-in-spec =
     mul-value-ok-3
     shared-slice-read-value-ok-3
     value-ok-requires
-    returns-2
+    returns
     add-i
     loop-less
     loop-again
-    returns-3)
+    returns-2)

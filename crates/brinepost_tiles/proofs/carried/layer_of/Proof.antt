@@ -1,7 +1,5 @@
--- By the flag, then field by field.
-use Rattle.promise.proofs.Cases.{tests}
-use Rattle.brinepost_tiles.specs.Carried.{layerOf}
-use Rattle.brinepost_tiles.proofs.Carrying.{layer-read}
+-- By flag and mark in one test, then field by field.
+use Rattle.brinepost_tiles.proofs.Carrying.{layer-read, layer-broken}
 use borrow.Author.Needs.{needs}
 use Rattle.brinepost_tiles.proofs.carried.layer_of.Statement.{statement}
 use Rattle.brinepost_tiles.proofs.carried.layer_of.Tie as tie
@@ -10,8 +8,7 @@ broken-layer-requires : tie.Need-broken-layer-requires
 broken-layer-requires c κs = search needs
 
 returns : tie.Need-returns
-unfolding layerOf
-returns c = search (needs, tests)
+returns c = search (needs, layer-broken)
 
 figures-of-requires : tie.Need-figures-of-requires
 figures-of-requires c κs = search needs

@@ -88,7 +88,7 @@ returns c =
     let t = c .before .before .before .before .before in
     let o = t .before .before in
     let s = start (o .before .before) in
-    create-op _ _ (s .args .op) (s .args .w) _ _ _ (c .keep .ensures) _ _ _ _ (o .op .given .1) (t .text .ensures) (c .before .before .before .create .ensures)
+    create-op _ _ (s .args .op) (s .args .w) _ _ _ (c .keep .ensures) _ _ _ _ _ (o .op .given .1) (t .text .ensures) (c .before .before .before .create .ensures)
 
 same-length-2 : tie.Need-same-length-2
 same-length-2 c = search needs

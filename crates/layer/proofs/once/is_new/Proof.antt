@@ -1,13 +1,10 @@
--- An ordinary layer takes every key; a strict one is asked for its last tag words.
+-- The last tag words are asked for the key.
 use lib.Seq.{length-take-le}
 use mathlib.Core.Path.{sym}
-use Rattle.layer.proofs.Repeating.{takes-any, takes-told}
+use Rattle.layer.proofs.Repeating.{new-told}
 use borrow.Author.Needs.{needs}
-use Rattle.layer.proofs.once.takes_key.Statement.{statement}
-use Rattle.layer.proofs.once.takes_key.Tie as tie
-
-returns : tie.Need-returns
-returns c = search (needs, takes-any)
+use Rattle.layer.proofs.once.is_new.Statement.{statement}
+use Rattle.layer.proofs.once.is_new.Tie as tie
 
 mul-k : tie.Need-mul-k
 mul-k c = search needs
@@ -48,14 +45,13 @@ part-has-key-end c = search needs
 has-key-requires : tie.Need-has-key-requires
 has-key-requires c κs = search needs
 
-returns-2 : tie.Need-returns-2
-returns-2 c = search (needs, takes-told)
+returns : tie.Need-returns
+returns c = search (needs, new-told)
 
-pub takes-key-spec : {M : Type 1} → statement M
-takes-key-spec =
+pub is-new-spec : {M : Type 1} → statement M
+is-new-spec =
     tie.close
     (tie.spec
-    returns
     mul-k
     add-wide
     mul-wide
@@ -69,4 +65,4 @@ takes-key-spec =
     part-has-key-start
     part-has-key-end
     has-key-requires
-    returns-2)
+    returns)
