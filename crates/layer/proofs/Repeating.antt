@@ -11,19 +11,23 @@ use Rattle.promise.specs.Answers.{Gives}
 use Rattle.promise.specs.Widened.{Wide}
 use Rattle.promise.proofs.Steps.{next}
 use Rattle.refusal.specs.declared.Refusal.{Refusal}
-use Rattle.refusal.specs.declared.Refusal.the-variants.{Again}
+use Rattle.refusal.specs.declared.Refusal.the-variants.{State, Text as TextRefusal, Utf8, Again}
 use Rattle.refusal.specs.Said.{Said}
-use Rattle.table.specs.Texts.{sameText, textOf}
+use Rattle.table.specs.Texts.{shortText, sameText, textOf}
+use Rattle.utf8.specs.Utf8.{isUtf8}
 use Rattle.layer.specs.declared.Figures.{Figures}
 use Rattle.layer.specs.declared.Layer.{Layer}
+use Rattle.layer.specs.declared.Open.the-variants.{Since}
 use Rattle.layer.specs.declared.Created.{Created}
 use Rattle.layer.specs.declared.Created.the-variants.{Done, Refused}
-use Rattle.layer.specs.Held.{Memory, mem, heldBy, Change, check, written}
+use Rattle.layer.specs.Held.{Memory, mem, heldBy, seen, Change, check, written}
+use Rattle.layer.specs.State.{valid}
 use Rattle.layer.specs.Answers.{saidCreated}
-use Rattle.layer.specs.Calls.{isKey, hasKey, lastTags, takesKey, created, chosen, strictly, createdStrict}
+use Rattle.layer.specs.Calls.{Tag, isKey, hasKey, lastTags, takesKey, tagged, taggedOnce, addTag, created, chosen, strictly, createdStrict}
 use Rattle.layer.specs.TagLists.{keyGiven, keysOnce, onceAt, takesKeys}
 use Rattle.layer.specs.Steps.{Ready, TagsThere}
 use Rattle.layer.proofs.Fitting.{fit}
+use Rattle.layer.proofs.Chains.{one-open}
 use Rattle.layer.proofs.Listing.{five}
 use Rattle.layer.proofs.Walking.{Looks}
 
@@ -73,12 +77,12 @@ tags-part fs w o n h s p =
 pub new-told : (u o : Figures) (ks ts fs key : List ℕ) → TagsThere u o ks ts fs → (n : ℕ) → Wide (getD fs (o .features + 4) 0) n → (b : Bool) → b ≡ hasKey (take (u .keys * 2) ks) (take (u .texts) ts) (take (u .features - (u .features - n)) (drop (u .features - n) fs)) key → not b ≡ takesKey true (heldBy u (mem ks [] ts fs)) (o .features) key
 new-told u o ks ts fs key T n p b g = rw (← tags-part fs (u .features) (o .features) n (T .in-features) (T .six) p, ← g)
 
--- ---- `tag_once`: the two sorts of layer
+-- ---- the two sorts of layer
 module _ (b : Bool) (s : Layer) (m : Memory) (h : Memory) (at : ℕ) (key : List ℕ) (c : Change) (r : Said Layer) (n : Memory) where
-  pub as-strict : b ≡ true → Gives (written (check (takesKey true h at key) Again c) s m) r n → Gives (written (check (takesKey b h at key) Again c) s m) r n
+  as-strict : b ≡ true → Gives (written (check (takesKey true h at key) Again c) s m) r n → Gives (written (check (takesKey b h at key) Again c) s m) r n
   as-strict e g = rw e g
 
-  pub as-ordinary : b ≡ false → Gives (written c s m) r n → Gives (written (check (takesKey b h at key) Again c) s m) r n
+  as-ordinary : b ≡ false → Gives (written c s m) r n → Gives (written (check (takesKey b h at key) Again c) s m) r n
   as-ordinary e g = rw e g
 
 -- what a tag's call has told
@@ -112,3 +116,31 @@ module _ (name : List ℕ) (extent : ℕ) (ts us : List ℕ) (r : Created) (g : 
 
   pub strict-refused : (q : Refusal) → r ≡ Refused q → Gives (createdStrict name extent ts) (saidCreated (Refused q)) us
   strict-refused q e = record { answer = ap strictly (ap saidCreated (sym e) ∙ g .answer); memory = g .memory }
+
+-- ---- `add_tag`: where all is asked up to TURN, it is what a tag of the open feature makes
+pub record TagAsked (t : Tag) (s : Layer) (m : Memory) (o : Figures) : Type 0 where
+  pub stands : valid (seen s m) ≡ true
+  pub short-key : shortText (length (t .key)) ≡ true
+  pub short-text : shortText (length (t .text)) ≡ true
+  pub utf8-key : isUtf8 (t .key) ≡ true
+  pub utf8-text : isUtf8 (t .text) ≡ true
+  pub since : s .feature ≡ Since o
+
+past : (b : Bool) (q : Refusal) (c : Change) (s : Layer) (m : Memory) (r : Said Layer) (n : Memory) → b ≡ true → Gives (written c s m) r n → Gives (written (check b q c) s m) r n
+past b q c s m r n e g = rw e g
+
+module _ (t : Tag) (s : Layer) (m : Memory) (o : Figures) (A : TagAsked t s m o) (r : Said Layer) (n : Memory) where
+  tag-asked : Gives (written (taggedOnce t (seen s m) o) s m) r n → Gives (written (addTag t (seen s m)) s m) r n
+  tag-asked g =
+      past (valid (seen s m)) State _ s m r n (A .stands)
+      (past (shortText (length (t .key))) TextRefusal _ s m r n (A .short-key)
+      (past (shortText (length (t .text))) TextRefusal _ s m r n (A .short-text)
+      (past (isUtf8 (t .key)) Utf8 _ s m r n (A .utf8-key)
+      (past (isUtf8 (t .text)) Utf8 _ s m r n (A .utf8-text)
+      (one-open (s .feature) (λ p. taggedOnce t (seen s m) p) s m o (A .since) r n g)))))
+
+  pub tag-strictly : s .strict ≡ true → Gives (written (check (takesKey true (seen s m .held) (o .features) (t .key)) Again (tagged t (seen s m) o)) s m) r n → Gives (written (addTag t (seen s m)) s m) r n
+  tag-strictly e g = tag-asked (as-strict (s .strict) s m (seen s m .held) (o .features) (t .key) (tagged t (seen s m) o) r n e g)
+
+  pub tag-plainly : s .strict ≡ false → Gives (written (tagged t (seen s m) o) s m) r n → Gives (written (addTag t (seen s m)) s m) r n
+  tag-plainly e g = tag-asked (as-ordinary (s .strict) s m (seen s m .held) (o .features) (t .key) (tagged t (seen s m) o) r n e g)

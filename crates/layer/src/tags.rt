@@ -5,7 +5,7 @@ ghost use mathlib.Core.Bool.{true};
 ghost use lib.ListN.{length};
 ghost use Rattle.refusal.specs.declared.Refusal.the-variants.{Again};
 ghost use Rattle.table.specs.Values.{floatKind, doubleKind, intKind, uintKind, sintKind, boolKind};
-ghost use Rattle.layer.specs.Calls.{tagged, takesKey, taggedOnce, addTag, bitsOf, bitOf, tagString, tagBits};
+ghost use Rattle.layer.specs.Calls.{tagged, takesKey, addTag, bitsOf, bitOf, tagString, tagBits};
 ghost use Rattle.layer.specs.Steps.{Ready};
 ghost use Rattle.layer.specs.Held.{check};
 ghost use Rattle.layer.specs.Lending.{Does, given, lists};
@@ -84,27 +84,6 @@ fn tag_strict(
     tag_open(s, o, key, v, text, keys, values, texts, features)
 }
 
-// A tag of the feature opened at o, if the layer takes its key and it has room.
-fn tag_once(
-    s: Layer,
-    o: Figures,
-    key: &[u8],
-    v: Value,
-    text: &[u8],
-    keys: &mut [u32],
-    values: &mut [u32],
-    texts: &mut [u8],
-    features: &mut [u32],
-) -> Changed
-    requires { ⌜ Ready s o (length (now key)) (length (now text)) (lists keys values texts features) ⌝ }
-    ensures { λ r. ⌜ Does (λ w. taggedOnce (given key v text) w o) s r keys values texts features ⌝ }
-{
-    if s.strict {
-        return tag_strict(s, o, key, v, text, keys, values, texts, features);
-    }
-    tag_open(s, o, key, v, text, keys, values, texts, features)
-}
-
 // The one tag call behind the seven: v is the value, and text its text where it is one.
 fn add_tag(
     s: Layer,
@@ -137,7 +116,10 @@ fn add_tag(
     let Open::Since(o) = f else {
         return Changed::Refused(Refusal::Turn, s);
     };
-    tag_once(s, o, key, v, text, keys, values, texts, features)
+    if s.strict {
+        return tag_strict(s, o, key, v, text, keys, values, texts, features);
+    }
+    tag_open(s, o, key, v, text, keys, values, texts, features)
 }
 
 // The six whose value is no text: its content is given by its 64 bits.

@@ -1,14 +1,16 @@
--- The refusals are the chain's, and behind them it is what `tag_once` makes of an open feature.
+-- The refusals are the chain's; behind them a strict layer asks AGAIN, and an ordinary one's is what `tag_open` makes of an open feature.
+use mathlib.Core.Path.{_≡_}
+use Rattle.layer.specs.declared.Figures.{Figures}
+use Rattle.layer.specs.declared.Open.the-variants.{Since}
+use Rattle.layer.specs.Held.{mem}
 use Rattle.layer.proofs.Chains.{chain}
-use Rattle.layer.proofs.Standing.{tag-ready}
+use Rattle.layer.proofs.Standing.{answered, tag-ready}
+use Rattle.layer.proofs.Repeating.{TagAsked, tag-strictly, tag-plainly}
 use borrow.Author.Needs.{needs}
 use Rattle.layer.proofs.tags.add_tag.Statement.{statement}
 use Rattle.layer.proofs.tags.add_tag.Tie as tie
 
 -- the places on the way
-abbrev at-match-keys1-before-tag-once-arg4 : tie.After-tag-once-arg4 → tie.At-match-keys1
-at-match-keys1-before-tag-once-arg4 c = c .before .before .before .before .before .before
-
 abbrev may-have2-before-at-match-keys1 : tie.At-match-keys1 → tie.After-may-have2
 may-have2-before-at-match-keys1 c = c .before .before .before .before .before .before
 
@@ -17,6 +19,53 @@ is-valid-arg3-before-may-have2 c = c .before .before .before .before .before .be
 
 abbrev slice-known-before-is-valid-arg3 : tie.After-is-valid-arg3 → tie.After-slice-known
 slice-known-before-is-valid-arg3 c = c .before .before .before .before .before .before
+
+abbrev else3-before-f : tie.After-f → tie.Else3
+else3-before-f c = c .before .before .before .before .before .before
+
+abbrev at-match-keys1-before-tag-strict-arg3 : tie.After-tag-strict-arg3 → tie.At-match-keys1
+at-match-keys1-before-tag-strict-arg3 c = c .before .before .before .before .before .before
+
+abbrev keys-before-features : tie.After-features → tie.After-keys
+keys-before-features c = c .before .before .before .before .before .before
+
+abbrev then6-before-keys : tie.After-keys → tie.Then6
+then6-before-keys c = c .before .before .before .before .before .before
+
+abbrev else4-before-then6 : tie.Then6 → tie.Else4
+else4-before-then6 c = c .before .before .before .before .before .before
+
+abbrev else1-before-else4 : tie.Else4 → tie.Else1
+else1-before-else4 c = c .before .before .before .before .before .before
+
+abbrev slice-known4-before-else1 : tie.Else1 → tie.After-slice-known4
+slice-known4-before-else1 c = c .before .before .before .before .before .before
+
+abbrev start-before-slice-known4 : tie.After-slice-known4 → tie.Start
+start-before-slice-known4 c = c .before .before .before .before .before .before
+
+abbrev at-match-keys1-before-tag-open-arg3 : tie.After-tag-open-arg3 → tie.At-match-keys1
+at-match-keys1-before-tag-open-arg3 c = c .before .before .before .before .before .before
+
+abbrev keys2-before-features2 : tie.After-features2 → tie.After-keys2
+keys2-before-features2 c = c .before .before .before .before .before .before
+
+abbrev else6-before-keys2 : tie.After-keys2 → tie.Else6
+else6-before-keys2 c = c .before .before .before .before .before .before
+
+abbrev else4-before-else6 : tie.Else6 → tie.Else4
+else4-before-else6 c = c .before .before .before .before .before .before
+
+at-asked : (c : tie.After-known-told) → let g = slice-known-before-is-valid-arg3 (is-valid-arg3-before-may-have2 (may-have2-before-at-match-keys1 (c .before .before))) .before .before .before .args in (o : Figures) → g .s .feature ≡ Since o → TagAsked (record { key = g .key .now; value = g .v; text = g .text .now }) (g .s) (mem (g .keys .now) (g .values .now) (g .texts .now) (g .features .now)) o
+at-asked c o f =
+    record {
+      stands = answered _ _ (may-have2-before-at-match-keys1 (c .before .before) .before .before .before .before .is-valid .ensures) (may-have2-before-at-match-keys1 (c .before .before) .before .before .before .if1 .left);
+      short-key = answered _ _ (may-have2-before-at-match-keys1 (c .before .before) .before .before .may-have .ensures) (may-have2-before-at-match-keys1 (c .before .before) .before .if2 .left);
+      short-text = answered _ _ (may-have2-before-at-match-keys1 (c .before .before) .may-have2 .ensures) (else3-before-f (c .before) .if3 .left);
+      utf8-key = answered _ _ (c .before .before .before .before .before .before .is-utf8 .ensures) (c .before .before .before .before .before .if4 .left);
+      utf8-text = answered _ _ (c .before .before .before .before .is-utf82 .ensures) (c .before .before .before .if5 .left);
+      since = f;
+    }
 
 is-valid-requires : tie.Need-is-valid-requires
 is-valid-requires c κs = search needs
@@ -129,10 +178,10 @@ same-length-24 c = search needs
 returns-6 : tie.Need-returns-6
 returns-6 c = search (needs, chain) depth 12
 
-tag-once-requires : tie.Need-tag-once-requires
-tag-once-requires c κs =
-    let g = slice-known-before-is-valid-arg3 (is-valid-arg3-before-may-have2 (may-have2-before-at-match-keys1 (at-match-keys1-before-tag-once-arg4 c))) .before .before .before .args in
-    tag-ready (g .s) (g .keys .now) (g .values .now) (g .texts .now) (g .features .now) _ (may-have2-before-at-match-keys1 (at-match-keys1-before-tag-once-arg4 c) .before .before .before .before .is-valid .ensures) (may-have2-before-at-match-keys1 (at-match-keys1-before-tag-once-arg4 c) .before .before .before .if1 .left) _ _ _ _ (may-have2-before-at-match-keys1 (at-match-keys1-before-tag-once-arg4 c) .before .before .may-have .ensures) (may-have2-before-at-match-keys1 (at-match-keys1-before-tag-once-arg4 c) .before .if2 .left) (may-have2-before-at-match-keys1 (at-match-keys1-before-tag-once-arg4 c) .may-have2 .ensures) (at-match-keys1-before-tag-once-arg4 c .before .before .before .before .before .if3 .left) _ (c .before .before .before .before .before .f .given .1)
+tag-strict-requires : tie.Need-tag-strict-requires
+tag-strict-requires c κs =
+    let g = slice-known-before-is-valid-arg3 (is-valid-arg3-before-may-have2 (may-have2-before-at-match-keys1 (at-match-keys1-before-tag-strict-arg3 (c .before)))) .before .before .before .args in
+    tag-ready (g .s) (g .keys .now) (g .values .now) (g .texts .now) (g .features .now) _ (may-have2-before-at-match-keys1 (at-match-keys1-before-tag-strict-arg3 (c .before)) .before .before .before .before .is-valid .ensures) (may-have2-before-at-match-keys1 (at-match-keys1-before-tag-strict-arg3 (c .before)) .before .before .before .if1 .left) _ _ _ _ (may-have2-before-at-match-keys1 (at-match-keys1-before-tag-strict-arg3 (c .before)) .before .before .may-have .ensures) (may-have2-before-at-match-keys1 (at-match-keys1-before-tag-strict-arg3 (c .before)) .before .if2 .left) (may-have2-before-at-match-keys1 (at-match-keys1-before-tag-strict-arg3 (c .before)) .may-have2 .ensures) (at-match-keys1-before-tag-strict-arg3 (c .before) .before .before .before .before .before .if3 .left) _ (c .before .before .before .before .before .before .f .given .1)
 
 same-length-25 : tie.Need-same-length-25
 same-length-25 c = search needs
@@ -147,7 +196,31 @@ same-length-28 : tie.Need-same-length-28
 same-length-28 c = search needs
 
 returns-7 : tie.Need-returns-7
-returns-7 c = search (needs, chain) depth 12
+returns-7 c =
+    let g = start-before-slice-known4 (slice-known4-before-else1 (else1-before-else4 (else4-before-then6 (then6-before-keys (keys-before-features (c .before)))))) .args in
+    tag-strictly (record { key = g .key .now; value = g .v; text = g .text .now }) (g .s) (mem (g .keys .now) (g .values .now) (g .texts .now) (g .features .now)) _ (at-asked (then6-before-keys (keys-before-features (c .before)) .before) _ (then6-before-keys (keys-before-features (c .before)) .before .before .f .given .1)) _ _ (then6-before-keys (keys-before-features (c .before)) .if6 .taken) (keys-before-features (c .before) .before .tag-strict .ensures)
+
+tag-open-requires : tie.Need-tag-open-requires
+tag-open-requires c κs =
+    let g = slice-known-before-is-valid-arg3 (is-valid-arg3-before-may-have2 (may-have2-before-at-match-keys1 (at-match-keys1-before-tag-open-arg3 (c .before)))) .before .before .before .args in
+    tag-ready (g .s) (g .keys .now) (g .values .now) (g .texts .now) (g .features .now) _ (may-have2-before-at-match-keys1 (at-match-keys1-before-tag-open-arg3 (c .before)) .before .before .before .before .is-valid .ensures) (may-have2-before-at-match-keys1 (at-match-keys1-before-tag-open-arg3 (c .before)) .before .before .before .if1 .left) _ _ _ _ (may-have2-before-at-match-keys1 (at-match-keys1-before-tag-open-arg3 (c .before)) .before .before .may-have .ensures) (may-have2-before-at-match-keys1 (at-match-keys1-before-tag-open-arg3 (c .before)) .before .if2 .left) (may-have2-before-at-match-keys1 (at-match-keys1-before-tag-open-arg3 (c .before)) .may-have2 .ensures) (at-match-keys1-before-tag-open-arg3 (c .before) .before .before .before .before .before .if3 .left) _ (c .before .before .before .before .before .before .f .given .1)
+
+same-length-29 : tie.Need-same-length-29
+same-length-29 c = search needs
+
+same-length-30 : tie.Need-same-length-30
+same-length-30 c = search needs
+
+same-length-31 : tie.Need-same-length-31
+same-length-31 c = search needs
+
+same-length-32 : tie.Need-same-length-32
+same-length-32 c = search needs
+
+returns-8 : tie.Need-returns-8
+returns-8 c =
+    let g = start-before-slice-known4 (slice-known4-before-else1 (else1-before-else4 (else4-before-else6 (else6-before-keys2 (keys2-before-features2 (c .before)))))) .args in
+    tag-plainly (record { key = g .key .now; value = g .v; text = g .text .now }) (g .s) (mem (g .keys .now) (g .values .now) (g .texts .now) (g .features .now)) _ (at-asked (else6-before-keys2 (keys2-before-features2 (c .before)) .before) _ (else6-before-keys2 (keys2-before-features2 (c .before)) .before .before .f .given .1)) _ _ (else6-before-keys2 (keys2-before-features2 (c .before)) .if6 .left) (keys2-before-features2 (c .before) .before .tag-open .ensures)
 
 pub add-tag-spec : {M : Type 1} → statement M
 add-tag-spec =
@@ -190,9 +263,15 @@ add-tag-spec =
     same-length-23
     same-length-24
     returns-6
-    tag-once-requires
+    tag-strict-requires
     same-length-25
     same-length-26
     same-length-27
     same-length-28
-    returns-7)
+    returns-7
+    tag-open-requires
+    same-length-29
+    same-length-30
+    same-length-31
+    same-length-32
+    returns-8)
