@@ -145,7 +145,7 @@ pub fn into_layer(s: Layer, keys: &[u32], values: &[u32], texts: &[u8], features
     })
 }
 
-// Abandons the open feature (in the Rust: `layer`).
+// Abandons the open feature (in the Rust: `layer`). The figures go back to those at opening; the choice is no figure and stays.
 pub fn abandon(s: Layer, keys: &[u32], values: &[u32], texts: &[u8], features: &[u32]) -> Changed
     ensures { λ r. ⌜ Does abandoned s r keys values texts features ⌝ }
 {
@@ -156,9 +156,10 @@ pub fn abandon(s: Layer, keys: &[u32], values: &[u32], texts: &[u8], features: &
     let Open::Since(o) = f else {
         return Changed::Refused(Refusal::Turn, s);
     };
+    let strict = s.strict;
     Changed::Done(Layer {
         extent: s.extent,
-        strict: s.strict,
+        strict: strict,
         name: s.name,
         used: o,
         feature: Open::Shut,

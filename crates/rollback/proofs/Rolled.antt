@@ -20,7 +20,7 @@ use Rattle.layer.specs.declared.Open.the-variants.{Shut, Since}
 use Rattle.layer.specs.declared.Layer.{Layer}
 use Rattle.layer.specs.Held.{Memory, Seen, seen, Change, refuses, holds, fits, heldBy, smaller, maxTexts, next}
 use Rattle.layer.specs.State.{valid}
-use Rattle.layer.specs.Calls.{Tag, isValue, isShut, moreWords, withFeatures, newRecord, moreOf, putOf, keyWords, valueWords, keyFound, valueFound, tagPut, newLayer, tagString, tagBits, bitOf}
+use Rattle.layer.specs.Calls.{Tag, isValue, isShut, moreWords, withFeatures, newRecord, moreOf, putOf, keyWords, valueWords, keyFound, valueFound, tagPut, newLayer, chosen, tagString, tagBits, bitOf}
 use Rattle.layer.proofs.Fitting.{both, Within, fits-yes, smaller-le}
 use Rattle.layer.proofs.Standing.{whole}
 use Rattle.rollback.specs.Runs.{Call, opens, marks, tags, closes, abandons, does, isOpenEnded, openEnded, answers, layerAfter, memoryAfter}
@@ -219,10 +219,10 @@ never-state abandons v S =
     rw (S .fine .stands)
     (by-open OtherThanState (v .layer .feature) _ (λ e. let z : _≡_ {A = ℕ} 0 1 = cc in omega arith) (λ o f e. let z : _≡_ {A = ℕ} 0 1 = cc in omega arith))
 
--- a new layer is sound, in lists of any length that hold its name
-pub new-sound : (name : List ℕ) (extent : ℕ) (m : Memory) → length name ≤ smaller (length (m .texts)) maxTexts → Sound (seen (newLayer name extent) m)
-new-sound name extent m h =
-    let v = seen (newLayer name extent) m in
+-- a new layer is sound, strict or not, in lists of any length that hold its name
+pub new-sound : (b : Bool) (name : List ℕ) (extent : ℕ) (m : Memory) → length name ≤ smaller (length (m .texts)) maxTexts → Sound (seen (chosen b (newLayer name extent)) m)
+new-sound b name extent m h =
+    let v = seen (chosen b (newLayer name extent)) m in
     let k = le-leb (length name) (smaller (length (m .texts)) maxTexts) h in
     let l = le-leb (length name) (length name) (omega arith) in
     let t = length-take-le (length name) (m .texts) (omega (arith, smaller-le (length (m .texts)) maxTexts)) in
