@@ -1,23 +1,20 @@
 -- How keys and values stand in a layer's lists, entry by entry, and what follows of them: how many words they are, that they still stand where texts grow, where each
 -- is found, and which fields they make.
 use Prim.Native.Nat.{ℕ, suc, _+_, _*_, _≤_}
-use mathlib.Core.Path.{_≡_, refl, sym, ap, _∙_}
+use mathlib.Core.Path.{_≡_, refl, ap, _∙_}
 use mathlib.Core.Bool.{Bool, true, false, cond}
-use mathlib.Core.List.{List, [], _∷_, _++_}
+use mathlib.Core.List.{List, _++_}
 use native.Mathlib.Omega.{arith}
 use lib.ListN.{length, drop, length-append, length-drop}
 use lib.Seq.{take-append-le, drop-append-le, take-append-seam, drop-append-seam}
-use borrow.Author.Tests.{le-leb}
 use Rattle.table.specs.declared.Found.{Found}
 use Rattle.table.specs.declared.Found.the-variants.{At, Nothing}
 use Rattle.table.specs.Texts.{sameText}
-use Rattle.table.specs.Keys.{findKey, keysIn}
-use Rattle.records.specs.Records.{isFound}
-use Rattle.layer.proofs.Fitting.{never}
+use Rattle.table.specs.Keys.{findKey}
 use Rattle.tile.specs.Texts.{textField}
 use Rattle.tile.specs.Entries.{keyFields}
 use Rattle.tile.specs.Holding.{sameBytes}
-use Rattle.tile.proofs.Names.{found-among}
+use Rattle.tile.proofs.Names.{text-bytes}
 use Rattle.given.specs.Given.{among, placeOf}
 use Rattle.given.specs.Messages.{each, keyField}
 use Rattle.given.specs.Layout.{TextStands, KeysStand, no-keys, one-key}
@@ -42,15 +39,7 @@ text-new before t behind =
 
 -- a text is found where its bytes are equal
 pub text-found : (texts : List ℕ) (start len : ℕ) (t : List ℕ) → TextStands texts start len t → (key : List ℕ) → sameText texts start len key ≡ sameBytes t key
-text-found texts start len t T key =
-    let i : keysIn (length texts) (start ∷ len ∷ []) ≡ true = rw (le-leb (start + len) (length texts) (T .within)) in
-    by (sameText texts start len key) (sameBytes t key) (found-among 0 (start ∷ len ∷ []) texts key i ∙ ap (λ (x : List ℕ). cond (sameBytes x key) true false) (T .there))
-  where
-    by : (a b : Bool) → isFound (cond a (At 0) Nothing) ≡ cond b true false → a ≡ b
-    by true true e = refl
-    by true false e = never (sym e)
-    by false true e = never e
-    by false false e = refl
+text-found texts start len t T key = text-bytes texts start len key (T .within) ∙ ap (λ (x : List ℕ). sameBytes x key) (T .there)
 
 -- what is found at index j on
 abbrev pub foundAt : ℕ → Bool → ℕ → Found

@@ -6,12 +6,12 @@ use mathlib.Core.Bool.{Bool, true, false, cond, not}
 use mathlib.Core.List.{List, [], _∷_, _++_, map, map-append}
 use mathlib.Core.Option.{Option, none, some}
 use native.Mathlib.Omega.{arith}
-use lib.ListN.{length, getD, drop, length-append}
+use lib.ListN.{length, getD, length-append}
 use lib.Seq.{drop-at, drop-append-add, getD-append-add}
 use lib.Dec.{eqb, ltb}
-use borrow.Author.Tests.{lt-ltb, le-ltb, ltb-true, ltb-false, leb-true, eqb-true, not-true}
+use borrow.Author.Tests.{lt-ltb, le-ltb, ltb-true, ltb-false, leb-true, not-true}
 use Rattle.promise.proofs.Joined.{never, both, cond-both}
-use Rattle.table.specs.Texts.{inside, sameText, textOf}
+use Rattle.table.specs.Texts.{inside, textOf}
 use Rattle.table.specs.Values.{valueOk}
 use Rattle.layer.specs.declared.Figures.{Figures}
 use Rattle.layer.specs.declared.Open.the-variants.{Since}
@@ -19,12 +19,12 @@ use Rattle.layer.specs.declared.Layer.{Layer}
 use Rattle.layer.specs.declared.whole_feature.Head.{Head}
 use Rattle.layer.specs.Held.{Memory, Seen, seen, Change, refuses, holds, heldBy}
 use Rattle.layer.specs.Calls.{Tag as Stored, isKey, hasKey, lastTags, takesKey}
-use Rattle.layer.specs.TagLists.{tagOk, tagsOk, keyGiven, keysOnce, takesKeys}
+use Rattle.layer.specs.TagLists.{tagOk, tagsOk, keyGiven, keysOnce}
 use Rattle.layer.specs.Whole.{addFeature}
 use Rattle.layer.proofs.Checked.{by-tag, by-feature}
 use Rattle.layer.proofs.Choosing.{Chose, opened-chose, marked-chose, closed-chose, abandoned-chose, feature-chose}
 use Rattle.tile.specs.Holding.{sameBytes, among as amongKeys, noneTwice, At, call, after as after-layer}
-use Rattle.tile.proofs.Names.{none-twice-more}
+use Rattle.tile.proofs.Names.{bytes-equal, none-twice-more}
 use Rattle.given.specs.Given.{Content, Tag, Feature, Drawing, Call, opens, identifies, tags, closes, abandons, among, placeOf, allTags, keyOf, keysOf, valuesOf, identified, tagged, onOpen, completed, after, added}
 use Rattle.given.specs.Messages.{each, tagIndices}
 use Rattle.given.specs.Asked.{Made, calls, whole, tagOf, tagsGiven, featureGiven, asks, asked, gives, FineCall, FineMade, Words}
@@ -42,15 +42,6 @@ use Rattle.given.proofs.Runs.{StandsIn, stands-on, begun-stands}
 use Rattle.given.proofs.Texts.{every-behind}
 
 -- ---- the entries of the keys
-bytes-equal : (a b : List ℕ) → sameBytes a b ≡ true → a ≡ b
-bytes-equal [] [] e = refl
-bytes-equal [] (y ∷ b) e = never e
-bytes-equal (x ∷ a) [] e = never e
-bytes-equal (x ∷ a) (y ∷ b) e =
-    let p = cond-both (eqb x y) (sameBytes a b) e in
-    let q : x ≡ y = eqb-true x y (p .0) in
-    rw (q, bytes-equal a b (p .1))
-
 entry-shift : (a b j : ℕ) (ws : List ℕ) → ltb (suc j) (length (a ∷ b ∷ ws) / 2) ≡ ltb j (length ws / 2)
 entry-shift a b j ws = by (ltb j (length ws / 2)) refl
   where

@@ -7,13 +7,13 @@ use mathlib.Core.List.{List, [], _∷_, map}
 use mathlib.Core.Logic.{_⊎_, inl, inr}
 use native.Mathlib.Omega.{arith}
 use lib.ListN.{length, take, drop}
-use lib.Dec.{leb, eqb}
-use borrow.Author.Tests.{not-true, not-false, eq-eqb}
+use lib.Dec.{leb}
+use borrow.Author.Tests.{not-true}
 use Rattle.promise.specs.Answers.{Written, kept}
 use Rattle.promise.proofs.Joined.{never, both}
 use Rattle.refusal.specs.declared.Refusal.{Refusal}
 use Rattle.refusal.specs.declared.Refusal.the-variants.{Job, Kind, State, Room, Text as TextRefusal, Utf8, Turn, Again}
-use Rattle.refusal.specs.Said.{Said, accepted, refused}
+use Rattle.refusal.specs.Said.{Said}
 use Rattle.utf8.specs.Utf8.{isUtf8}
 use Rattle.table.specs.Texts.{shortText}
 use Rattle.words.specs.Geometries.{isKind, maxWords}
@@ -25,10 +25,10 @@ use Rattle.layer.specs.declared.whole_feature.Head.{Head}
 use Rattle.layer.specs.Held.{Memory, Seen, seen, Change, refuses, holds, check, whenOpen, fits, written, onto}
 use Rattle.layer.specs.State.{valid}
 use Rattle.layer.specs.Answers.{Told}
-use Rattle.layer.specs.Calls.{isShut, moreWords, Tag, tagPut, ifRoom, tagged, taggedOnce, takesKey, chosen, numFeatures, numTags, nameOf, tagsIn}
+use Rattle.layer.specs.Calls.{isShut, moreWords, Tag, tagPut, ifRoom, tagged, taggedOnce, takesKey, chosen, tagsIn}
 use Rattle.layer.specs.TagLists.{tagsOk, tagsShort, tagsUtf8, tagsOf, takesKeys}
 use Rattle.layer.specs.Whole.{featureOpened, tagsPut, featureShut, featurePut, addFeature}
-use Rattle.layer.specs.Lookup.{Index, indexed}
+use Rattle.layer.specs.Lookup.{Index}
 use Rattle.layer.specs.Many.{Many, headOf, headsOk, andNext, done, addAll, addFeatures, alongIndex}
 use Rattle.layer.proofs.Choosing.{Chose, opened-chose, marked-chose, tag-chose, closed-chose, abandoned-chose, feature-chose}
 use Rattle.tile.specs.declared.Tile.{Tile}

@@ -1,26 +1,27 @@
 -- The keys of the open feature, tag by tag: which texts its tag words stand for (`Keyed`), what a tag adds to them (`tag-keyed`), and that AGAIN asks for them
 -- (`has-is`).
-use Prim.Native.Nat.{ℕ, zero, suc, _+_, _-_, _*_, _/_, _≤_, _<_, zero-le}
+use Prim.Native.Nat.{ℕ, suc, _+_, _-_, _*_, _/_, _≤_, _<_}
 use mathlib.Core.Path.{_≡_, refl, sym, ap, subst, _∙_}
-use mathlib.Core.Bool.{Bool, true, false, cond, not}
-use mathlib.Core.List.{List, [], _∷_, _++_, append-nil}
+use mathlib.Core.Bool.{Bool, true, false}
+use mathlib.Core.List.{List, [], _∷_, _++_}
 use native.Mathlib.Omega.{arith}
-use lib.ListN.{length, getD, set, take, drop, length-append, length-set, length-drop, drop-of-length-le, List·getD-append}
-use lib.Seq.{take-length, length-take-le, drop-append-le, drop-set-lt, getD-at, getD-append-add, getD-set-same}
-use lib.Dec.{eqb, ltb}
-use borrow.Author.Tests.{lt-ltb, le-leb, leb-true, eq-eqb, eqb-true}
-use Rattle.promise.proofs.Joined.{never, cond-both, same}
+use lib.ListN.{length, getD, set, drop, length-append, length-set, drop-of-length-le, List·getD-append}
+use lib.Seq.{drop-append-le, drop-set-lt, getD-at, getD-append-add, getD-set-same}
+use borrow.Author.Tests.{lt-ltb, leb-true}
+use Rattle.promise.proofs.Joined.{cond-both}
 use Rattle.table.specs.declared.Found.{Found}
 use Rattle.table.specs.declared.Found.the-variants.{At, Nothing}
-use Rattle.table.specs.Texts.{inside, begins, sameText, textOf}
+use Rattle.table.specs.Texts.{inside, sameText, textOf}
 use Rattle.table.specs.Keys.{findKey, keysIn}
 use Rattle.index.proofs.Alike.{text-is}
 use Rattle.index.proofs.Growing.{text-kept}
 use Rattle.layer.specs.declared.Figures.{Figures}
 use Rattle.layer.specs.declared.Open.the-variants.{Since}
-use Rattle.layer.specs.Held.{Memory, Seen}
+use Rattle.layer.specs.Held.{Seen}
 use Rattle.layer.specs.Calls.{recordWith, Tag, indexOf, putOf, keyWords, withTag, keyFound, valueFound, tagPut, isKey, hasKey, lastTags}
 use Rattle.layer.proofs.Entries.{text-next}
+use Rattle.tile.specs.Holding.{sameBytes, among}
+use Rattle.tile.proofs.Names.{text-bytes}
 use Rattle.layer.proofs.Keeping.{Sound}
 use Rattle.layer.proofs.Fitting.{within}
 use Rattle.layer.proofs.Standing.{open-parts}
@@ -28,50 +29,14 @@ use Rattle.records.proofs.Growing.{last-six}
 use Rattle.layer.specs.declared.whole_feature.Head.{Head}
 use Rattle.layer.specs.Whole.{markOf, idOf, featureOpened}
 
--- ---- texts
-begins-itself : (l : List ℕ) → begins l l ≡ true
-begins-itself [] = refl
-begins-itself (x ∷ l) = rw (eq-eqb x x refl) (begins-itself l)
-
--- two texts are the same
-abbrev pub alike : List ℕ → List ℕ → Bool
-alike x y = sameText x 0 (length x) y
-
-pub alike-is : (x y : List ℕ) → alike x y ≡ true → x ≡ y
-alike-is x y e = sym (take-length x) ∙ text-is x 0 (length x) y e
-
-pub is-alike : (x y : List ℕ) → x ≡ y → alike x y ≡ true
-is-alike x y e = rw (← e, le-leb (0 + length x) (length x) (omega arith), eq-eqb (length x) (length x) refl) (begins-itself x)
-
-pub alike-turned : (x y : List ℕ) → alike x y ≡ false → alike y x ≡ false
-alike-turned x y e = by (alike y x) refl
-  where
-    by : (t : Bool) → alike y x ≡ t → t ≡ false
-    by true q = never (sym e ∙ is-alike x y (sym (alike-is y x q)))
-    by false q = refl
-
-begins-part : (l : List ℕ) (n : ℕ) → begins l (take n l) ≡ true
-begins-part l zero = refl
-begins-part [] (suc n) = refl
-begins-part (x ∷ l) (suc n) = rw (eq-eqb x x refl) (begins-part l n)
-
--- the text of a place, compared there or by itself
-pub text-alike : (ts : List ℕ) (start len : ℕ) (x key : List ℕ) → start + len ≤ length ts → textOf ts start len ≡ x → sameText ts start len key ≡ alike x key
-text-alike ts start len x key h e =
-    same (sameText ts start len key) (alike x key)
-    (λ y. is-alike x key (sym e ∙ text-is ts start len key y))
-    (λ y. let k : textOf ts start len ≡ key = e ∙ alike-is x key y in
-    let n : length (take len (drop start ts)) ≡ len = length-take-le len (drop start ts) (omega (arith, length-drop start ts)) in
-    rw (← k, le-leb (start + len) (length ts) h, n, eq-eqb len len refl) (begins-part (drop start ts) len))
-
 -- ---- entry k of the keys is there, and its text is x
 pub record Named (ks ts : List ℕ) (k : ℕ) (x : List ℕ) : Type 0 where
   pub there : k < length ks / 2
   pub within : getD ks (k * 2) 0 + getD ks (k * 2 + 1) 0 ≤ length ts
   pub text : textOf ts (getD ks (k * 2) 0) (getD ks (k * 2 + 1) 0) ≡ x
 
-pub named-is : (ks ts : List ℕ) (k : ℕ) (x key : List ℕ) → Named ks ts k x → isKey ks ts k key ≡ alike x key
-named-is ks ts k x key N = rw (lt-ltb k (length ks / 2) (N .there)) (text-alike ts (getD ks (k * 2) 0) (getD ks (k * 2 + 1) 0) x key (N .within) (N .text))
+pub named-is : (ks ts : List ℕ) (k : ℕ) (x key : List ℕ) → Named ks ts k x → isKey ks ts k key ≡ sameBytes x key
+named-is ks ts k x key N = rw (lt-ltb k (length ks / 2) (N .there)) (text-bytes ts (getD ks (k * 2) 0) (getD ks (k * 2 + 1) 0) key (N .within) ∙ ap (λ (t : List ℕ). sameBytes t key) (N .text))
 
 -- more keys and texts behind change nothing
 pub named-more : (ks new ts more : List ℕ) (k : ℕ) (x : List ℕ) → Named ks ts k x → Named (ks ++ new) (ts ++ more) k x
@@ -129,11 +94,7 @@ pub data TagsNamed (ks ts : List ℕ) : List ℕ → List (List ℕ) → Type 0 
   no-tags : TagsNamed ks ts [] []
   one-tag : (k v : ℕ) (ws x : List ℕ) (xs : List (List ℕ)) → Named ks ts k x → TagsNamed ks ts ws xs → TagsNamed ks ts (k ∷ v ∷ ws) (x ∷ xs)
 
-abbrev pub amongKeys : List (List ℕ) → List ℕ → Bool
-amongKeys [] key = false
-amongKeys (x ∷ xs) key = cond (alike x key) true (amongKeys xs key)
-
-pub has-is : (ks ts ws : List ℕ) (xs : List (List ℕ)) (key : List ℕ) → TagsNamed ks ts ws xs → hasKey ks ts ws key ≡ amongKeys xs key
+pub has-is : (ks ts ws : List ℕ) (xs : List (List ℕ)) (key : List ℕ) → TagsNamed ks ts ws xs → hasKey ks ts ws key ≡ among key xs
 has-is ks ts ws xs key no-tags = refl
 has-is ks ts ws xs key (one-tag k v ws′ x xs′ N T) = rw (named-is ks ts k x key N, has-is ks ts ws′ xs′ key T)
 

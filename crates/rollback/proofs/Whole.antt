@@ -30,7 +30,9 @@ use Rattle.layer.proofs.Keeping.{Lengths, Sound, sound, fine, is-shut, tag-soun
 use Rattle.layer.proofs.Growth.{tags-grow, fits-before, same-feature, same-room}
 use Rattle.layer.proofs.Filled.{value-given}
 use Rattle.layer.proofs.Features.{feature-opened, feature-tagged}
-use Rattle.rollback.proofs.Keyed.{alike, alike-turned, text-alike, amongKeys, has-is, no-tags, Keyed, tag-keyed, open-six, new-keyed}
+use Rattle.rollback.proofs.Keyed.{has-is, Keyed, tag-keyed, open-six, new-keyed}
+use Rattle.tile.specs.Holding.{sameBytes, among}
+use Rattle.tile.proofs.Names.{text-bytes, same-turned}
 use Rattle.rollback.specs.Runs.{Call, opens, marks, tags, closes, does}
 use Rattle.rollback.specs.Features.{tagCall, tagCalls, idCalls, featureCalls, andThen, runs}
 
@@ -47,7 +49,7 @@ Apart bytes xs (a ∷ []) = Unit {0}
 Apart bytes xs (a ∷ b ∷ []) = Unit {0}
 Apart bytes xs (a ∷ b ∷ c ∷ []) = Unit {0}
 Apart bytes xs (a ∷ b ∷ c ∷ d ∷ []) = Unit {0}
-Apart bytes xs (start ∷ len ∷ kind ∷ low ∷ high ∷ ws) = (amongKeys xs (textOf bytes start len) ≡ false) × Apart bytes (xs ++ (textOf bytes start len ∷ [])) ws
+Apart bytes xs (start ∷ len ∷ kind ∷ low ∷ high ∷ ws) = (among (textOf bytes start len) xs ≡ false) × Apart bytes (xs ++ (textOf bytes start len ∷ [])) ws
 
 -- no tag of the list has one of these keys
 abbrev NoneOf : List ℕ → List ℕ → List (List ℕ) → Type 0
@@ -69,13 +71,13 @@ module _ (bytes : List ℕ) (start len kind low high : ℕ) (ws : List ℕ) (h :
   abbrev own : List ℕ
   own = textOf bytes start len
 
-  others : (xs : List (List ℕ)) → NoneOf bytes (start ∷ len ∷ kind ∷ low ∷ high ∷ ws) xs → (amongKeys xs own ≡ false) × NoneOf bytes ws xs
+  others : (xs : List (List ℕ)) → NoneOf bytes (start ∷ len ∷ kind ∷ low ∷ high ∷ ws) xs → (among own xs ≡ false) × NoneOf bytes ws xs
   others [] n = (refl, tt)
   others (x ∷ xs) n =
       let p = either (sameText bytes start len x) (keyGiven bytes ws x) (n .0) in
       let q = others xs (n .1) in
-      let a : alike own x ≡ false = sym (text-alike bytes start len own x h refl) ∙ p .0 in
-      (not-either (alike x own) (amongKeys xs own) (alike-turned own x a) (q .0), (p .1, q .1))
+      let a : sameBytes x own ≡ false = same-turned x own ∙ sym (text-bytes bytes start len x h) ∙ p .0 in
+      (not-either (sameBytes x own) (among own xs) a (q .0), (p .1, q .1))
 
 once-apart : (bytes ws : List ℕ) (xs : List (List ℕ)) → tagsOk (length bytes) ws ≡ true → keysOnce bytes ws ≡ true → NoneOf bytes ws xs → Apart bytes xs ws
 once-apart bytes [] xs e k n = tt
@@ -99,7 +101,7 @@ ApartIf strict bytes xs ws = strict ≡ true → Apart bytes xs ws
 taken-apart : (strict : Bool) (bytes ws : List ℕ) → tagsOk (length bytes) ws ≡ true → takesKeys strict bytes ws ≡ true → ApartIf strict bytes [] ws
 taken-apart strict bytes ws e k s = once-apart bytes ws [] e (rw s at k) tt
 
-takes-apart : (strict : Bool) (v : Seen) (o : Figures) (xs : List (List ℕ)) (key : List ℕ) → Keyed v o xs → (strict ≡ true → amongKeys xs key ≡ false) → takesKey strict (v .held) (o .features) key ≡ true
+takes-apart : (strict : Bool) (v : Seen) (o : Figures) (xs : List (List ℕ)) (key : List ℕ) → Keyed v o xs → (strict ≡ true → among key xs ≡ false) → takesKey strict (v .held) (o .features) key ≡ true
 takes-apart true v o xs key T n = rw (has-is (v .held .keys) (v .held .texts) (lastTags (v .held .features) (o .features)) xs key T, n refl)
 takes-apart false v o xs key T n = refl
 

@@ -6,7 +6,6 @@ use lib.Dec.{eqb}
 use Rattle.refusal.specs.declared.Refusal.the-variants.{Again}
 use Rattle.refusal.specs.Refusals.{numberOf}
 use Rattle.refusal.specs.Said.{Said}
-use Rattle.layer.specs.declared.Layer.{Layer}
 use Rattle.layer.specs.Answers.{Told}
 use Rattle.layer.specs.Calls.{chosen}
 use Rattle.layer.specs.Many.{Many}

@@ -18,12 +18,12 @@ use Rattle.layer.specs.declared.Figures.{Figures}
 use Rattle.layer.specs.declared.Layer.{Layer}
 use Rattle.layer.specs.declared.Open.the-variants.{Shut, Since}
 use Rattle.layer.specs.declared.whole_feature.Head.{Head}
-use Rattle.layer.specs.Held.{Memory, mem, Seen, seen, Change, refuses, holds, check, whenOpen, fits, heldBy}
+use Rattle.layer.specs.Held.{Memory, mem, Seen, seen, Change, refuses, holds, check, whenOpen, fits}
 use Rattle.layer.specs.State.{valid}
 use Rattle.layer.specs.Calls.{isShut, Tag, tagPut, tagged, isKey, hasKey, lastTags, takesKey, taggedOnce, addTag, abandoned, tagString, tagBits, created, chosen, createdStrict, ifRoom}
 use Rattle.layer.specs.TagLists.{tagsOk, tagsShort, tagsUtf8, tagsOf, keyGiven, keysOnce, takesKeys}
 use Rattle.layer.specs.Whole.{featurePut, addFeature}
-use Rattle.ruled_out.specs.Inputs.{bit, refusalOf, figures, layerOf, lent, before, now}
+use Rattle.ruled_out.specs.Inputs.{bit, refusalOf, layerOf, lent, before, now}
 
 -- the layer of specs/Inputs, strict: complete, with its feature open, and open in lists that are full
 abbrev strictWhole : Seen

@@ -1,4 +1,6 @@
 -- The names of a tile by the texts that its entries name: which are found, and that none is there twice.
+--     text-bytes           a text is compared where it stands as it is by itself
+--     bytes-equal          texts of the same bytes are one
 --     found-among          an entry is found exactly where the name is among those texts
 --     none-twice-more      a name that is not among names that are apart may join them
 --     texts-more           an entry more, of a text that stands in what was put behind the bytes
@@ -10,13 +12,13 @@ use native.Mathlib.Omega.{arith}
 use lib.ListN.{length, take, drop, length-drop}
 use lib.Seq.{take-append-le, drop-append-le}
 use lib.Dec.{eqb, eqb·zero-suc, eqb·suc-zero, eqb·suc-suc}
-use borrow.Author.Tests.{leb-true, eq-eqb, ne-eqb, eqb-true, eqb-false}
+use borrow.Author.Tests.{le-leb, leb-true, eq-eqb, ne-eqb, eqb-true, eqb-false}
 use Rattle.table.specs.declared.Found.{Found}
 use Rattle.table.specs.declared.Found.the-variants.{At}
-use Rattle.table.specs.Texts.{inside, begins, sameText}
+use Rattle.table.specs.Texts.{inside, begins, sameText, textOf}
 use Rattle.table.specs.Keys.{findKey, keysIn}
 use Rattle.records.specs.Records.{isFound}
-use Rattle.layer.proofs.Fitting.{never}
+use Rattle.promise.proofs.Joined.{never, cond-both}
 use Rattle.tile.specs.Holding.{textsAt, sameBytes, among, noneTwice}
 
 -- ---- one text
@@ -33,6 +35,18 @@ text-same [] (suc n) key h = absurd (omega arith)
 text-same (x ∷ l) (suc n) [] h = rw (eqb·suc-zero n)
 text-same (x ∷ l) (suc n) (b ∷ key) h =
     rw (eqb·suc-suc n (length key), ← text-same l n key (omega arith)) (swap (eqb n (length key)) (eqb x b) (begins l key))
+
+pub text-bytes : (ts : List ℕ) (start len : ℕ) (key : List ℕ) → start + len ≤ length ts → sameText ts start len key ≡ sameBytes (textOf ts start len) key
+text-bytes ts start len key h = rw (le-leb (start + len) (length ts) h) (text-same (drop start ts) len key (rw length-drop (omega arith)))
+
+pub bytes-equal : (a b : List ℕ) → sameBytes a b ≡ true → a ≡ b
+bytes-equal [] [] e = refl
+bytes-equal [] (y ∷ b) e = never e
+bytes-equal (x ∷ a) [] e = never e
+bytes-equal (x ∷ a) (y ∷ b) e =
+    let p = cond-both (eqb x y) (sameBytes a b) e in
+    let q : x ≡ y = eqb-true x y (p .0) in
+    rw (q, bytes-equal a b (p .1))
 
 -- ---- entries
 found-if : (t : Bool) (j : ℕ) (f : Found) → isFound (cond t (At j) f) ≡ cond t true (isFound f)
@@ -71,7 +85,7 @@ eqb-turned a b = by (eqb a b) refl
     by true e = sym (eq-eqb b a (sym (eqb-true a b e)))
     by false e = sym (ne-eqb b a (λ q. eqb-false a b e (sym q)))
 
-same-turned : (l k : List ℕ) → sameBytes l k ≡ sameBytes k l
+pub same-turned : (l k : List ℕ) → sameBytes l k ≡ sameBytes k l
 same-turned [] [] = refl
 same-turned [] (b ∷ k) = refl
 same-turned (a ∷ l) [] = refl
