@@ -1,5 +1,5 @@
 -- What AGAIN asks is what was given: the open feature of a layer has a key exactly where one of the tags given to it has (`asks-given`). So no feature of a strict
--- layer has a key twice, whatever calls were made (`keys-once`), and none of a tile of such layers (`tile-once`).
+-- layer has a key twice, whatever calls were made (`keys-once`), and none of a tile of such layers (`tile-once`); nor has one a key index twice (`indices-once`).
 use Prim.Native.Nat.{ℕ, suc, _+_, _-_, _*_, _/_, _%_}
 use mathlib.Core.Path.{_≡_, refl, sym, ap, _∙_}
 use mathlib.Core.Bool.{Bool, true, false, cond, not}
@@ -9,8 +9,8 @@ use native.Mathlib.Omega.{arith}
 use lib.ListN.{length, getD, length-append}
 use lib.Seq.{drop-at, drop-append-add, getD-append-add}
 use lib.Dec.{eqb, ltb}
-use borrow.Author.Tests.{lt-ltb, le-ltb, ltb-true, ltb-false, leb-true, not-true}
-use Rattle.promise.proofs.Joined.{never, both, cond-both}
+use borrow.Author.Tests.{lt-ltb, le-ltb, ltb-true, ltb-false, leb-true, eq-eqb, eqb-true, not-true}
+use Rattle.promise.proofs.Joined.{never, same, both, cond-both}
 use Rattle.table.specs.Texts.{inside, textOf}
 use Rattle.table.specs.Values.{valueOk}
 use Rattle.layer.specs.declared.Figures.{Figures}
@@ -23,23 +23,23 @@ use Rattle.layer.specs.TagLists.{tagOk, tagsOk, keyGiven, keysOnce}
 use Rattle.layer.specs.Whole.{addFeature}
 use Rattle.layer.proofs.Checked.{by-tag, by-feature}
 use Rattle.layer.proofs.Choosing.{Chose, opened-chose, marked-chose, closed-chose, abandoned-chose, feature-chose}
-use Rattle.tile.specs.Holding.{sameBytes, among as amongKeys, noneTwice, At, call, after as after-layer}
+use Rattle.tile.specs.Holding.{sameBytes, among as amongKeys, noneTwice, At}
 use Rattle.tile.proofs.Names.{bytes-equal, none-twice-more}
 use Rattle.given.specs.Given.{Content, Tag, Feature, Drawing, Call, opens, identifies, tags, closes, abandons, among, placeOf, allTags, keyOf, keysOf, valuesOf, identified, tagged, onOpen, completed, after, added}
 use Rattle.given.specs.Messages.{each, tagIndices}
 use Rattle.given.specs.Asked.{Made, calls, whole, tagOf, tagsGiven, featureGiven, asks, asked, gives, FineCall, FineMade, Words}
 use Rattle.given.specs.Layout.{TextStands, KeysStand, no-keys, one-key, recordFrom, recordOf, HeldAs, Stands}
-use Rattle.given.specs.Runs.{Plan, begun, pageOf, Sound, AllSound, layerOf, drawings}
+use Rattle.given.specs.Runs.{Plan, begun, pageOf, Sound, AllSound, drawings}
 use Rattle.given.specs.Texts.{Every}
-use Rattle.given.specs.Once.{FeatureOnce, AllOnce}
-use Rattle.given.proofs.FirstUse.{Met, met-right}
+use Rattle.given.specs.Once.{FeatureOnce, AllOnce, keyIndices, isAmong, eachOnce, IndexOnce}
+use Rattle.given.proofs.FirstUse.{bytes-same, Met, met-left, met-right, all-met}
 use Rattle.given.proofs.Entries.{text-found}
 use Rattle.given.proofs.Records.{each-last}
 use Rattle.given.proofs.Holding.{tag-parts}
 use Rattle.given.proofs.Standing.{there, starts, met}
 use Rattle.given.proofs.Courses.{Keeps, run-keeps}
 use Rattle.given.proofs.Runs.{StandsIn, stands-on, begun-stands}
-use Rattle.given.proofs.Texts.{every-behind}
+use Rattle.given.proofs.Texts.{every-behind, tile-every}
 
 -- ---- the entries of the keys
 entry-shift : (a b j : ℕ) (ws : List ℕ) → ltb (suc j) (length (a ∷ b ∷ ws) / 2) ≡ ltb j (length ws / 2)
@@ -196,15 +196,52 @@ pub keys-once : (p : Plan) → Sound p → p .strict ≡ true → AllOnce (pageO
 keys-once p s q =
     run-keeps OnceIn made-once (p .calls) (s .fine) (begun p) (record { stands = begun-stands p (s .creates); strict = q; once = record { complete = tt; started = tt } }) .once
 
--- and so of every layer of a tile, whose bytes are the message of these drawings (`what-was-given`)
+-- and so of every layer of a tile of such layers
 abbrev pub AllStrict : List Plan → Type 0
-AllStrict [] = Unit {0}
-AllStrict (p ∷ ps) = (p .strict ≡ true) × AllStrict ps
+AllStrict ps = Every (λ (p : Plan). p .strict ≡ true) ps
+
+all-once : (ps : List Plan) → AllSound ps → AllStrict ps → Every (λ (p : Plan). AllOnce (pageOf p .drawing)) ps
+all-once [] s q = tt
+all-once (p ∷ ps) s q = (keys-once p (s .0) (q .0), all-once ps (s .1) (q .1))
 
 pub tile-once : (ps : List Plan) → AllSound ps → AllStrict ps → (a : At) → Every AllOnce (drawings (map pageOf ps) a)
-tile-once [] s q a = tt
-tile-once (p ∷ ps) s q a = by (eqb (call (layerOf (pageOf p)) a .answer .number) 0) (drawings (map pageOf ps) (after-layer (layerOf (pageOf p)) a)) (keys-once p (s .0) (q .0)) (tile-once ps (s .1) (q .1) (after-layer (layerOf (pageOf p)) a))
+tile-once ps s q a = tile-every AllOnce ps (all-once ps s q) a
+
+-- ---- the indices that go out
+place-apart : (a b : List ℕ) (keys : List (List ℕ)) → among sameBytes a keys ≡ true → among sameBytes b keys ≡ true → placeOf sameBytes a keys ≡ placeOf sameBytes b keys → a ≡ b
+place-apart a b [] p q e = never p
+place-apart a b (y ∷ ys) p q e = by (sameBytes y a) (sameBytes y b) refl refl p q e (λ h k f. place-apart a b ys h k f)
   where
-    by : (b : Bool) (ds : List Drawing) → AllOnce (pageOf p .drawing) → Every AllOnce ds → Every AllOnce (cond b (pageOf p .drawing ∷ ds) ds)
-    by true ds A E = (A, E)
-    by false ds A E = E
+    by : (s t : Bool) → sameBytes y a ≡ s → sameBytes y b ≡ t → cond s true (among sameBytes a ys) ≡ true → cond t true (among sameBytes b ys) ≡ true → cond s 0 (suc (placeOf sameBytes a ys)) ≡ cond t 0 (suc (placeOf sameBytes b ys)) → (among sameBytes a ys ≡ true → among sameBytes b ys ≡ true → placeOf sameBytes a ys ≡ placeOf sameBytes b ys → a ≡ b) → a ≡ b
+    by true true x z h k f go = sym (bytes-equal y a x) ∙ bytes-equal y b z
+    by true false x z h k f go = absurd (omega arith)
+    by false true x z h k f go = absurd (omega arith)
+    by false false x z h k f go = go h k (omega arith)
+
+index-same : (a b : List ℕ) (keys : List (List ℕ)) → among sameBytes a keys ≡ true → among sameBytes b keys ≡ true → eqb (placeOf sameBytes a keys) (placeOf sameBytes b keys) ≡ sameBytes a b
+index-same a b keys p q =
+    same (eqb (placeOf sameBytes a keys) (placeOf sameBytes b keys)) (sameBytes a b)
+    (λ e. let z : a ≡ b = place-apart a b keys p q (eqb-true (placeOf sameBytes a keys) (placeOf sameBytes b keys) e) in rw z (bytes-same b))
+    (λ e. eq-eqb (placeOf sameBytes a keys) (placeOf sameBytes b keys) (ap (λ (x : List ℕ). placeOf sameBytes x keys) (bytes-equal a b e)))
+
+module _ (keys : List (List ℕ)) (values : List Content) where
+  index-among : (a : List ℕ) → among sameBytes a keys ≡ true → (ts : List Tag) → Met keys values ts → isAmong (placeOf sameBytes a keys) (keyIndices keys ts) ≡ amongKeys a (map keyOf ts)
+  index-among a p [] M = refl
+  index-among a p (t ∷ ts) M = rw (index-same (t .key) a keys (M .0) p, index-among a p ts (M .2))
+
+  tags-apart : (ts : List Tag) → Met keys values ts → noneTwice (map keyOf ts) ≡ true → eachOnce (keyIndices keys ts) ≡ true
+  tags-apart [] M e = refl
+  tags-apart (t ∷ ts) M e = rw (index-among (t .key) (M .0) ts (M .2)) (by (amongKeys (t .key) (map keyOf ts)) e (tags-apart ts (M .2)))
+    where
+      by : (b : Bool) → cond b false (noneTwice (map keyOf ts)) ≡ true → (noneTwice (map keyOf ts) ≡ true → eachOnce (keyIndices keys ts) ≡ true) → cond b false (eachOnce (keyIndices keys ts)) ≡ true
+      by true h go = never h
+      by false h go = go h
+
+  features-apart : (fs : List Feature) → Met keys values (allTags fs) → Every FeatureOnce fs → Every (IndexOnce keys) fs
+  features-apart [] M E = tt
+  features-apart (f ∷ fs) M E =
+      (tags-apart (f .tags) (met-left keys values (f .tags) (allTags fs) M) (E .0), features-apart fs (met-right keys values (f .tags) (allTags fs) M) (E .1))
+
+-- MVT's sentence: of a layer that was created strict, no feature that goes out has a key index twice
+pub indices-once : (d : Drawing) → AllOnce d → Every (IndexOnce (keysOf (d .features))) (d .features)
+indices-once d A = features-apart (keysOf (d .features)) (valuesOf (d .features)) (d .features) (all-met [] [] (allTags (d .features))) (A .complete)

@@ -98,11 +98,18 @@ texts-are-utf8 p s =
     run-keeps TextIn made-text (p .calls) (s .fine) (begun p)
     (record { named = passed (p .name) (p .extent) (p .lent .texts) (creates-new p (s .creates)) .utf8; complete = tt; started = tt })
 
--- and so of every layer of a tile, whose bytes are the message of these drawings (`what-was-given`)
-pub tile-texts : (ps : List Plan) → AllSound ps → (a : At) → Every AllText (drawings (map pageOf ps) a)
-tile-texts [] s a = tt
-tile-texts (p ∷ ps) s a = by (eqb (call (layerOf (pageOf p)) a .answer .number) 0) (drawings (map pageOf ps) (after-layer (layerOf (pageOf p)) a)) (texts-are-utf8 p (s .0)) (tile-texts ps (s .1) (after-layer (layerOf (pageOf p)) a))
+-- and so of every layer of a tile, whose bytes are the message of these drawings (`what-was-given`): what is true of each drawing is true of those accepted
+pub tile-every : (P : Drawing → Type 0) (ps : List Plan) → Every (λ (p : Plan). P (pageOf p .drawing)) ps → (a : At) → Every P (drawings (map pageOf ps) a)
+tile-every P [] E a = tt
+tile-every P (p ∷ ps) E a = by (eqb (call (layerOf (pageOf p)) a .answer .number) 0) (drawings (map pageOf ps) (after-layer (layerOf (pageOf p)) a)) (E .0) (tile-every P ps (E .1) (after-layer (layerOf (pageOf p)) a))
   where
-    by : (b : Bool) (ds : List Drawing) → AllText (pageOf p .drawing) → Every AllText ds → Every AllText (cond b (pageOf p .drawing ∷ ds) ds)
-    by true ds A E = (A, E)
-    by false ds A E = E
+    by : (b : Bool) (ds : List Drawing) → P (pageOf p .drawing) → Every P ds → Every P (cond b (pageOf p .drawing ∷ ds) ds)
+    by true ds A F = (A, F)
+    by false ds A F = F
+
+all-texts : (ps : List Plan) → AllSound ps → Every (λ (p : Plan). AllText (pageOf p .drawing)) ps
+all-texts [] s = tt
+all-texts (p ∷ ps) s = (texts-are-utf8 p (s .0), all-texts ps (s .1))
+
+pub tile-texts : (ps : List Plan) → AllSound ps → (a : At) → Every AllText (drawings (map pageOf ps) a)
+tile-texts ps s a = tile-every AllText ps (all-texts ps s) a
