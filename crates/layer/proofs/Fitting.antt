@@ -2,7 +2,7 @@
 -- functions that compute them.
 use Prim.Native.Nat.{ℕ, _*_, _/_, _≤_}
 use mathlib.Core.Path.{_≡_, refl, sym, ap, _∙_}
-use mathlib.Core.Bool.{Bool, true, false, not, _&&_}
+use mathlib.Core.Bool.{Bool, true, false, cond, not, _&&_}
 use mathlib.Core.List.{List}
 use native.Mathlib.Omega.{arith}
 use lib.ListN.{length, take}
@@ -12,14 +12,16 @@ use Rattle.table.specs.declared.Found.{Found}
 use Rattle.table.specs.Keys.{keysIn}
 use Rattle.table.specs.Values.{valuesIn}
 pub use Rattle.promise.proofs.Joined.{both, never}
+use Rattle.promise.proofs.Joined.{same}
 pub use Rattle.number.proofs.Least.{smaller-le}
 use Rattle.records.specs.Records.{isFound, recordsIn, oneRecord}
 use Rattle.layer.specs.declared.Figures.{Figures}
 use Rattle.layer.specs.declared.Open.{Open}
 use Rattle.layer.specs.declared.Open.the-variants.{Shut, Since}
 use Rattle.layer.specs.declared.Layer.{Layer}
-use Rattle.layer.specs.Held.{mem, roomOf, fits, seen, maxKeys, maxValues, maxTexts, maxFeatureWords}
+use Rattle.layer.specs.Held.{mem, smaller, roomOf, fits, seen, maxKeys, maxValues, maxTexts, maxFeatureWords}
 use Rattle.layer.specs.State.{recordsOk, valid}
+use Rattle.layer.specs.Steps.{caps}
 
 -- ---- figures
 pub record Within (a b : Figures) : Type 0 where
@@ -67,12 +69,54 @@ fit u keys values texts features e =
       few-features = omega (arith, w .features, f .1);
     }
 
+-- what exceeds neither does not exceed the smaller
+le-smaller : (u a b : ℕ) → u ≤ a → u ≤ b → u ≤ smaller a b
+le-smaller u a b p q = by (leb a b)
+  where
+    by : (t : Bool) → u ≤ cond t a b
+    by true = p
+    by false = q
+
+-- `has_room_for`: the caps first, then the lists
+abbrev InLists : Figures → ℕ → ℕ → ℕ → ℕ → Bool
+InLists u keys values texts features = leb (u .keys * 2) keys && (leb (u .values * 3) values && (leb (u .texts) texts && leb (u .features) features))
+
+pub over-caps : (u : Figures) (keys values texts features : ℕ) (r : Bool) → r ≡ fits u caps → not r ≡ true → false ≡ fits u (roomOf keys values texts features)
+over-caps u keys values texts features r g h = by (fits u (roomOf keys values texts features)) refl
+  where
+    by : (t : Bool) → fits u (roomOf keys values texts features) ≡ t → false ≡ t
+    by true q =
+        let F = fit u keys values texts features q in
+        let c : fits u caps ≡ true = fits-yes u caps (record { keys = F .few-keys; values = F .few-values; texts = F .few-texts; features = F .few-features }) in
+        never (sym (sym g ∙ not-true r h) ∙ c)
+    by false q = refl
+
+pub in-lists : (u : Figures) (keys values texts features : ℕ) (r : Bool) → r ≡ fits u caps → not r ≡ false → InLists u keys values texts features ≡ fits u (roomOf keys values texts features)
+in-lists u keys values texts features r g h =
+    let W = within u caps (sym g ∙ not-false r h) in
+    same (InLists u keys values texts features) (fits u (roomOf keys values texts features))
+    (λ e.
+    let a = both (leb (u .keys * 2) keys) (leb (u .values * 3) values && (leb (u .texts) texts && leb (u .features) features)) e in
+    let b = both (leb (u .values * 3) values) (leb (u .texts) texts && leb (u .features) features) (a .1) in
+    let c = both (leb (u .texts) texts) (leb (u .features) features) (b .1) in
+    let k = leb-true (u .keys * 2) keys (a .0) in
+    let v = leb-true (u .values * 3) values (b .0) in
+    let t = leb-true (u .texts) texts (c .0) in
+    let f = leb-true (u .features) features (c .1) in
+    fits-yes u (roomOf keys values texts features)
+    (record {
+      keys = le-smaller (u .keys) (keys / 2) maxKeys (omega arith) (W .keys);
+      values = le-smaller (u .values) (values / 3) maxValues (omega arith) (W .values);
+      texts = le-smaller (u .texts) texts maxTexts t (W .texts);
+      features = le-smaller (u .features) features maxFeatureWords f (W .features);
+    }))
+    (λ e.
+    let F = fit u keys values texts features e in
+    rw (le-leb (u .keys * 2) keys (F .in-keys), le-leb (u .values * 3) values (F .in-values), le-leb (u .texts) texts (F .in-texts), le-leb (u .features) features (F .in-features)))
+
 -- the same where a function answered it
 pub told-fit : (u : Figures) (keys values texts features : ℕ) (r : Bool) → r ≡ fits u (roomOf keys values texts features) → not r ≡ false → Fit u keys values texts features
 told-fit u keys values texts features r g h = fit u keys values texts features (sym g ∙ not-false r h)
-
-pub room-told : (u room : Figures) (keys values texts features : ℕ) (r : Bool) → room ≡ roomOf keys values texts features → r ≡ fits u room → r ≡ fits u (roomOf keys values texts features)
-room-told u room keys values texts features r e g = g ∙ ap (λ (x : Figures). fits u x) e
 
 -- ---- `since_ok`
 module _ (o used : Figures) (ws : List ℕ) (r : Bool) (g : r ≡ fits o used) where

@@ -17,6 +17,10 @@ pub record Grows (f : Found) (n r : ℕ) : Type 0 where
   pub same : r ≡ moreOf f n
   pub small : r ≤ n
 
+-- the caps as figures
+abbrev pub caps : Figures
+caps = record { keys = maxKeys; values = maxValues; texts = maxTexts; features = maxFeatureWords }
+
 -- figures and lengths whose sums stay small
 pub record Small (u : Figures) (key text : ℕ) : Type 0 where
   pub keys : u .keys ≤ maxKeys

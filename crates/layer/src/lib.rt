@@ -21,6 +21,7 @@ ghost use mathlib.Core.Path.{_≡_};
 ghost use mathlib.Core.Bool.{true};
 ghost use Rattle.promise.specs.Answers.{Gives};
 ghost use Rattle.layer.specs.Held.{roomOf, fits};
+ghost use Rattle.layer.specs.Steps.{caps};
 ghost use Rattle.layer.specs.Answers.{saidCreated};
 ghost use Rattle.layer.specs.Calls.{isShut, created, chosen, createdStrict};
 use number::smaller;
@@ -107,7 +108,16 @@ impl Layer {
         }
     }
 
-    // Whether figures fit into lists of these lengths, caps and all.
+    // Whether no figure exceeds its cap.
+    fn are_capped(u: Figures) -> bool
+        ensures { λ r. ⌜ r ≡ fits u caps ⌝ }
+    {
+        (u.keys <= Layer::MAX_KEYS)
+            & ((u.values <= Layer::MAX_VALUES)
+                & ((u.texts <= Layer::MAX_TEXTS) & (u.features <= Layer::MAX_FEATURE_WORDS)))
+    }
+
+    // Whether figures fit into lists of these lengths, caps and all. No list's length is divided for it.
     pub(crate) fn has_room_for(
         u: Figures,
         keys: usize,
@@ -117,8 +127,11 @@ impl Layer {
     ) -> bool
         ensures { λ r. ⌜ r ≡ fits u (roomOf keys values texts features) ⌝ }
     {
-        let room = Layer::room(keys, values, texts, features);
-        fits_in(u, room)
+        if !Layer::are_capped(u) {
+            return false;
+        }
+        (u.keys * 2 <= keys)
+            & ((u.values * 3 <= values) & ((u.texts <= texts) & (u.features <= features)))
     }
 
     // A layer without features. Its name becomes the first text.

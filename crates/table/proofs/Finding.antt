@@ -26,11 +26,8 @@ odd j (w ∷ []) texts key h = refl
 odd j (w ∷ v ∷ l) texts key h = absurd (omega arith)
 
 module _ (keys texts key : List ℕ) (i j : ℕ) (I : Inv keys texts key i j) where
-  pub ends-odd : length keys - i < 2 → Nothing ≡ findKey 0 keys texts key
-  ends-odd h = rw (I .rest, odd j (drop i keys) texts key (rw length-drop h))
-
-  pub ends : length keys ≤ i → Nothing ≡ findKey 0 keys texts key
-  ends h = rw (I .rest, drop-of-length-le keys {i = i} h)
+  pub ends : length keys - i < 2 → Nothing ≡ findKey 0 keys texts key
+  ends h = rw (I .rest, odd j (drop i keys) texts key (rw length-drop h))
 
   step : 2 ≤ length keys - i → findKey j (drop i keys) texts key ≡ cond (sameText texts (getD keys i 0) (getD keys (i + 1) 0) key) (At j) (findKey (j + 1) (drop (i + 2) keys) texts key)
   step h = rw (next keys i (i + 1) (omega arith) (omega arith), next keys (i + 1) (i + 2) (omega arith) (omega arith), add-one j)

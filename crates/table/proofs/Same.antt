@@ -1,7 +1,7 @@
 -- `sameText` at each return and turn of the loop of `same_text`, over plain lists and numbers.
 use Prim.Native.Nat.{ℕ, suc, _+_, _-_, _≤_, _<_, zero-le}
-use mathlib.Core.Path.{_≡_}
-use mathlib.Core.Bool.{true, false}
+use mathlib.Core.Path.{_≡_, refl}
+use mathlib.Core.Bool.{Bool, true, false}
 use mathlib.Core.List.{List, _∷_}
 use native.Mathlib.Omega.{arith}
 use lib.ListN.{length, getD, drop, drop-of-length-le}
@@ -9,17 +9,21 @@ use lib.Seq.{drop-cons}
 use lib.Dec.{eqb}
 use borrow.Author.Tests.{le-leb, lt-leb, eq-eqb, ne-eqb}
 use mathlib.Core.Bool.{cond}
-use Rattle.table.specs.Texts.{begins, sameText}
+use Rattle.table.specs.Texts.{inside, begins, sameText}
 
 module _ (texts : List ℕ) (start len : ℕ) (key : List ℕ) where
+  pub text-other : (len ≡ length key → ⊥) → false ≡ sameText texts start len key
+  text-other h = rw (ne-eqb len (length key) h) (by (inside (length texts) start len))
+    where
+      by : (b : Bool) → false ≡ cond b false false
+      by true = refl
+      by false = refl
+
   pub text-far : length texts < start → false ≡ sameText texts start len key
   text-far h = rw (lt-leb (start + len) (length texts) (omega arith))
 
   pub text-cut : start ≤ length texts → length texts - start < len → false ≡ sameText texts start len key
   text-cut a h = rw (lt-leb (start + len) (length texts) (omega arith))
-
-  pub text-long : start ≤ length texts → len ≤ length texts - start → (len ≡ length key → ⊥) → false ≡ sameText texts start len key
-  text-long a b h = rw (le-leb (start + len) (length texts) (omega arith), ne-eqb len (length key) h)
 
 -- a number of the list that is taken to be the next
 pub next : (l : List ℕ) (j k : ℕ) → k ≡ suc j → j < length l → drop j l ≡ getD l j 0 ∷ drop k l

@@ -47,11 +47,8 @@ odd j (a ∷ b ∷ []) ts v t z = refl
 odd j (a ∷ b ∷ c ∷ vs) ts v t z = absurd (omega arith)
 
 module _ (vs ts : List ℕ) (v : Value) (t : List ℕ) (i j : ℕ) (I : Inv vs ts v t i j) where
-  pub ends-odd : length vs - i < 3 → Nothing ≡ findValue 0 vs ts v t
-  ends-odd z = rw (I .rest, odd j (drop i vs) ts v t (rw length-drop z))
-
-  pub ends : length vs ≤ i → Nothing ≡ findValue 0 vs ts v t
-  ends z = rw (I .rest, drop-of-length-le vs {i = i} z)
+  pub ends : length vs - i < 3 → Nothing ≡ findValue 0 vs ts v t
+  ends z = rw (I .rest, odd j (drop i vs) ts v t (rw length-drop z))
 
   module _ (z : 3 ≤ length vs - i) (b : Bool) (g : b ≡ sameValue ts (getD vs i 0) (getD vs (i + 1) 0) (getD vs (i + 2) 0) v t) where
     step : findValue j (drop i vs) ts v t ≡ cond b (At j) (findValue (j + 1) (drop (i + 3) vs) ts v t)

@@ -69,13 +69,13 @@ pub fn index_of(f: Found, next: usize) -> usize
 pub fn same_text(texts: &[u8], start: usize, len: usize, key: &[u8]) -> bool
     ensures { λ r. ⌜ r ≡ sameText (now (texts .entry)) start len (now (key .entry)) ⌝ }
 {
+    if len != key.len() {
+        return false;
+    }
     if texts.len() < start {
         return false;
     }
     if texts.len() - start < len {
-        return false;
-    }
-    if len != key.len() {
         return false;
     }
     let mut i = 0;
@@ -94,10 +94,7 @@ pub fn key_pos(keys: &[u32], texts: &[u8], key: &[u8]) -> Found
 {
     let mut i = 0;
     let mut j = 0;
-    while i < keys.len() {
-        if keys.len() - i < 2 {
-            return Found::Nothing;
-        }
+    while 2 <= keys.len() - i {
         let start = wide(keys[i]);
         let len = wide(keys[i + 1]);
         if same_text(texts, start, len, key) {
@@ -153,10 +150,7 @@ pub fn val_pos(values: &[u32], texts: &[u8], v: Value, text: &[u8]) -> Found
 {
     let mut i = 0;
     let mut j = 0;
-    while i < values.len() {
-        if values.len() - i < 3 {
-            return Found::Nothing;
-        }
+    while 3 <= values.len() - i {
         if same_value(texts, values[i], values[i + 1], values[i + 2], v, text) {
             return Found::At(j);
         }

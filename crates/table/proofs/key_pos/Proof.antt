@@ -1,5 +1,5 @@
 -- The loop's invariant: what is found in all keys is what is found in those from i on, of which the first has the index j.
-use Rattle.table.proofs.Finding.{Inv, start, ends-odd, ends, here, further}
+use Rattle.table.proofs.Finding.{Inv, start, ends, here, further}
 use lib.ListN.{length}
 use Prim.Native.Nat.{_-_}
 use borrow.Author.Needs.{needs}
@@ -15,11 +15,8 @@ abbrev μ-loop : tie.MeasureT-loop
 loop-holds : tie.Need-loop-holds Inv-loop μ-loop
 loop-holds c = start _ _ _
 
-sub-if1 : tie.Need-sub-if1 Inv-loop μ-loop
-sub-if1 c = search needs
-
-returns : tie.Need-returns Inv-loop μ-loop
-returns c = search (needs, ends-odd)
+sub-loop : tie.Need-sub-loop Inv-loop μ-loop
+sub-loop c = search needs
 
 mul-wide : tie.Need-mul-wide Inv-loop μ-loop
 mul-wide c = search needs
@@ -45,8 +42,8 @@ wide-requires-2 c κs = search needs
 same-text-requires : tie.Need-same-text-requires Inv-loop μ-loop
 same-text-requires c κs = search needs
 
-returns-2 : tie.Need-returns-2 Inv-loop μ-loop
-returns-2 c = search (needs, here)
+returns : tie.Need-returns Inv-loop μ-loop
+returns c = search (needs, here)
 
 add-i : tie.Need-add-i Inv-loop μ-loop
 add-i c = search needs
@@ -61,10 +58,10 @@ loop-again : tie.Need-loop-again Inv-loop μ-loop
 loop-again c = let w = c .before .before in
     let k = w .before .before in
     let e = k .before .before in
-    further _ _ _ _ _ (e .before .before .loop .inv) _ _ (k .wide .ensures .same) (w .wide2 .ensures .same) _ (c .before .same-text .ensures) (e .if1 .left) (c .if2 .left)
+    further _ _ _ _ _ (e .before .loop .inv) _ _ (k .wide .ensures .same) (w .wide2 .ensures .same) _ (c .before .same-text .ensures) (e .loop-test .taken) (c .if1 .left)
 
-returns-3 : tie.Need-returns-3 Inv-loop μ-loop
-returns-3 c = search (needs, ends)
+returns-2 : tie.Need-returns-2 Inv-loop μ-loop
+returns-2 c = search (needs, ends)
 
 pub key-pos-spec : {M : Type 1} → statement M
 key-pos-spec =
@@ -73,8 +70,7 @@ key-pos-spec =
     Inv-loop
     μ-loop
     loop-holds
-    sub-if1
-    returns
+    sub-loop
     mul-wide
     shared-slice-read-wide
     wide-requires
@@ -83,9 +79,9 @@ key-pos-spec =
     shared-slice-read-wide-2
     wide-requires-2
     same-text-requires
-    returns-2
+    returns
     add-i
     add-j
     loop-less
     loop-again
-    returns-3)
+    returns-2)

@@ -1,5 +1,5 @@
 -- The loop's invariant: the text lies within the bytes, is as long as the key, and i of its bytes are the key's.
-use Rattle.table.proofs.Same.{Inv, text-far, text-cut, text-long, begin, differs, same, all-same}
+use Rattle.table.proofs.Same.{Inv, text-other, text-far, text-cut, begin, differs, same, all-same}
 use Prim.Native.Nat.{_-_}
 use borrow.Author.Needs.{needs}
 use Rattle.table.proofs.same_text.Statement.{statement}
@@ -12,16 +12,16 @@ abbrev μ-loop : tie.MeasureT-loop
 μ-loop texts start len key i₀ i = len - i
 
 returns : tie.Need-returns Inv-loop μ-loop
-returns c = search (needs, text-far)
-
-sub-if2 : tie.Need-sub-if2 Inv-loop μ-loop
-sub-if2 c = search needs
+returns c = search (needs, text-other)
 
 returns-2 : tie.Need-returns-2 Inv-loop μ-loop
-returns-2 c = search (needs, text-cut)
+returns-2 c = search (needs, text-far)
+
+sub-if3 : tie.Need-sub-if3 Inv-loop μ-loop
+sub-if3 c = search needs
 
 returns-3 : tie.Need-returns-3 Inv-loop μ-loop
-returns-3 c = search (needs, text-long)
+returns-3 c = search (needs, text-cut)
 
 loop-holds : tie.Need-loop-holds Inv-loop μ-loop
 loop-holds c = search (needs, begin)
@@ -57,8 +57,8 @@ same-text-spec =
     Inv-loop
     μ-loop
     returns
-    sub-if2
     returns-2
+    sub-if3
     returns-3
     loop-holds
     add-if4

@@ -1,7 +1,7 @@
 -- The loop's invariant: what is found in all values is what is found in those from i on, of which the first has the index j.
 use Prim.Native.Nat.{_-_}
 use lib.ListN.{length}
-use Rattle.table.proofs.Values.{Inv, start, ends-odd, ends, here, further}
+use Rattle.table.proofs.Values.{Inv, start, ends, here, further}
 use Rattle.table.proofs.val_pos.Statement.{statement}
 use Rattle.table.proofs.val_pos.Tie as tie
 use borrow.Author.Needs.{needs}
@@ -15,11 +15,8 @@ abbrev μ-loop : tie.MeasureT-loop
 loop-holds : tie.Need-loop-holds Inv-loop μ-loop
 loop-holds c = start _ _ _ _
 
-sub-if1 : tie.Need-sub-if1 Inv-loop μ-loop
-sub-if1 c = search needs
-
-returns : tie.Need-returns Inv-loop μ-loop
-returns c = search (needs, ends-odd)
+sub-loop : tie.Need-sub-loop Inv-loop μ-loop
+sub-loop c = search needs
 
 mul-same-value : tie.Need-mul-same-value Inv-loop μ-loop
 mul-same-value c = search needs
@@ -48,8 +45,8 @@ shared-slice-read-same-value-3 c = search needs
 same-value-requires : tie.Need-same-value-requires Inv-loop μ-loop
 same-value-requires c κs = search needs
 
-returns-2 : tie.Need-returns-2 Inv-loop μ-loop
-returns-2 c = search (needs, here)
+returns : tie.Need-returns Inv-loop μ-loop
+returns c = search (needs, here)
 
 add-i : tie.Need-add-i Inv-loop μ-loop
 add-i c = search needs
@@ -62,10 +59,10 @@ loop-less c = search needs
 
 loop-again : tie.Need-loop-again Inv-loop μ-loop
 loop-again c = let e = c .before .before .before .before .before in
-    further _ _ _ _ _ _ (e .before .before .loop .inv) (e .if1 .left) _ (c .before .same-value .ensures) (c .if2 .left)
+    further _ _ _ _ _ _ (e .before .loop .inv) (e .loop-test .taken) _ (c .before .same-value .ensures) (c .if1 .left)
 
-returns-3 : tie.Need-returns-3 Inv-loop μ-loop
-returns-3 c = search (needs, ends)
+returns-2 : tie.Need-returns-2 Inv-loop μ-loop
+returns-2 c = search (needs, ends)
 
 pub val-pos-spec : {M : Type 1} → statement M
 val-pos-spec =
@@ -74,8 +71,7 @@ val-pos-spec =
     Inv-loop
     μ-loop
     loop-holds
-    sub-if1
-    returns
+    sub-loop
     mul-same-value
     shared-slice-read-same-value
     add-same-value
@@ -85,9 +81,9 @@ val-pos-spec =
     mul-same-value-3
     shared-slice-read-same-value-3
     same-value-requires
-    returns-2
+    returns
     add-i
     add-j
     loop-less
     loop-again
-    returns-3)
+    returns-2)
