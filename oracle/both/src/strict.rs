@@ -159,10 +159,18 @@ impl Run {
         self.turn + self.calls
     }
 
-    /// What is wanted where a call is left out of the ordinary run; what it would say there is counted.
-    fn left_out(&mut self, by: &'static str, ordinary: Said) -> Said {
-        self.tally.add(FULL, usize::from(ordinary.0 == ROOM));
+    /// A call that is AGAIN, and what an ordinary layer says to it on a copy: it does not look, so it takes it or has no room.
+    fn met(&mut self, by: &'static str, ordinary: u32) -> Result<(), String> {
+        if ![0, ROOM].contains(&ordinary) {
+            return Err(format!("the ordinary layer says {ordinary}"));
+        }
+        self.tally.add(FULL, usize::from(ordinary == ROOM));
         self.tally.add(by, 1);
+        Ok(())
+    }
+
+    /// What is wanted where a call is left out of the ordinary run.
+    fn left_out(&self) -> Said {
         (AGAIN, self.ordinary.layer, self.ordinary.tile)
     }
 
@@ -173,11 +181,10 @@ impl Run {
         let said = self.changed(operation, said);
         let wanted = match operation {
             Operation::Tag(key, value) if self.rule.refuses(key, value) => {
-                let ordinary = self.ordinary.clone().called(operation, turn);
-                let wanted = self.left_out(BY_TAG, ordinary);
+                self.met(BY_TAG, self.ordinary.clone().called(operation, turn).0)?;
                 let is_same = self.rule.has_tag(key, value);
                 self.tally.add(SAME_VALUE, usize::from(is_same));
-                wanted
+                self.left_out()
             }
             _ => self.ordinary.called(operation, turn),
         };
@@ -216,8 +223,8 @@ impl Run {
     fn whole(&mut self, feature: &Feature) -> Result<(), String> {
         let said = self.strict.whole(feature);
         let wanted = if self.rule.refuses_whole(feature) {
-            let ordinary = self.ordinary.clone().whole(feature);
-            self.left_out(BY_WHOLE, ordinary)
+            self.met(BY_WHOLE, self.ordinary.clone().whole(feature).0)?;
+            self.left_out()
         } else {
             self.ordinary.whole(feature)
         };
@@ -243,10 +250,13 @@ impl Run {
         let mut strict = self.strict.indexes(turn);
         let mut ordinary = strict.clone();
         let said = self.strict.several(features, &mut strict);
+        let mut copy = self.ordinary.clone();
         let mut wanted = self.ordinary.several(before, &mut ordinary);
-        if wanted.refusal == 0 && again.is_some() {
-            wanted.refusal = AGAIN;
+        if let (0, Some(at)) = (wanted.refusal, again) {
+            let all = copy.several(&features[..=at], &mut ordinary.clone());
+            self.met(BY_SEVERAL, all.refusal)?;
             self.met_several(wanted.count, &ordinary);
+            wanted.refusal = AGAIN;
         }
         if said.count != wanted.count {
             let (strict, ordinary) = (said.count, wanted.count);
@@ -273,10 +283,9 @@ impl Run {
         let memory = &self.ordinary.memory;
         let is_indexed = many::serves(keys.room(), memory.keys.room() / 2)
             || many::serves(values.room(), memory.values.room() / 3);
-        let tally = &mut self.tally;
-        tally.add(BY_SEVERAL, 1);
-        tally.add(BEHIND, usize::from(accepted > 0));
-        tally.add(if is_indexed { INDEXED } else { SCANNED }, 1);
+        self.tally.add(BEHIND, usize::from(accepted > 0));
+        let how = if is_indexed { INDEXED } else { SCANNED };
+        self.tally.add(how, 1);
     }
 
     /// The strict run's answer, layer, tile and lists are the ordinary run's, but for the mark.
