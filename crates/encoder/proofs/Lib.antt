@@ -26,3 +26,4 @@ pub mod Losses
 pub mod Courses
 pub mod Turns
 pub mod Whole
+pub mod Runs

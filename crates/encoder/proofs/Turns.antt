@@ -30,7 +30,7 @@ use Rattle.encoder.specs.Stretches.{pointIn, stretched}
 use Rattle.encoder.proofs.Callers.{stretch-keeps}
 use Rattle.encoder.specs.declared.whole_job.Course.{Course}
 use Rattle.encoder.specs.declared.whole_job.Course.the-variants.{On, Off}
-use Rattle.encoder.specs.Jobs.{pointsOf, endsAt, isJob, part, jobCalls, on, go, outcomeOf}
+use Rattle.encoder.specs.Jobs.{pointsOf, endsAt, isJobOf, part, jobCalls, on, go, outcomeOf}
 use Rattle.encoder.specs.States.{valid, Sound}
 use Rattle.encoder.proofs.Reached.{valid-is, add-sound}
 use Rattle.encoder.proofs.Within.{go-sound}
@@ -40,41 +40,38 @@ use Rattle.encoder.proofs.Courses.{go-on, go-off, off-list, then, go-th
 pub next : {A : Type 0} (l : List A) (j k : ℕ) (d : A) → k ≡ suc j → j < length l → drop j l ≡ getD l j d ∷ drop k l
 next l j k d e h = rw e (drop-cons l j d h)
 
--- ---- the ends: `is_job`
-pub record Ending (points : List ℤ) (ends : List ℕ) (from j : ℕ) : Type 0 where
+-- ---- the ends: `is_job_of`, of n coordinates
+pub record Ending (n : ℕ) (ends : List ℕ) (from j : ℕ) : Type 0 where
   pub at : j ≤ length ends
-  pub rest : isJob points ends ≡ endsAt from (drop j ends) (length points / 2)
+  pub rest : isJobOf n ends ≡ endsAt from (drop j ends) (n / 2)
 
-module _ (points : List ℤ) (ends : List ℕ) where
-  pub no-parts : length ends ≡ 0 → false ≡ isJob points ends
-  unfolding isJob
+module _ (n : ℕ) (ends : List ℕ) where
+  pub no-parts : length ends ≡ 0 → false ≡ isJobOf n ends
   no-parts e = rw (eq-eqb (length ends) 0 e)
 
   module _ (e : length ends ≡ 0 → ⊥) where
-    pub odd-list : (length points % 2 ≡ 0 → ⊥) → false ≡ isJob points ends
-    unfolding isJob
-    odd-list f = rw (ne-eqb (length ends) 0 e, ne-eqb (length points % 2) 0 f)
+    pub odd-list : (n % 2 ≡ 0 → ⊥) → false ≡ isJobOf n ends
+    odd-list f = rw (ne-eqb (length ends) 0 e, ne-eqb (n % 2) 0 f)
 
-    pub ends-start : length points % 2 ≡ 0 → Ending points ends 0 0
-    unfolding isJob
-    ends-start f = record { at = omega arith; rest = rw (ne-eqb (length ends) 0 e, eq-eqb (length points % 2) 0 f) }
+    pub ends-start : n % 2 ≡ 0 → Ending n ends 0 0
+    ends-start f = record { at = omega arith; rest = rw (ne-eqb (length ends) 0 e, eq-eqb (n % 2) 0 f) }
 
-  module _ (from j : ℕ) (I : Ending points ends from j) where
-    pub ends-all : length ends ≤ j → eqb from (length points / 2) ≡ isJob points ends
+  module _ (from j : ℕ) (I : Ending n ends from j) where
+    pub ends-all : length ends ≤ j → eqb from (n / 2) ≡ isJobOf n ends
     ends-all h = rw (I .rest, drop-of-length-le ends h)
 
     module _ (h : j < length ends) where
       split : drop j ends ≡ getD ends j 0 ∷ drop (j + 1) ends
       split = next ends j (j + 1) 0 (omega arith) h
 
-      pub ends-down : getD ends j 0 < from → false ≡ isJob points ends
+      pub ends-down : getD ends j 0 < from → false ≡ isJobOf n ends
       ends-down d = rw (I .rest, split, lt-leb from (getD ends j 0) d)
 
-      pub ends-turn : from ≤ getD ends j 0 → Ending points ends (getD ends j 0) (j + 1)
+      pub ends-turn : from ≤ getD ends j 0 → Ending n ends (getD ends j 0) (j + 1)
       ends-turn d = record { at = omega arith; rest = I .rest ∙ rw (split, le-leb from (getD ends j 0) d) }
 
 -- ---- the points of a part: `add_part`
-points-at : (l : List ℤ) (i : ℕ) → i < length l / 2 → drop i (pointsOf l) ≡ pointIn l i ∷ drop (i + 1) (pointsOf l)
+pub points-at : (l : List ℤ) (i : ℕ) → i < length l / 2 → drop i (pointsOf l) ≡ pointIn l i ∷ drop (i + 1) (pointsOf l)
 points-at [] i h = absurd (omega arith)
 points-at (x ∷ []) i h = absurd (omega arith)
 points-at (x ∷ y ∷ l) zero h = refl

@@ -34,8 +34,12 @@ abbrev pub endsAt : ℕ → List ℕ → ℕ → Bool
 endsAt from [] n = eqb from n
 endsAt from (e ∷ es) n = cond (leb from e) (endsAt e es n) false
 
+-- of a list of n coordinates
+abbrev pub isJobOf : ℕ → List ℕ → Bool
+isJobOf n ends = cond (eqb (length ends) 0) false (cond (eqb (n % 2) 0) (endsAt 0 ends (n / 2)) false)
+
 unfoldable pub isJob : List ℤ → List ℕ → Bool
-isJob points ends = cond (eqb (length ends) 0) false (cond (eqb (length points % 2) 0) (endsAt 0 ends (length points / 2)) false)
+isJob points ends = isJobOf (length points) ends
 
 -- ---- the calls: for each part its points, from the end before it to its own, and its completion
 abbrev pub part : List Pt → ℕ → ℕ → List Pt
@@ -73,6 +77,14 @@ outcome (off a) = a
 
 abbrev pub run : List Call → GeomEncoder → List ℕ → Written (Said ℕ) (List ℕ)
 run cs s out = record { answer = outcome (go cs 0 s out .answer); memory = go cs 0 s out .memory }
+
+-- ---- a run of points, which a job may add piece by piece (document 02, request (x)): their calls in order and no completion
+abbrev pub addCalls : List Pt → List Call
+addCalls [] = []
+addCalls (p ∷ ps) = add p ∷ addCalls ps
+
+unfoldable pub addedRun : GeomEncoder → List ℤ → List ℕ → Written Outcome (List ℕ)
+addedRun s points out = go (addCalls (pointsOf points)) 0 s out
 
 -- ---- the whole job: JOB, KIND, BOX, then the calls, which give w; an answer is made by f of what is said
 abbrev pub checked : {A M : Type 0} → (Said ℕ → A) → ℕ → BBox → List ℤ → List ℕ → M → Written A M → Written A M

@@ -46,6 +46,7 @@ mod draft;
 mod pen;
 mod plan;
 pub mod points;
+pub mod run;
 mod stretch;
 pub mod tally;
 pub mod whole_job;

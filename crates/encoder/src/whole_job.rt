@@ -7,7 +7,7 @@ ghost use lib.ListN.{length};
 ghost use Rattle.promise.specs.Answers.{Gives};
 ghost use Rattle.encoder.specs.Calls.{partCalls};
 ghost use Rattle.encoder.specs.States.{Sound};
-ghost use Rattle.encoder.specs.Jobs.{pointsOf, isJob, endsAt, part, go, goAll, endOf, encodedJob, saidEncoded, outcomeOf, Finishes};
+ghost use Rattle.encoder.specs.Jobs.{pointsOf, isJob, isJobOf, endsAt, part, go, goAll, endOf, encodedJob, saidEncoded, outcomeOf, Finishes};
 use crate::Drawn;
 use crate::GeomEncoder;
 use crate::Started;
@@ -29,13 +29,14 @@ pub enum Course {
     Off(Refusal, usize),
 }
 
-pub fn is_job(points: &[i32], ends: &[u32]) -> bool
-    ensures { λ r. ⌜ r ≡ isJob (now (points .entry)) (now (ends .entry)) ⌝ }
+// JOB of a list of coordinates of that length, whatever they are.
+pub fn is_job_of(length: usize, ends: &[u32]) -> bool
+    ensures { λ r. ⌜ r ≡ isJobOf length (now (ends .entry)) ⌝ }
 {
     if ends.len() == 0 {
         return false;
     }
-    if points.len() % 2 != 0 {
+    if length % 2 != 0 {
         return false;
     }
     let mut from = 0;
@@ -48,7 +49,13 @@ pub fn is_job(points: &[i32], ends: &[u32]) -> bool
         from = end;
         j += 1;
     }
-    from == points.len() / 2
+    from == length / 2
+}
+
+pub fn is_job(points: &[i32], ends: &[u32]) -> bool
+    ensures { λ r. ⌜ r ≡ isJob (now (points .entry)) (now (ends .entry)) ⌝ }
+{
+    is_job_of(points.len(), ends)
 }
 
 // Adds the points of one part and completes it: one point by itself, which may be any, then a stretch of those that are plain. None starts before a part

@@ -7,3 +7,4 @@ pub mod Rows
 pub mod Signs
 pub mod Placing
 pub mod Triples
+pub mod Jobs

@@ -5,5 +5,6 @@ pub mod Losses
 pub mod Row
 pub mod Tiles
 pub mod Lending
+pub mod Jobs
 pub mod Faults
 pub mod Vertices

@@ -7,7 +7,8 @@ use lib.Seq.{length-take-le}
 use Rattle.number_file.proofs.Places.{read-within}
 use Rattle.job_file.proofs.Taking.{file-within}
 use Rattle.job.specs.Program.{printed}
-use Rattle.job.proofs.Telling.{no-numbers, no-job, all-words}
+use Rattle.job_file.specs.JobFile.{jobFile}
+use Rattle.printed.proofs.Jobs.{no-numbers, no-job, all-words}
 use borrow.Author.Needs.{needs}
 use Rattle.job.proofs.answer.Statement.{statement}
 use Rattle.job.proofs.answer.Tie as tie
@@ -89,7 +90,7 @@ returns : tie.Need-returns
 unfolding printed
 returns c =
     let k = c .before .before .before .before .before .before in
-    no-numbers _ _ (start-before-number (c .before .before .before .before) .args .text .now) _ _ _ (k .r .given .0 .0) (start-before-number (c .before .before .before .before) .pre .0)
+    no-numbers jobFile _ _ (start-before-number (c .before .before .before .before) .args .text .now) _ _ _ (k .r .given .0 .0) (start-before-number (c .before .before .before .before) .pre .0)
     (rw (k .r .given .1) at (k .before .before .before .before .read-numbers .ensures)) (rw (c .before .before .before .before .number .ensures) at (c .before .before .show-refused .ensures))
 
 same-length-3 : tie.Need-same-length-3
@@ -107,7 +108,7 @@ returns-2 c =
     let k = c .before .before .before .before .before .before in
     let e = k .before .before .before .before in
     let t = e .before .before .before .before in
-    no-job _ _ (start-before-r2 (c .before .before .before .before .before .before) .args .text .now) _ _ _ _ (rw (t .n .given .1) at (t .before .before .before .before .read-numbers .ensures)) _ (k .r2 .given .0 .0) _ (start-before-r2 (c .before .before .before .before .before .before) .pre .0)
+    no-job jobFile _ _ (start-before-r2 (c .before .before .before .before .before .before) .args .text .now) _ _ _ _ (rw (t .n .given .1) at (t .before .before .before .before .read-numbers .ensures)) _ (k .r2 .given .0 .0) _ (start-before-r2 (c .before .before .before .before .before .before) .pre .0)
     (rw (k .r2 .given .1) at (e .encode-file .ensures)) (rw (c .before .before .before .before .number2 .ensures) at (c .before .before .show-refused2 .ensures))
 
 same-length-6 : tie.Need-same-length-6
@@ -127,7 +128,7 @@ returns-3 c =
     let t = e .before .before .before .before in
     let s = t .before .before .before .before in
     let f = s .before .before .before .before .before .before in
-    all-words _ _ (f .args .text .now) _ _ _ _ (rw (t .n .given .1) at (s .read-numbers .ensures)) _ (k .used .given .0 .0)
+    all-words jobFile _ _ (f .args .text .now) _ _ _ _ (rw (t .n .given .1) at (s .read-numbers .ensures)) _ (k .used .given .0 .0)
     (omega (arith, words-within (c .before .before .before .before .before))) (omega arith) (rw (k .used .given .1) at (e .encode-file .ensures)) (c .before .before .show-words .ensures)
 
 pub answer-spec : {M : Type 1} → statement M

@@ -1,0 +1,11 @@
+pub mod Sums
+pub mod Doubling
+pub mod Limits
+pub mod Halving
+pub mod Laws
+pub mod Answers
+pub mod Near
+pub mod Stepping
+pub mod Plain
+pub mod Lists
+pub mod Turns

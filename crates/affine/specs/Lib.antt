@@ -1,0 +1,4 @@
+pub mod Grid
+pub mod Mapping
+pub mod Facts
+pub mod Laws
