@@ -47,7 +47,9 @@ unfolding round
 half-is = refl
 
 below-half : (n c : ℕ) → 0 < c → T (lt (round binary64 false n c) half) → 2 * n < c
-below-half n c C t = lt-of-not-le (λ (g : c ≤ 2 * n). not-both (round binary64 false n c) (subst (λ (z : Float). T (le z (round binary64 false n c))) half-is (round-mono binary64 1 2 n c (omega arith) C (omega arith))) t)
+below-half n c C t =
+    lt-of-not-le
+    (λ (g : c ≤ 2 * n). not-both (round binary64 false n c) (subst (λ (z : Float). T (le z (round binary64 false n c))) half-is (round-mono binary64 1 2 n c (omega arith) C (omega arith))) t)
 
 turned : (y : Float) → lt (fin true 1 (negsuc 0)) (neg y) ≡ lt y half
 unfolding lt neg

@@ -24,7 +24,8 @@ use Rattle.affine.proofs.Sums.{sum-like, sum-below, sum-above}
 digits : (n c p l : ℕ) → 0 < c → 2 ^ p * c ≤ n → n < 2 ^ suc p * c → size (n * 2 ^ l / c) ≡ suc p + l
 digits n c p l C h k =
     let lo : 2 ^ (p + l) * c ≤ n * 2 ^ l = le-trans (le-of-eq (ap (λ (x : ℕ). x * c) (pow-add 2 p l) ∙ mul-right-comm (2 ^ p) (2 ^ l) c)) (mul-le-mul-right (2 ^ l) h) in
-    let hi : n * 2 ^ l < 2 ^ (suc p + l) * c = lt-of-lt-of-le (mul-lt-mul-of-pos-right k (pow-pos l)) (le-of-eq (mul-right-comm (2 ^ suc p) c (2 ^ l) ∙ ap (λ (x : ℕ). x * c) (sym (pow-add 2 (suc p) l)))) in
+    let hi : n * 2 ^ l < 2 ^ (suc p + l) * c =
+    lt-of-lt-of-le (mul-lt-mul-of-pos-right k (pow-pos l)) (le-of-eq (mul-right-comm (2 ^ suc p) c (2 ^ l) ∙ ap (λ (x : ℕ). x * c) (sym (pow-add 2 (suc p) l)))) in
     let q = n * 2 ^ l / c in
     let few : size q ≤ suc p + l = size-le q (suc p + l) (div-lt-iff-lt-mul C .1 hi) in
     let many : p + l < size q = lt-of-not-le (λ (g : size q ≤ p + l). not-le-of-lt (lt-of-lt-of-le (size-lt q) (pow-mono g)) (le-div-iff-mul-le C .1 lo)) in
@@ -41,7 +42,8 @@ rounded : (n c : ℕ) → 0 < c → 2 ^ 52 * c ≤ n → n < 2 ^ 53 * c → HasV
 rounded n c C h k =
     let d : drop 53 (n * 2 ^ 1074) c ≡ 1074 = ap (λ (z : ℕ). z - 53) (digits n c 52 1074 C h k) in
     let g : grid binary64 n c ≡ closest n c * 2 ^ 1074 = at n c C 1074 (drop 53 (n * 2 ^ 1074) c) d in
-    let b : closest n c * 2 ^ 1074 < 2 ^ (1074 + 1024) = lt-of-le-of-lt (mul-le-mul-right (2 ^ 1074) (top n c C k)) (lt-of-le-of-lt (le-of-eq (sym (pow-add 2 53 1074))) (pow-lt {i = 53 + 1074} {j = 1074 + 1024} (omega arith))) in
+    let b : closest n c * 2 ^ 1074 < 2 ^ (1074 + 1024) =
+    lt-of-le-of-lt (mul-le-mul-right (2 ^ 1074) (top n c C k)) (lt-of-le-of-lt (le-of-eq (sym (pow-add 2 53 1074))) (pow-lt {i = 53 + 1074} {j = 1074 + 1024} (omega arith))) in
     whole (round binary64 false n c) (closest n c) (2 ^ 1074) (pow-pos 1074)
     (subst (λ (z : ℕ). HasValue (round binary64 false n c) false z (2 ^ 1074)) g (round-val binary64 n c (subst (λ (z : ℕ). z < 2 ^ (1074 + 1024)) (sym g) b)))
   where
@@ -54,46 +56,51 @@ rounded n c C h k =
     top n c C h = le-trans (nearest-le (n / c) (compare (n % c * 2) c)) (div-lt-iff-lt-mul C .1 h)
 
 -- ---- up: the sum with 3 * 2 ^ 51, over the double's divisor
+abbrev mid : ℕ
+mid = 6755399441055744
+
 abbrev centre : Float
 centre = fin false 3 (pos 51)
 
 abbrev moved : Bool → ℕ → ℕ → ℕ
-moved false a d = a + 6755399441055744 * d
-moved true a d = 6755399441055744 * d - a
+moved false a d = a + mid * d
+moved true a d = mid * d - a
 
 up-is : (s : Bool) (m : ℕ) (e : ℤ) → m * up e * 2 < 2147483647 * down e → add binary64 (fin s m e) centre ≡ round binary64 false (moved s (m * up e) (down e)) (down e)
 unfolding add
 up-is false m e h =
     let a : ℕ = m * up e in
-    let b : ℕ = 6755399441055744 * down e in
-    sum-like binary64 false (a * 1) b (down e * 1) ∙ ap (λ (z : ℕ). round binary64 false (z + b) (down e * 1)) (mul-one a) ∙ ap (λ (z : ℕ). round binary64 false (a + b) z) (mul-one (down e))
+    let b : ℕ = mid * down e in
+    sum-like binary64 false (a * 1) b (down e * 1)
+    ∙ ap (λ (z : ℕ). round binary64 false (z + b) (down e * 1)) (mul-one a) ∙ ap (λ (z : ℕ). round binary64 false (a + b) z) (mul-one (down e))
 up-is true m e h =
     let a : ℕ = m * up e in
-    let b : ℕ = 6755399441055744 * down e in
-    sum-below binary64 true (a * 1) b (down e * 1) (less a (down e) h) ∙ ap (λ (z : ℕ). round binary64 false (b - z) (down e * 1)) (mul-one a) ∙ ap (λ (z : ℕ). round binary64 false (b - a) z) (mul-one (down e))
+    let b : ℕ = mid * down e in
+    sum-below binary64 true (a * 1) b (down e * 1) (less a (down e) h)
+    ∙ ap (λ (z : ℕ). round binary64 false (b - z) (down e * 1)) (mul-one a) ∙ ap (λ (z : ℕ). round binary64 false (b - a) z) (mul-one (down e))
   where
-    less : (a d : ℕ) → a * 2 < 2147483647 * d → a * 1 < 6755399441055744 * d
+    less : (a d : ℕ) → a * 2 < 2147483647 * d → a * 1 < mid * d
     less a d h = omega arith
 
--- a whole number less than 2 ^ 30 from 3 * 2 ^ 51
+-- a whole number at most 2 ^ 30 from 3 * 2 ^ 51
 record Middling (y : Float) : Type 0 where
   number : ℕ
   value : HasValue y false number 1
-  least : 6755398367313920 ≤ number
-  most : number ≤ 6755400514797568
+  least : mid - 1073741824 ≤ number
+  most : number ≤ mid + 1073741824
 
 risen : (s : Bool) (m : ℕ) (e : ℤ) → m * up e * 2 < 2147483647 * down e → Middling (add binary64 (fin s m e) centre)
 risen s m e h = subst Middling (sym (up-is s m e h)) (by (moved s (m * up e) (down e)) (down e) (down-pos e) (least s (m * up e) (down e) h) (most s (m * up e) (down e) h))
   where
-    least : (s : Bool) (a d : ℕ) → a * 2 < 2147483647 * d → 6755398367313920 * d ≤ moved s a d
+    least : (s : Bool) (a d : ℕ) → a * 2 < 2147483647 * d → (mid - 1073741824) * d ≤ moved s a d
     least true a d h = omega arith
     least false a d h = omega arith
 
-    most : (s : Bool) (a d : ℕ) → a * 2 < 2147483647 * d → moved s a d < 6755400514797568 * d
+    most : (s : Bool) (a d : ℕ) → a * 2 < 2147483647 * d → moved s a d < (mid + 1073741824) * d
     most true a d h = omega arith
     most false a d h = omega arith
 
-    by : (n c : ℕ) → 0 < c → 6755398367313920 * c ≤ n → n < 6755400514797568 * c → Middling (round binary64 false n c)
+    by : (n c : ℕ) → 0 < c → (mid - 1073741824) * c ≤ n → n < (mid + 1073741824) * c → Middling (round binary64 false n c)
     by n c C h k = record {
       number = closest n c;
       value = rounded n c C (omega arith) (omega arith);
@@ -108,19 +115,19 @@ pub record Stepped (y : Float) : Type 0 where
   pub small : natAbs number ≤ 1073741824
 
 -- w / 1 less 3 * 2 ^ 51, where w is at least that, and where it is less
-over : (a j d : ℕ) → a ≡ (6755399441055744 + j) * d → (a - 6755399441055744 * d) * 1 ≡ j * (d * 1)
+over : (a j d : ℕ) → a ≡ (mid + j) * d → (a - mid * d) * 1 ≡ j * (d * 1)
 over a j d e =
-    let p : (6755399441055744 + j) * d ≡ 6755399441055744 * d + j * d = add-mul 6755399441055744 j d in
+    let p : (mid + j) * d ≡ mid * d + j * d = add-mul mid j d in
     let q : j * (d * 1) ≡ j * d = ap (λ (z : ℕ). j * z) (mul-one d) in
     omega arith
 
-under : (a w j d : ℕ) → a ≡ w * d → w + suc j ≡ 6755399441055744 → (6755399441055744 * d - a) * 1 ≡ suc j * (d * 1)
+under : (a w j d : ℕ) → a ≡ w * d → w + suc j ≡ mid → (mid * d - a) * 1 ≡ suc j * (d * 1)
 under a w j d e h =
-    let p : w * d + suc j * d ≡ 6755399441055744 * d = sym (add-mul w (suc j) d) ∙ ap (λ (z : ℕ). z * d) h in
+    let p : w * d + suc j * d ≡ mid * d = sym (add-mul w (suc j) d) ∙ ap (λ (z : ℕ). z * d) h in
     let q : suc j * (d * 1) ≡ suc j * d = ap (λ (z : ℕ). suc j * z) (mul-one d) in
     omega arith
 
-opened : (n : ℕ) (k : ℤ) → sub binary64 (fin false n k) centre ≡ sum binary64 false (n * up k * 1) true (6755399441055744 * down k) (down k * 1)
+opened : (n : ℕ) (k : ℤ) → sub binary64 (fin false n k) centre ≡ sum binary64 false (n * up k * 1) true (mid * down k) (down k * 1)
 unfolding sub
 opened n k = refl
 
@@ -129,32 +136,34 @@ unfolding ofInt
 fallen nan h = absurd (h .value)
 fallen (inf s) h = absurd (h .value)
 fallen (fin true n k) h = absurd (true≢false (h .value .0))
-fallen (fin false n k) h = by (leb 6755399441055744 (h .number)) (leb→le 6755399441055744 (h .number)) (nleb→lt 6755399441055744 (h .number))
+fallen (fin false n k) h = by (leb mid (h .number)) (leb→le mid (h .number)) (nleb→lt mid (h .number))
   where
-    up-by : (w j : ℕ) → w ≡ 6755399441055744 + j → w ≤ 6755400514797568 → n * up k * 1 ≡ w * down k → Stepped (sub binary64 (fin false n k) centre)
+    up-by : (w j : ℕ) → w ≡ mid + j → w ≤ mid + 1073741824 → n * up k * 1 ≡ w * down k → Stepped (sub binary64 (fin false n k) centre)
     up-by w j e g v =
-        let v′ : n * up k * 1 ≡ (6755399441055744 + j) * down k = v ∙ ap (λ (z : ℕ). z * down k) e in
+        let v′ : n * up k * 1 ≡ (mid + j) * down k = v ∙ ap (λ (z : ℕ). z * down k) e in
         record {
           number = pos j;
-          is = opened n k ∙ sum-above binary64 false (n * up k * 1) (6755399441055744 * down k) (down k * 1) (omega (arith, v′, add-mul 6755399441055744 j (down k)))
-              ∙ round-same binary64 false (n * up k * 1 - 6755399441055744 * down k) (down k * 1) j 1 (omega (arith, down-pos k)) (omega arith) (over (n * up k * 1) j (down k) v′);
+          is =
+              opened n k ∙ sum-above binary64 false (n * up k * 1) (mid * down k) (down k * 1) (omega (arith, v′, add-mul mid j (down k)))
+              ∙ round-same binary64 false (n * up k * 1 - mid * down k) (down k * 1) j 1 (omega (arith, down-pos k)) (omega arith) (over (n * up k * 1) j (down k) v′);
           small = omega arith;
         }
 
-    down-by : (w j : ℕ) → w + suc j ≡ 6755399441055744 → 6755398367313920 ≤ w → n * up k * 1 ≡ w * down k → Stepped (sub binary64 (fin false n k) centre)
+    down-by : (w j : ℕ) → w + suc j ≡ mid → mid - 1073741824 ≤ w → n * up k * 1 ≡ w * down k → Stepped (sub binary64 (fin false n k) centre)
     down-by w j e g v =
-        let p : w * down k + suc j * down k ≡ 6755399441055744 * down k = sym (add-mul w (suc j) (down k)) ∙ ap (λ (z : ℕ). z * down k) e in
+        let p : w * down k + suc j * down k ≡ mid * down k = sym (add-mul w (suc j) (down k)) ∙ ap (λ (z : ℕ). z * down k) e in
         let q : suc j * down k ≡ j * down k + down k = suc-mul j (down k) in
         record {
           number = negsuc j;
-          is = opened n k ∙ sum-below binary64 false (n * up k * 1) (6755399441055744 * down k) (down k * 1) (omega (arith, down-pos k))
-              ∙ round-same binary64 true (6755399441055744 * down k - n * up k * 1) (down k * 1) (suc j) 1 (omega (arith, down-pos k)) (omega arith) (under (n * up k * 1) w j (down k) v e);
+          is =
+              opened n k ∙ sum-below binary64 false (n * up k * 1) (mid * down k) (down k * 1) (omega (arith, down-pos k))
+              ∙ round-same binary64 true (mid * down k - n * up k * 1) (down k * 1) (suc j) 1 (omega (arith, down-pos k)) (omega arith) (under (n * up k * 1) w j (down k) v e);
           small = omega arith;
         }
 
-    by : (x : Bool) → (T x → 6755399441055744 ≤ h .number) → (T (not x) → h .number < 6755399441055744) → Stepped (sub binary64 (fin false n k) centre)
-    by true p q = let g = p tt in up-by (h .number) (h .number - 6755399441055744) (omega arith) (h .most) (h .value .1)
-    by false p q = let g = q tt in down-by (h .number) (6755399441055743 - h .number) (omega arith) (h .least) (h .value .1)
+    by : (x : Bool) → (T x → mid ≤ h .number) → (T (not x) → h .number < mid) → Stepped (sub binary64 (fin false n k) centre)
+    by true p q = let g = p tt in up-by (h .number) (h .number - mid) (omega arith) (h .most) (h .value .1)
+    by false p q = let g = q tt in down-by (h .number) (mid - suc (h .number)) (omega arith) (h .least) (h .value .1)
 
 pub stepped-is : (x : Float) → T (within (wholeOf x)) → Stepped (stepped x)
 unfolding stepped ofBits wholeOf

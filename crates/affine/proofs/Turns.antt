@@ -19,87 +19,90 @@ use Rattle.affine.specs.Mapping.{surveyed, gridsOf, fitting, mappedAll}
 use Rattle.affine.specs.Facts.{MapsPlain}
 use Rattle.affine.proofs.Lists.{length-grids, grids-append}
 
-module _ (t : Affine) (points : List Float) (to : ℕ) (inside : to ≤ length points / 2) where
-  -- the numbers of the points from `from` up to r
-  abbrev run : ℕ → ℕ → List ℤ
-  run from r = gridsOf t (take (2 * (r - from)) (drop (2 * from) points))
+-- the numbers of the points from `from` up to r
+abbrev run : Affine → List Float → ℕ → ℕ → List ℤ
+run t points from r = gridsOf t (take (2 * (r - from)) (drop (2 * from) points))
 
-  part-long : (from r : ℕ) → from ≤ r → r ≤ to → length (take (2 * (r - from)) (drop (2 * from) points)) ≡ 2 * (r - from)
+module _ (t : Affine) (points : List Float) where
+  part-long : (from r : ℕ) → from ≤ r → r ≤ length points / 2 → length (take (2 * (r - from)) (drop (2 * from) points)) ≡ 2 * (r - from)
   part-long from r h k = length-take-le (2 * (r - from)) (drop (2 * from) points) (omega (arith, length-drop (2 * from) points))
 
-  run-long : (from r : ℕ) → from ≤ r → r ≤ to → length (run from r) ≡ 2 * (r - from)
+  run-long : (from r : ℕ) → from ≤ r → r ≤ length points / 2 → length (run t points from r) ≡ 2 * (r - from)
   run-long from r h k = length-grids t (take (2 * (r - from)) (drop (2 * from) points)) ∙ part-long from r h k
 
-  run-more : (from i r : ℕ) → from ≤ i → i ≤ r → r ≤ to → run from i ++ run i r ≡ run from r
+  run-more : (from i r : ℕ) → from ≤ i → i ≤ r → r ≤ length points / 2 → run t points from i ++ run t points i r ≡ run t points from r
   run-more from i r h k l =
+      let rest : List Float = drop (2 * from) points in
       let e : 2 * (i - from) + 2 * (r - i) ≡ 2 * (r - from) = omega arith in
       let f : 2 * from + 2 * (i - from) ≡ 2 * i = omega arith in
-      let d : drop (2 * (i - from)) (drop (2 * from) points) ≡ drop (2 * i) points = drop-drop (2 * (i - from)) (2 * from) points ∙ ap (λ (n : ℕ). drop n points) f in
+      let d : drop (2 * (i - from)) rest ≡ drop (2 * i) points = drop-drop (2 * (i - from)) (2 * from) points ∙ ap (λ (n : ℕ). drop n points) f in
       sym
-      (ap (λ (n : ℕ). gridsOf t (take n (drop (2 * from) points))) (sym e)
-      ∙ ap (gridsOf t) (take-add (2 * (i - from)) (2 * (r - i)) (drop (2 * from) points))
-      ∙ grids-append t (i - from) (take (2 * (i - from)) (drop (2 * from) points)) (take (2 * (r - i)) (drop (2 * (i - from)) (drop (2 * from) points))) (part-long from i h (omega arith))
-      ∙ ap (λ (q : List Float). run from i ++ gridsOf t (take (2 * (r - i)) q)) d)
+      (ap (λ (n : ℕ). gridsOf t (take n rest)) (sym e)
+      ∙ ap (gridsOf t) (take-add (2 * (i - from)) (2 * (r - i)) rest)
+      ∙ grids-append t (i - from) (take (2 * (i - from)) rest) (take (2 * (r - i)) (drop (2 * (i - from)) rest)) (part-long from i h (omega arith))
+      ∙ ap (λ (q : List Float). run t points from i ++ gridsOf t (take (2 * (r - i)) q)) d)
 
-  module _ (out : List ℤ) (room : to ≤ length out / 2) where
-    pub maps-none : (from : ℕ) → from ≤ to → MapsPlain t points from to out from out
-    unfolding gridsOf
-    maps-none from h = record {
-      ahead = omega arith;
-      upto = h;
-      list = let e : from - from ≡ 0 = omega arith in rw e (sym (lay-nothing (2 * from) out));
-    }
+-- ---- up to `to`, of which both lists hold as many points
+module _ {t : Affine} {points : List Float} {to : ℕ} {out : List ℤ} (inside : to ≤ length points / 2) (room : to ≤ length out / 2) where
+  pub maps-none : {from : ℕ} → from ≤ to → MapsPlain t points from to out from out
+  unfolding gridsOf
+  maps-none {from} h = record {
+    ahead = omega arith;
+    upto = h;
+    list = let e : from - from ≡ 0 = omega arith in rw e (sym (lay-nothing (2 * from) out));
+  }
 
-    pub maps-one : (i : ℕ) (d : Float) (m n : ℤ) → i < to → m ≡ surveyed t (getD points (2 * i) d) (getD points (2 * i + 1) d) .x → n ≡ surveyed t (getD points (2 * i) d) (getD points (2 * i + 1) d) .y
-        → MapsPlain t points i to out (i + 1) (set (set out (2 * i) m) (2 * i + 1) n)
-    unfolding gridsOf
-    maps-one i d m n h p q =
-        let e : 2 * (i + 1 - i) ≡ 2 = omega arith in
-        let f : suc (2 * i) ≡ 2 * i + 1 = omega arith in
-        let g : drop (2 * i) points ≡ getD points (2 * i) d ∷ getD points (2 * i + 1) d ∷ drop (suc (2 * i + 1)) points =
-        drop-cons points (2 * i) d (omega arith) ∙ ap (λ (k : ℕ). getD points (2 * i) d ∷ drop k points) f ∙ ap (λ (r : List Float). getD points (2 * i) d ∷ r) (drop-cons points (2 * i + 1) d (omega arith)) in
-        record {
-          ahead = omega arith;
-          upto = omega arith;
-          list = two-stores out (2 * i) m n (omega arith) ∙ rw (e, g, p, q);
-        }
+  pub maps-one : {i : ℕ} {m n : ℤ} (d : Float) → i < to → m ≡ surveyed t (getD points (2 * i) d) (getD points (2 * i + 1) d) .x
+      → n ≡ surveyed t (getD points (2 * i) d) (getD points (2 * i + 1) d) .y
+      → MapsPlain t points i to out (i + 1) (set (set out (2 * i) m) (2 * i + 1) n)
+  unfolding gridsOf
+  maps-one {i} {m} {n} d h p q =
+      let e : 2 * (i + 1 - i) ≡ 2 = omega arith in
+      let f : suc (2 * i) ≡ 2 * i + 1 = omega arith in
+      let g : drop (2 * i) points ≡ getD points (2 * i) d ∷ getD points (2 * i + 1) d ∷ drop (suc (2 * i + 1)) points =
+      drop-cons points (2 * i) d (omega arith) ∙ ap (λ (k : ℕ). getD points (2 * i) d ∷ drop k points) f
+      ∙ ap (λ (r : List Float). getD points (2 * i) d ∷ r) (drop-cons points (2 * i + 1) d (omega arith)) in
+      record {
+        ahead = omega arith;
+        upto = omega arith;
+        list = two-stores out (2 * i) m n (omega arith) ∙ rw (e, g, p, q);
+      }
 
-    -- the length stays
-    pub maps-long : (from r : ℕ) (l : List ℤ) → MapsPlain t points from to out r l → length l ≡ length out
-    maps-long from r l h = ap length (h .list) ∙ length-lay (2 * from) (run from r) out (omega (arith, h .ahead, h .upto, run-long from r (h .ahead) (h .upto)))
+  -- the length stays
+  pub maps-long : {from r : ℕ} {l : List ℤ} → MapsPlain t points from to out r l → length l ≡ length out
+  maps-long {from} {r} h = ap length (h .list) ∙ length-lay (2 * from) (run t points from r) out (omega (arith, h .ahead, h .upto, run-long t points from r (h .ahead) (omega (arith, h .upto))))
 
-    -- some behind others
-    pub maps-more : (from i r : ℕ) (l k : List ℤ) → MapsPlain t points from to out i l → MapsPlain t points i to l r k → MapsPlain t points from to out r k
-    maps-more from i r l k h g =
-        let n : length (run from i) ≡ 2 * (i - from) = run-long from i (h .ahead) (h .upto) in
-        let e : 2 * i ≡ 2 * from + length (run from i) = omega (arith, h .ahead) in
-        record {
-          ahead = omega (arith, h .ahead, g .ahead);
-          upto = g .upto;
-          list =
-              g .list ∙ ap (λ (j : ℕ). lay j (run i r) l) e ∙ ap (lay (2 * from + length (run from i)) (run i r)) (h .list)
-              ∙ lay-next (2 * from) (run from i) (run i r) out (omega (arith, h .ahead, h .upto))
-              ∙ ap (λ (q : List ℤ). lay (2 * from) q out) (run-more from i r (h .ahead) (g .ahead) (g .upto));
-        }
+  -- some behind others
+  pub maps-more : {from i r : ℕ} {l k : List ℤ} → MapsPlain t points from to out i l → MapsPlain t points i to l r k → MapsPlain t points from to out r k
+  maps-more {from} {i} {r} {l} h g =
+      let n : length (run t points from i) ≡ 2 * (i - from) = run-long t points from i (h .ahead) (omega (arith, h .upto)) in
+      let e : 2 * i ≡ 2 * from + length (run t points from i) = omega (arith, h .ahead) in
+      record {
+        ahead = omega (arith, h .ahead, g .ahead);
+        upto = g .upto;
+        list =
+            g .list ∙ ap (λ (j : ℕ). lay j (run t points i r) l) e ∙ ap (lay (2 * from + length (run t points from i)) (run t points i r)) (h .list)
+            ∙ lay-next (2 * from) (run t points from i) (run t points i r) out (omega (arith, h .ahead, h .upto))
+            ∙ ap (λ (q : List ℤ). lay (2 * from) q out) (run-more t points from i r (h .ahead) (g .ahead) (omega (arith, g .upto)));
+      }
 
 -- ---- a whole list, at the front
-module _ (t : Affine) (points : List Float) (out : List ℤ) where
-  smaller-fits : (a b n : ℕ) → n ≡ smaller a b → (n ≤ a) × (n ≤ b)
-  smaller-fits a b n e = by (leb a b) (leb→le a b) (nleb→lt a b) e
-    where
-      by : (x : Bool) → (T x → a ≤ b) → (T (not x) → b < a) → n ≡ cond x a b → (n ≤ a) × (n ≤ b)
-      by true h k e = let g = h tt in (omega arith, omega arith)
-      by false h k e = let g = k tt in (omega arith, omega arith)
+smaller-fits : (a b n : ℕ) → n ≡ smaller a b → (n ≤ a) × (n ≤ b)
+smaller-fits a b n e = by (leb a b) (leb→le a b) (nleb→lt a b) e
+  where
+    by : (x : Bool) → (T x → a ≤ b) → (T (not x) → b < a) → n ≡ cond x a b → (n ≤ a) × (n ≤ b)
+    by true h k e = let g = h tt in (omega arith, omega arith)
+    by false h k e = let g = k tt in (omega arith, omega arith)
 
-  -- as many points as both lists hold
-  pub fits-points : (n : ℕ) → n ≡ fitting points out → n ≤ length points / 2
-  fits-points n e = smaller-fits (length points / 2) (length out / 2) n e .0
+-- as many points as both lists hold
+pub fits-points : (points : List Float) (out : List ℤ) (n : ℕ) → n ≡ fitting points out → n ≤ length points / 2
+fits-points points out n e = smaller-fits (length points / 2) (length out / 2) n e .0
 
-  pub fits-out : (n : ℕ) → n ≡ fitting points out → n ≤ length out / 2
-  fits-out n e = smaller-fits (length points / 2) (length out / 2) n e .1
+pub fits-out : (points : List Float) (out : List ℤ) (n : ℕ) → n ≡ fitting points out → n ≤ length out / 2
+fits-out points out n e = smaller-fits (length points / 2) (length out / 2) n e .1
 
-  pub maps-all : (n i : ℕ) (l : List ℤ) → n ≡ fitting points out → n ≤ i → MapsPlain t points 0 n out i l → Gives (mappedAll t points out) n l
-  unfolding mappedAll
-  maps-all n i l e h g =
-      let f : i - 0 ≡ fitting points out = let k : i - 0 ≡ n = omega (arith, g .upto) in k ∙ e in
-      record { answer = e; memory = g .list ∙ ap (λ (k : ℕ). lay 0 (gridsOf t (take (2 * k) points)) out) f }
+pub maps-all : {t : Affine} {points : List Float} {out l : List ℤ} {n i : ℕ} → n ≡ fitting points out → n ≤ i → MapsPlain t points 0 n out i l → Gives (mappedAll t points out) n l
+unfolding mappedAll
+maps-all {t} {points} {out} {n = n} {i = i} e h g =
+    let f : i - 0 ≡ fitting points out = let k : i - 0 ≡ n = omega (arith, g .upto) in k ∙ e in
+    record { answer = e; memory = g .list ∙ ap (λ (k : ℕ). lay 0 (gridsOf t (take (2 * k) points)) out) f }

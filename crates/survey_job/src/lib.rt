@@ -45,6 +45,7 @@ fn add_part(
     requires { ⌜ from ≤ to ⌝ }
     requires { ⌜ to ≤ length (now points) / 2 ⌝ }
     requires { ⌜ 2 ≤ length (now block) ⌝ }
+    requires { ⌜ Sound s (length (now words)) ⌝ }
     ensures { λ r. ⌜ Gives (go (partCalls (part (pointsOf (gridsOf map (now (points .entry)))) from to)) from s (now (words .entry))) (outcomeOf to r) (now (words .exit)) ⌝ }
 {
     let mut q = s;

@@ -18,11 +18,11 @@ abbrev μ-loop : tie.MeasureT-loop
 μ-loop points from to out₀ a b c d e f i₀ out i = to - i
 
 loop-holds : tie.Need-loop-holds Inv-loop μ-loop
-loop-holds c = let s = c .before in maps-none (s .args .t) (s .args .points .now) (s .args .to) (s .pre .1 .0) (s .args .out .now) (s .pre .1 .1) (s .args .from) (s .pre .0)
+loop-holds c = let s = c .before in maps-none (s .pre .1 .0) (s .pre .1 .1) (s .pre .0)
 
 -- the list that is laid in keeps its length
 long : (c : tie.At-loop Inv-loop μ-loop) → length (c .loop .out) ≡ length (c .before .before .args .out .now)
-long c = let s = c .before .before in maps-long (s .args .t) (s .args .points .now) (s .args .to) (s .pre .1 .0) (s .args .out .now) (s .pre .1 .1) (s .args .from) (c .loop .i) (c .loop .out) (c .loop .inv)
+long c = let s = c .before .before in maps-long (s .pre .1 .0) (s .pre .1 .1) (c .loop .inv)
 
 -- the turn that a point's tests stand in
 abbrev turn : tie.After-is-near2 Inv-loop μ-loop → tie.In-loop Inv-loop μ-loop
@@ -142,10 +142,8 @@ loop-again c =
     let e = c .before .before in
     let k = turn (e .before) in
     let s = k .before .before .before in
-    let i = k .before .loop .i in
-    let out = k .before .loop .out in
-    maps-more (s .args .t) (s .args .points .now) (s .args .to) (s .pre .1 .0) (s .args .out .now) (s .pre .1 .1) (s .args .from) i (i + 1) out _ (k .before .loop .inv)
-    (maps-one (s .args .t) (s .args .points .now) (s .args .to) (s .pre .1 .0) out (omega (arith, long (k .before), s .pre .1 .1)) i nan _ _ (k .loop-test .taken) (is-x (tested e)) (is-y (tested e)))
+    maps-more (s .pre .1 .0) (s .pre .1 .1) (k .before .loop .inv)
+    (maps-one (s .pre .1 .0) (omega (arith, long (k .before), s .pre .1 .1)) nan (k .loop-test .taken) (is-x (tested e)) (is-y (tested e)))
 
 same-length-2 : tie.Need-same-length-2 Inv-loop μ-loop
 same-length-2 c = long (c .before)

@@ -25,20 +25,17 @@ smaller-requires c κs = search needs
 
 -- both lists hold n points
 inside : (c : tie.After-smaller Inv-loop μ-loop) → c .smaller .result ≤ length (c .before .before .args .points .now) / 2
-inside c = let s = c .before .before in fits-points (s .args .self) (s .args .points .now) (s .args .out .now) (c .smaller .result) (c .smaller .ensures)
+inside c = let s = c .before .before in fits-points (s .args .points .now) (s .args .out .now) (c .smaller .result) (c .smaller .ensures)
 
 room : (c : tie.After-smaller Inv-loop μ-loop) → c .smaller .result ≤ length (c .before .before .args .out .now) / 2
-room c = let s = c .before .before in fits-out (s .args .self) (s .args .points .now) (s .args .out .now) (c .smaller .result) (c .smaller .ensures)
+room c = let s = c .before .before in fits-out (s .args .points .now) (s .args .out .now) (c .smaller .result) (c .smaller .ensures)
 
 loop-holds : tie.Need-loop-holds Inv-loop μ-loop
-loop-holds c = let s = c .before .before in maps-none (s .args .self) (s .args .points .now) (c .smaller .result) (inside c) (s .args .out .now) (room c) 0 (omega arith)
+loop-holds c = maps-none (inside c) (room c) (omega arith)
 
 -- the list that is laid in keeps its length
 long : (c : tie.At-loop Inv-loop μ-loop) → length (c .loop .out) ≡ length (c .before .before .before .args .out .now)
-long c =
-    let n = c .before in
-    let s = n .before .before in
-    maps-long (s .args .self) (s .args .points .now) (n .smaller .result) (inside n) (s .args .out .now) (room n) 0 (c .loop .i) (c .loop .out) (c .loop .inv)
+long c = maps-long (inside (c .before)) (room (c .before)) (c .loop .inv)
 
 map-plain-requires : tie.Need-map-plain-requires Inv-loop μ-loop
 map-plain-requires c κs = let k = c .before .before in (k .loop .inv .upto, (inside (k .before), omega (arith, long k, room (k .before))))
@@ -52,16 +49,10 @@ after : (c : tie.After-out Inv-loop μ-loop) →
 after c =
     let m = c .before in
     let k = m .before .before .before in
-    let n = k .before in
-    let s = n .before .before in
-    maps-more (s .args .self) (s .args .points .now) (n .smaller .result) (inside n) (s .args .out .now) (room n) 0 (k .loop .i) (m .map-plain .result) (k .loop .out) _ (k .loop .inv) (m .map-plain .ensures)
+    maps-more (inside (k .before)) (room (k .before)) (k .loop .inv) (m .map-plain .ensures)
 
 after-long : (c : tie.After-out Inv-loop μ-loop) → length (c .before .map-plain .last .1 .1 .1 .1 .0) ≡ length (c .before .before .before .before .before .before .before .args .out .now)
-after-long c =
-    let m = c .before in
-    let n = c .before .before .before .before .before in
-    let s = n .before .before in
-    maps-long (s .args .self) (s .args .points .now) (n .smaller .result) (inside n) (s .args .out .now) (room n) 0 (m .map-plain .result) (m .map-plain .last .1 .1 .1 .1 .0) (after c)
+after-long c = let n = c .before .before .before .before .before in maps-long (inside n) (room n) (after c)
 
 -- the next point lies inside both lists
 in-points : (c : tie.Then1 Inv-loop μ-loop) → 2 * c .before .before .map-plain .result + 2 ≤ length (c .before .before .before .before .before .before .before .before .args .points .now)
@@ -131,14 +122,10 @@ loop-less c = let t = c .before .before .before .before .before in omega (arith,
 loop-again : tie.Need-loop-again Inv-loop μ-loop
 loop-again c =
     let t = c .before .before .before .before .before in
-    let m = t .before .before in
     let n = t .before .before .before .before .before .before in
-    let s = n .before .before in
-    let r = m .map-plain .result in
-    let l = m .map-plain .last .1 .1 .1 .1 .0 in
     let p = c .before .before .grid-point in
-    maps-more (s .args .self) (s .args .points .now) (n .smaller .result) (inside n) (s .args .out .now) (room n) 0 r (r + 1) l _ (after (t .before))
-    (maps-one (s .args .self) (s .args .points .now) (n .smaller .result) (inside n) l (omega (arith, room n, after-long (t .before))) r nan _ _ (t .if1 .taken) (x-back c ∙ ap (λ (q : Pt). q .x) (p .ensures)) (y-back c ∙ ap (λ (q : Pt). q .y) (p .ensures)))
+    maps-more (inside n) (room n) (after (t .before))
+    (maps-one (inside n) (omega (arith, room n, after-long (t .before))) nan (t .if1 .taken) (x-back c ∙ ap (λ (q : Pt). q .x) (p .ensures)) (y-back c ∙ ap (λ (q : Pt). q .y) (p .ensures)))
 
 loop-less-2 : tie.Need-loop-less-2 Inv-loop μ-loop
 loop-less-2 c = omega (arith, c .if1 .left, c .before .before .before .before .loop-test .taken)
@@ -150,11 +137,7 @@ same-length : tie.Need-same-length Inv-loop μ-loop
 same-length c = long (c .before)
 
 returns : tie.Need-returns Inv-loop μ-loop
-returns c =
-    let k = c .before in
-    let n = k .before in
-    let s = n .before .before in
-    maps-all (s .args .self) (s .args .points .now) (s .args .out .now) (n .smaller .result) (k .loop .i) (k .loop .out) (n .smaller .ensures) (c .loop-test .left) (k .loop .inv)
+returns c = maps-all (c .before .before .smaller .ensures) (c .loop-test .left) (c .before .loop .inv)
 
 pub map-points-spec : {M : Type 1} → statement M
 map-points-spec =
