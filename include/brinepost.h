@@ -1,4 +1,4 @@
-/* Brinepost for C, as two libraries for x86-64: libbrinepost.a (clips, jobs, vertices and the encoder) and libbrinepost_tiles.a (layers and tiles).
+/* Brinepost for C, as two libraries for x86-64: libbrinepost.a (clips, jobs, surveys, vertices and the encoder) and libbrinepost_tiles.a (layers and tiles).
  * `./brinepost install PREFIX` proves and makes them and puts them beside this header with a file for pkg-config; docs/PROMISES.md has what each function is
  * proved to answer.
  *
@@ -16,7 +16,10 @@
  *   Many features in one call keep up to the first refused feature what the accepted ones made, say how many these are and give back the layer with them.
  * Threads. No function reads or writes anything but what it is given, so any may be called from any number of threads at once, as long as no list that one
  *   call writes is lent to another call at the same time.
- * What the libraries need. libbrinepost_tiles.a calls memset of the program's C library; nothing else is called, and no memory is allocated. */
+ * Doubles. What is reckoned in doubles means the default floating-point environment: round to nearest, subnormals kept (neither flushed nor taken as zero), no
+ *   exception trapped. Another one is the caller's to avoid; in it nothing is promised of these functions. The environment's flags may be raised by a call.
+ * What the libraries need. Both call memset of the program's C library, libbrinepost.a since bp_encode_survey keeps 2 KiB of its own for grid points; nothing
+ *   else is called, and no memory is allocated. */
 #ifndef BRINEPOST_H
 #define BRINEPOST_H
 
@@ -30,19 +33,20 @@ extern "C" {
 /* The number of this interface. It is raised by one with every change of a declaration below (a struct's fields, a function's parameters, a constant, the
  * refusals) or of what one means; a declaration more leaves it. bp_version and bp_tiles_version answer the number of the archive: where that is not
  * BP_VERSION, header and archive do not belong together. */
-#define BP_VERSION 6
+#define BP_VERSION 7
 uint32_t bp_version(void);       /* of libbrinepost.a */
 uint32_t bp_tiles_version(void); /* of libbrinepost_tiles.a */
 
 /* 9 is not given any more: up to interface 3 it was CUT, which 17 and 18 tell apart. */
 enum bp_refusal {
     BP_ACCEPTED = 0,
-    BP_JOB = 1,        /* no parts, ends that descend, a last end that is not the point count, an odd list of coordinates; no list of tags or of heads */
+    BP_JOB = 1,        /* no parts, ends that descend, a last end that is not the point count, an odd list of coordinates, of doubles too; no list of tags or of
+                        * heads */
     BP_KIND = 2,       /* a kind that is not 1 point, 2 line, 3 polygon */
     BP_BOX = 3,        /* x_min >= x_max, y_min >= y_max, or an edge beyond BP_LIMIT */
     BP_STATE = 4,      /* a carried state that breaks a rule (docs/RULES.md, sections 6, 8 and 10), as an encoder's does whose skipped and taken_out together
                         * exceed its taken and boundary together */
-    BP_COORD = 5,      /* x or y beyond BP_LIMIT */
+    BP_COORD = 5,      /* x or y beyond BP_LIMIT; of a surveyed point, x or y after the map that is not finite, or whose whole number lies beyond BP_LIMIT */
     BP_EMPTY = 6,      /* a geometry of points is completed with none */
     BP_ROOM = 7,       /* the result, reckoned as if there were room, exceeds a lent list or one of the limits BP_MAX_...; more words than BP_MAX_WORDS read; a
                         * count of an encoder's state would pass 4,294,967,295 */
@@ -176,8 +180,8 @@ typedef struct bp_point {
     int32_t x, y;
 } bp_point;
 
-/* A state between two calls. A caller may store it and hand it in again with the same words; bp_encoder_add_point and bp_encoder_complete_geom refuse one that
- * breaks a rule (STATE). That the words are those that it was made with they cannot see.
+/* A state between two calls. A caller may store it and hand it in again with the same words; bp_encoder_add_point, bp_encoder_add_surveyed and
+ * bp_encoder_complete_geom refuse one that breaks a rule (STATE). That the words are those that it was made with they cannot see.
  * Its last four fields count what became of the points since the state was fresh, where all are 0: each accepted point adds to them, a completed part leaves
  * them as they are. taken + boundary - skipped - taken_out is the number of vertices now in the words, at any moment, within a part too; ClosePath is none.
  * A stored bp_encoder of interface 2 has another size: it has no counts. */
@@ -235,6 +239,33 @@ typedef struct bp_finished {
 bp_finished bp_encode_job_state(uint32_t kind, int32_t x_min, int32_t x_max, int32_t y_min, int32_t y_max,
                                 const int32_t *points, size_t points_len, const uint32_t *ends, size_t ends_len,
                                 uint32_t *words, size_t words_len);
+
+/* ---- surveyed points: doubles, put on the grid by a map */
+
+/* A map to the grid: there x is a * x + b * y + c and y is d * x + e * y + f, the products first, then the sums from the left, each operation rounded once and
+ * none fused with another. */
+typedef struct bp_affine {
+    double a, b, c, d, e, f;
+} bp_affine;
+
+typedef struct bp_mapped {
+    uint32_t refusal;
+    int32_t x, y; /* the grid point; 0 where refused */
+} bp_mapped;
+
+/* The grid point of a surveyed point: x and y after the map, each at the nearest whole number, halves away from zero: COORD. The doubles have no limit of their
+ * own; any may be given, and where one of the eight is a NaN or an infinity the answer is COORD. */
+bp_mapped bp_map_point(bp_affine map, double x, double y);
+
+/* Adds a surveyed point to this part: STATE, COORD, ROOM. It is bp_encoder_add_point of the grid point; a surveyed point that has none is COORD. */
+bp_drawn bp_encoder_add_surveyed(bp_encoder state, bp_affine map, double x, double y, uint32_t *words, size_t words_len);
+
+/* Encodes a geometry of surveyed points, `points` x and y by turns and `ends` as in bp_encode_job: JOB, KIND, BOX, then what its calls refuse (COORD, EMPTY,
+ * ROOM). Answer and words are those of bp_encode_job for the grid points, where a surveyed point that has none stands for one beyond BP_LIMIT. The map itself
+ * is not checked: without points any will do. */
+bp_job bp_encode_survey(uint32_t kind, int32_t x_min, int32_t x_max, int32_t y_min, int32_t y_max, bp_affine map,
+                        const double *points, size_t points_len, const uint32_t *ends, size_t ends_len,
+                        uint32_t *words, size_t words_len);
 
 /* ---- a layer and its open feature */
 
@@ -442,6 +473,17 @@ typedef struct bp_geometry {
     size_t ends_len;
 } bp_geometry;
 
+/* A geometry of surveyed points to be encoded, as bp_encode_survey takes it. */
+typedef struct bp_survey {
+    uint32_t kind;
+    bp_box box;
+    bp_affine map;
+    const double *points;
+    size_t points_len;
+    const uint32_t *ends;
+    size_t ends_len;
+} bp_survey;
+
 /* A whole feature, as bp_add_feature takes it. */
 typedef struct bp_feature {
     uint32_t kind;
@@ -510,6 +552,13 @@ static inline bp_finished bp_encode_state_in(const bp_geometry *g, uint32_t *wor
 {
     return bp_encode_job_state(g->kind, g->box.x_min, g->box.x_max, g->box.y_min, g->box.y_max, BP_LENT(const int32_t, g->points, g->points_len),
                                BP_WORDS_OF(g->ends, g->ends_len), BP_LENT(uint32_t, words, words_len));
+}
+
+static inline bp_job bp_encode_survey_in(const bp_survey *survey, uint32_t *words, size_t words_len)
+{
+    return bp_encode_survey(survey->kind, survey->box.x_min, survey->box.x_max, survey->box.y_min, survey->box.y_max, survey->map,
+                            BP_LENT(const double, survey->points, survey->points_len), BP_WORDS_OF(survey->ends, survey->ends_len),
+                            BP_LENT(uint32_t, words, words_len));
 }
 
 static inline bp_reading bp_decode_in(const uint32_t *words, size_t words_len, int32_t *out, size_t out_len)

@@ -61,6 +61,13 @@ def job(kind, box, parts):
     return le([kind, *box, len(parts), *ends, *points])
 
 
+def survey(kind, box, coefficients, parts):
+    """A survey: a job file to its last part's end, then doubles, those of the map and those of the points."""
+    head = job(kind, box, [[(0, 0)] * len(part) for part in parts])[:4 * (6 + len(parts))]
+    doubles = [*coefficients, *(n for part in parts for point in part for n in point)]
+    return head + struct.pack(f"<{len(doubles)}d", *doubles)
+
+
 def near(random, low, high):
     """A coordinate at or around the edges low and high, or anywhere."""
     choice = random.below(12)

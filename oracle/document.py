@@ -1,5 +1,5 @@
 """The rules of document 01, written out without regard for speed: what each call answers, refusals too; UTF8 is request (viii)'s,
-strict layers with AGAIN are request (xiv)'s.
+surveys are request (x)'s, strict layers with AGAIN are request (xiv)'s.
 
 They follow document 01's text and not our Rattle code. Who wrote them had read the Rust too, so a passage of document 01
 that can be read two ways may have been read the Rust's way. A refused call raises Refused; its checks stand in the order
@@ -12,6 +12,7 @@ from fractions import Fraction
 from math import floor
 
 from cases import FILE_LIMIT, LIMIT, le
+from mapping import grid, of_bits
 from utf8 import is_text
 
 POINT, LINE, POLYGON = 1, 2, 3
@@ -206,22 +207,41 @@ def signed(n):
     return n - 2**32 if n >= 2**31 else n
 
 
-def job_parts(data):
-    """Kind, box and the points of each part of a job file."""
+def table(data):
+    """Kind, box, ends and what stands behind them, of a job file or a survey."""
     check(len(data) <= FILE_LIMIT and len(data) % 4 == 0, JOB)
     numbers = unsigned(data)
     check(len(numbers) >= 6, JOB)
     kind, edges, part_count = numbers[0], numbers[1:5], numbers[5]
     check(0 < part_count <= len(numbers) - 6, JOB)
-    ends, body = numbers[6:6 + part_count], [signed(n) for n in numbers[6 + part_count:]]
-    check(len(body) % 2 == 0 and ends == sorted(ends) and ends[-1] == len(body) // 2, JOB)
-    points = list(zip(body[::2], body[1::2]))
-    return kind, tuple(map(signed, edges)), [points[a:b] for a, b in zip([0, *ends], ends)]
+    return kind, tuple(map(signed, edges)), numbers[6:6 + part_count], numbers[6 + part_count:]
 
 
-def job_calls(data):
-    """The calls that a job file asks for, each with its arguments."""
-    kind, box, parts = job_parts(data)
+def in_parts(coordinates, ends):
+    """The points of each part."""
+    check(len(coordinates) % 2 == 0 and ends == sorted(ends) and ends[-1] == len(coordinates) // 2, JOB)
+    points = list(zip(coordinates[::2], coordinates[1::2]))
+    return [points[a:b] for a, b in zip([0, *ends], ends)]
+
+
+def job_parts(data):
+    """Kind, box and the points of each part of a job file."""
+    kind, box, ends, body = table(data)
+    return kind, box, in_parts([signed(n) for n in body], ends)
+
+
+def survey_parts(data):
+    """Kind, box and the grid points of each part of a survey; a number that the grid does not have is one beyond the limit."""
+    kind, box, ends, body = table(data)
+    check(len(body) >= 12 and len(body) % 2 == 0, JOB)
+    doubles = [of_bits(low + high * 2**32) for low, high in zip(body[::2], body[1::2])]
+    parts = in_parts(doubles[6:], ends)
+    return kind, box, [[tuple(LIMIT + 1 if n is None else n for n in grid(doubles[:6], x, y)) for x, y in part] for part in parts]
+
+
+def job_calls(data, parts_of=job_parts):
+    """The calls that a job file asks for, or a survey by its own parts, each with its arguments."""
+    kind, box, parts = parts_of(data)
     yield "new", kind, box
     for part in parts:
         for point in part:
@@ -236,16 +256,21 @@ def called(encoder, call, *arguments, room=MAX_WORDS):
     return encoder.add(*arguments) if call == "add" else encoder.complete()
 
 
-def job(data, room=PROGRAM_WORDS):
+def job(data, room=PROGRAM_WORDS, parts_of=job_parts):
     """The words of a job file. A refusal tells the accepted points."""
     encoder, accepted = None, 0
-    for call, *arguments in job_calls(data):
+    for call, *arguments in job_calls(data, parts_of):
         try:
             encoder = called(encoder, call, *arguments, room=room)
         except Refused as refused:
             raise Refused(refused.number, accepted) from None
         accepted += call == "add"
     return encoder.words()
+
+
+def survey(data, room=PROGRAM_WORDS):
+    """The same of a survey."""
+    return job(data, room, survey_parts)
 
 
 # Tiles

@@ -2,8 +2,10 @@
 answer are the rules of document.py, and for words those of reading.py. Each kind says what its cases are.
 """
 
+from math import inf, nan
+
 from cases import (ABANDON, ADD, BOOL, CLOSE, FLOAT, INT, KEPT_SEED, LIMIT, LINE, POINT, POLYGON, Random, TEXT, UINT, contents,
-                   create, create_strict, job, le, open_feature, random_tile, script, set_id, tag)
+                   create, create_strict, job, le, open_feature, random_tile, script, set_id, survey, tag)
 
 TEN = (0, 10, 0, 10)
 BEYOND = (LIMIT + 1, -LIMIT - 1, 2**31 - 1, -2**31)
@@ -50,6 +52,59 @@ def jobs():
     across = [(13, 9) if at % 2 else (-3, 1) for at in range(2_732)]
     yield job(LINE, TEN, [across])
     yield job(POLYGON, TEN, [across[:-1]])
+
+
+# Surveys: of no replay, but of survey-check
+
+SAME = (1, 0, 0, 0, 1, 0)
+EDGE = LIMIT + 0.5
+NOWHERE = (nan, inf, -inf, EDGE, -EDGE, EDGE + 2**-22, LIMIT + 1, -LIMIT - 1, 2.0**32, -2.0**63, 1e300)
+SOMEWHERE = (0.49999999999999994, 0.5, -0.5, 2.5, -2.5, 5e-324, -0.0, LIMIT, -LIMIT, EDGE - 2**-23, 2**-23 - EDGE)
+
+
+def surveys():
+    good = survey(LINE, TEN, SAME, [[(1, 2), (3.5, 4)], [(6, 7)]])
+    yield good
+    yield survey(LINE, TEN, (0.5, 0.25, -1, -0.25, 0.5, 2), [[(4, 4), (8.6, -2.2)]])
+    for size in range(0, len(good), 4):  # cut anywhere: in the head, in the ends, in the map, in a double, between two
+        yield good[:size]
+    yield good[:-1]
+    for more in (1, 2, 4, 8, 16):  # too long, by a point too
+        yield good + bytes(more)
+    head = [LINE, *TEN]
+    doubles = survey(LINE, TEN, SAME, [[]])[28:]
+    yield le([*head, 0]) + doubles  # no parts
+    yield le([*head, 2, 1, 0]) + doubles  # ends descend
+    yield le([*head, 3, 1, 0, 1]) + doubles + bytes(16)
+    yield le([*head, 2**32 - 1, 0]) + doubles
+    yield le([*head, 1, 2**32 - 1]) + doubles
+    yield le([0, 0, 0, 0, 0, 0])  # JOB before KIND and BOX
+    for kind in (0, 4, 2**32 - 1):
+        yield survey(kind, TEN, SAME, [[(1, 2)]])
+    yield survey(0, BAD_BOXES[0], SAME, [[(nan, 2)]])  # KIND before BOX and COORD
+    for box in BAD_BOXES:
+        yield survey(LINE, box, SAME, [[(nan, 2)]])  # BOX before COORD
+    for kind in (POINT, LINE, POLYGON):
+        for n in NOWHERE:
+            yield survey(kind, TEN, SAME, [[(1, 2), (3, 4), (n, 5)], [(6, 7)]])
+            yield survey(kind, TEN, SAME, [[(1, n)]])
+        for n in SOMEWHERE:
+            yield survey(kind, (-LIMIT, LIMIT, -LIMIT, LIMIT), SAME, [[(1, 2), (n, 5)], [(6, n)]])
+        for at in range(6):
+            yield survey(kind, TEN, replaced(SAME, at, nan), [[(1, 2)]])
+        yield survey(kind, TEN, (nan,) * 6, [[]])  # without points any map will do
+    yield survey(POINT, TEN, SAME, [[], [(inf, 2)]])  # at the first refused call: EMPTY
+    yield survey(POINT, TEN, SAME, [[(inf, 2)], []])  # and COORD
+    yield survey(LINE, (-2**30 + 1, 10, 0, 10), (134217729, -1, 0, 1, 1, 1), [[(134217729, 18014398777917440)], [(1e16, -1e16)]])
+    # Of 65,536 bytes: 4,091 points in one part, and one more. Words as for jobs: a line's 2,732nd point that crosses the box is too much.
+    for count in (4_091, 4_092):
+        yield survey(LINE, TEN, SAME, [[(at % 2 + 0.25, at // 2 % 2 - 0.25) for at in range(count)]])
+    across = [(12.6, 9.4) if at % 2 else (-2.6, 0.6) for at in range(2_732)]
+    for points in (across[:-1], across):
+        yield survey(LINE, TEN, SAME, [points])
+    yield survey(POLYGON, TEN, SAME, [across[:-1]])
+    for at in (255, 256, 257, 511, 512, 1_000):
+        yield survey(LINE, TEN, SAME, [[*across[:at], (nan, 1), (1, 1)]])
 
 
 # Clips: x1, y1, x2, y2, x_min, x_max, y_min, y_max

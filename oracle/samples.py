@@ -3,11 +3,17 @@
 
 The right-hand sides are copied from document 01. Where it names a refusal that
 the Rust does not have, the driver must say which test puts the case outside.
+
+The Rust maps no doubles onto a grid of whole numbers. Of each survey of samples/ it
+is asked the grid points, reckoned exactly (mapping.py); the answer in the survey's
+text must be its words, or the refusal of document.py.
 """
 
+import re
 import sys
 
 import cases
+import document
 import keep
 from cases import ADD, LIMIT, LINE, POINT, POLYGON, TEXT, create, create_strict, job, open_feature, script, tag
 
@@ -68,16 +74,30 @@ SAMPLES = [
 ]
 
 
+def surveys():
+    """A sample for each accepted survey of samples/: the job of its grid points, with the words of its text. A refused one is held to document.py here."""
+    for file in sorted((keep.ORACLE.parent / "samples").glob("*.survey")):
+        expected = re.search(r"^# The (?:answer|words): (.*)\.$", file.with_suffix(".txt").read_text(), re.M)[1]
+        data = file.read_bytes()
+        try:
+            document.survey(data)
+            yield "jobs", job(*document.survey_parts(data)).hex(), words(expected)
+        except document.Refused as refused:
+            told = f"refused {refused.number} at {refused.accepted}"
+            assert told == expected, f"{file.name}: document.py says {told}, the text {expected}"
+
+
 def main():
     wrong = 0
-    for kind, case, expected in SAMPLES:
+    samples = [*SAMPLES, *surveys()]
+    for kind, case, expected in samples:
         answer, = keep.ask(kind, [case])
         if expected == ACCEPTED and not answer.startswith("outside"):
             continue
         if answer != expected:
             wrong += 1
             print(f"{kind} {case}\n  document 01: {expected}\n  the Rust:    {answer}")
-    print(f"{len(SAMPLES) - wrong} passed, {wrong} failed")
+    print(f"{len(samples) - wrong} passed, {wrong} failed")
     sys.exit(wrong != 0)
 
 

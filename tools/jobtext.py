@@ -4,8 +4,8 @@ import struct
 from texts import Wrong, box, kind_of, point
 
 
-def read(name, lines):
-    """The job's kind, box, and parts of points."""
+def read(name, lines, point_of=point):
+    """The job's kind, box, and parts of points; `point_of` reads a point's words."""
     kind, edges, parts = None, None, []
     for at, line in enumerate(lines, 1):
         words, place = line.split("#")[0].split(), f"{name}:{at}"
@@ -24,7 +24,7 @@ def read(name, lines):
         elif not parts:
             raise Wrong(f"{place}: a line 'part' comes before the first point")
         else:
-            parts[-1].append(point(words, place))
+            parts[-1].append(point_of(words, place))
     if kind is None:
         raise Wrong(f"{name}: no line 'kind point', 'kind line' or 'kind polygon'")
     if edges is None:
@@ -32,11 +32,17 @@ def read(name, lines):
     return kind, edges, parts
 
 
-def packed(kind, edges, parts):
+def head(kind, edges, parts):
+    """The file up to its points: kind, box, and each part's end."""
     out, end = struct.pack("<I4iI", kind, *edges, len(parts)), 0
     for part in parts:
         end += len(part)
         out += struct.pack("<I", end)
+    return out
+
+
+def packed(kind, edges, parts):
+    out = head(kind, edges, parts)
     for part in parts:
         for x_y in part:
             out += struct.pack("<2i", *x_y)

@@ -1,4 +1,5 @@
-//! One piece of work, so many times over, by our library or by the Rust: bench WORK ours|rust|same TIMES (same: the two tiles are compared)
+//! One piece of work, so many times over, by our library or by the Rust: bench WORK ours|rust|same TIMES (same: the two tiles are compared, or a survey's words with those
+//! of its grid points)
 //! Counting the instructions of two runs and subtracting gives those of the work alone (bench/run does it).
 
 mod tiles;
@@ -24,6 +25,17 @@ fn ours(work: &Work, memory: &mut Memory) {
                 &mut memory.words,
             ));
         }
+        Work::Survey { survey, .. } => {
+            let ends = [(survey.points.len() / 2) as u32];
+            black_box(ours::encode_survey(
+                survey.kind,
+                survey.edges,
+                survey.map,
+                &survey.points,
+                &ends,
+                &mut memory.words,
+            ));
+        }
         Work::Clip { edges, segments } => {
             for segment in segments {
                 black_box(ours::clip(*segment, *edges));
@@ -38,8 +50,16 @@ fn ours(work: &Work, memory: &mut Memory) {
     }
 }
 
+/// The Rust's encoder, fresh.
+#[inline]
+fn encoder(kind: u32, [x_min, x_max, y_min, y_max]: [i32; 4]) -> mvt::GeomEncoder<i32> {
+    use mvt::GeomType::{Linestring, Point, Polygon};
+    let geometry = [Point, Linestring, Polygon][kind as usize - 1];
+    mvt::GeomEncoder::new(geometry).bbox(pointy::BBox::new(x_min, x_max, y_min, y_max))
+}
+
 fn rust(work: &Work) {
-    use mvt::{CoordNum, GeomEncoder, GeomType};
+    use mvt::CoordNum;
     use pointy::{BBox, Pt, Seg};
     match work {
         Work::Encode {
@@ -47,13 +67,22 @@ fn rust(work: &Work) {
             edges,
             points,
         } => {
-            let geometry =
-                [GeomType::Point, GeomType::Linestring, GeomType::Polygon][*kind as usize - 1];
-            let mut encoder =
-                GeomEncoder::new(geometry).bbox(BBox::new(edges[0], edges[1], edges[2], edges[3]));
+            let mut encoder = encoder(*kind, *edges);
             for point in points.chunks_exact(2) {
                 encoder
                     .add_point(point[0], point[1])
+                    .expect("whole coordinates are accepted");
+            }
+            black_box(encoder.encode().expect("encoding has no refusal"));
+        }
+        Work::Survey { survey, .. } => {
+            let mut encoder = encoder(survey.kind, survey.edges);
+            let ours::Affine { a, b, c, d, e, f } = survey.map;
+            for point in survey.points.chunks_exact(2) {
+                let (x, y) = (point[0], point[1]);
+                let (x, y) = ((a * x + b * y + c).round(), (d * x + e * y + f).round());
+                encoder
+                    .add_point(x as i32, y as i32)
                     .expect("whole coordinates are accepted");
             }
             black_box(encoder.encode().expect("encoding has no refusal"));
@@ -89,8 +118,30 @@ extern "C" fn getrandom(to: *mut u8, length: usize, _flags: u32) -> isize {
     length as isize
 }
 
-/// Whether the two tiles are the same, before their instructions are compared.
+/// Whether the two tiles are the same, before their instructions are compared; of a survey, whether its words are those of the grid points that it was made of.
 fn same(work: &Work, memory: &mut Memory) {
+    if let Work::Survey { survey, grid } = work {
+        let ends = [(grid.len() / 2) as u32];
+        let mut words = vec![0; 1_048_576];
+        let wanted = ours::encode_job(survey.kind, survey.edges, grid, &ends, &mut words);
+        let given = ours::encode_survey(
+            survey.kind,
+            survey.edges,
+            survey.map,
+            &survey.points,
+            &ends,
+            &mut memory.words,
+        );
+        assert!(
+            given.refusal == 0 && given == wanted && words == memory.words,
+            "the words differ"
+        );
+        println!(
+            "{} words, {} numbers not whole before rounding",
+            given.words,
+            survey.parts()
+        );
+    }
     if let Work::Tile { given, manner } = work {
         let bytes = tiles::ours(given, *manner, &mut memory.tiles);
         assert!(bytes == tiles::rust(given), "the tiles differ");

@@ -1,6 +1,25 @@
 //! The pieces of work, by name.
 
 use crate::tiles::{self, Given, Manner, Way};
+use ours::Affine;
+
+/// One part of surveyed points.
+pub struct Survey {
+    pub kind: u32,
+    pub edges: [i32; 4],
+    pub map: Affine,
+    pub points: Vec<f64>,
+}
+
+impl Survey {
+    /// How many numbers the map does not take to a whole one.
+    pub fn parts(&self) -> usize {
+        let Affine { a, b, c, d, e, f } = self.map;
+        let mapped = |p: &[f64]| [a * p[0] + b * p[1] + c, d * p[0] + e * p[1] + f];
+        let numbers = self.points.chunks_exact(2).flat_map(mapped);
+        numbers.filter(|n| n.fract() != 0.0).count()
+    }
+}
 
 pub enum Work {
     /// One part.
@@ -8,6 +27,11 @@ pub enum Work {
         kind: u32,
         edges: [i32; 4],
         points: Vec<i32>,
+    },
+    /// With the grid points that it comes to.
+    Survey {
+        survey: Survey,
+        grid: Vec<i32>,
     },
     Clip {
         edges: [i32; 4],
@@ -33,6 +57,15 @@ pub const NAMES: &[&str] = &[
     "ring-collinear-10",
     "ring-collinear-400",
     "ring-collinear-100000",
+    "survey-inside-10",
+    "survey-inside-400",
+    "survey-inside-100000",
+    "survey-crossing-10",
+    "survey-crossing-400",
+    "survey-crossing-100000",
+    "survey-ring-10",
+    "survey-ring-400",
+    "survey-ring-100000",
     "clip-inside-1000",
     "clip-crossing-1000",
     "clip-missing-1000",
@@ -120,6 +153,36 @@ fn collinear(count: usize) -> Vec<i32> {
     points
 }
 
+/// Grid points as a receiver has them: in metres, 12.8 steps of the grid to each, up to two fifths of a step beside the grid.
+fn surveyed(kind: u32, grid: Vec<i32>) -> Work {
+    let map = Affine {
+        a: 12.8,
+        b: 0.0,
+        c: -5_531_238.4,
+        d: 0.0,
+        e: -12.8,
+        f: 69_251_072.0,
+    };
+    let mut shaken = Shaken(4);
+    let mut beside = |n: i32| f64::from(n) + f64::from(shaken.below(801) - 400) / 1000.0;
+    let points = grid
+        .chunks_exact(2)
+        .flat_map(|p| {
+            [
+                (beside(p[0]) - map.c) / map.a,
+                (beside(p[1]) - map.f) / map.e,
+            ]
+        })
+        .collect();
+    let survey = Survey {
+        kind,
+        edges: EDGES,
+        map,
+        points,
+    };
+    Work::Survey { survey, grid }
+}
+
 /// Segments of a thousand, from the points of a line.
 fn segments(points: Vec<i32>) -> Vec<[i32; 4]> {
     points
@@ -196,6 +259,9 @@ pub fn named(name: &str) -> Option<Work> {
             edges: EDGES,
             points: collinear(count),
         },
+        "survey-inside" => surveyed(2, inside(count)),
+        "survey-crossing" => surveyed(2, crossing(count)),
+        "survey-ring" => surveyed(3, collinear(count)),
         "clip-inside" => clip(segments(inside(count + 1))),
         "clip-crossing" => clip(segments(crossing(count + 1))),
         "clip-missing" => clip(missing()),

@@ -1,1 +1,2 @@
 pub mod JobFile
+pub mod SurveyFile

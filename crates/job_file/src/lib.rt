@@ -18,6 +18,8 @@ use number::wide;
 use number_file::File;
 use refusal::Refusal;
 
+pub mod survey;
+
 // Lays numbers, read as signed ones, at the front of `out`.
 fn lay_signed(numbers: &[u32], out: &mut [i32])
     requires { ⌜ length (now numbers) ≤ length (now out) ⌝ }

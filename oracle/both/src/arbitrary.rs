@@ -1,21 +1,35 @@
 //! Arbitrary states, lists and job files through our library: no crash, only answers of the table, every guard unharmed. Clips, readings and the calls on a state are held to
-//! their exact answers, those on a state by the rules written out in `drawing`.
+//! their exact answers, those on a state by the rules written out in `drawing`; so are doubles of any bits, mapped, added to a state or as the points of a survey, by the
+//! Rust's doubles and those rules.
 
 use crate::cases;
 use crate::clips;
 use crate::counts::random_counts;
+use crate::doubles::{self, Sight};
 use crate::drawing::{self, Counts, MOST};
+use crate::grid::{self, Way};
 use crate::held::STATE;
-use crate::judge::{Call, Job, LIMIT, ROOM};
+use crate::judge::{Call, Job, COORD, LIMIT, ROOM};
 use crate::lent::Lent;
 use crate::random::Random;
 use crate::readings;
 use crate::report::{Difference, Tally};
 use ours::{Encoder, Point};
 
+/// What is changed before it is compared, to show that it is found.
+#[derive(Clone, Copy, PartialEq)]
+pub enum Spoil {
+    Nothing,
+    /// Taken out is one more in an accepted call on a state.
+    Count,
+    /// Halves on the grid are expected at the even number.
+    Grid,
+}
+
 /// What each call may refuse, by document 01's table.
 const CLIP: &[u32] = &[0, 3, 5];
 const NEW: &[u32] = &[0, 2, 3];
+const MAP: &[u32] = &[0, 5];
 const ADD: &[u32] = &[0, 4, 5, 7];
 const COMPLETE: &[u32] = &[0, 4, 6, 7];
 const WHOLE: &[u32] = &[0, 1, 2, 3, 5, 6, 7];
@@ -147,7 +161,8 @@ fn tame_state(random: &mut Random, room: usize) -> Encoder {
     }
 }
 
-fn state(random: &mut Random, room: usize) -> Encoder {
+/// A state of either sort, most with counts.
+pub fn state(random: &mut Random, room: usize) -> Encoder {
     let state = if random.chance(2) {
         any_state(random, room)
     } else {
@@ -236,7 +251,7 @@ fn meant(state: Encoder) -> Encoder {
 }
 
 /// A call on a state: by the rules written out, its answer and every word. A refused one gives the state back in every field.
-fn draw(random: &mut Random, spoil: bool, tally: &mut Tally) -> Said {
+fn draw(random: &mut Random, spoil: Spoil, tally: &mut Tally) -> Said {
     let room = random.below(24);
     let mut words = Lent::new(room);
     let state = state(random, room);
@@ -256,7 +271,7 @@ fn draw(random: &mut Random, spoil: bool, tally: &mut Tally) -> Said {
         Call::Add(x, y) => state.add_point(x, y, words.words()),
         Call::Complete => state.complete_geom(words.words()),
     };
-    if spoil && given.refusal == 0 {
+    if spoil == Spoil::Count && given.refusal == 0 {
         given.state.taken_out = given.state.taken_out.wrapping_add(1);
     }
     let same = if wanted.refusal == 0 {
@@ -361,6 +376,113 @@ fn whole(random: &mut Random) -> Said {
     }
 }
 
+/// Doubles of any bits, or such as the comparison has; half of them by a map that brings them into a small box or near it.
+fn sight(random: &mut Random) -> Sight {
+    match random.below(4) {
+        0 => doubles::of_numbers([0; 8].map(|_| doubles::any(random))),
+        1 => doubles::sight(random),
+        _ => {
+            let map = doubles::survey_map(random);
+            let to = [0; 2].map(|_| random.between(-4, 8) as i32);
+            let [x, y] = doubles::back(random, map, to);
+            Sight { map, x, y }
+        }
+    }
+}
+
+fn way(spoil: Spoil) -> Way {
+    match spoil {
+        Spoil::Grid => Way::Even,
+        _ => Way::Right,
+    }
+}
+
+/// A surveyed point on the grid.
+fn map(random: &mut Random, spoil: Spoil) -> Said {
+    let Sight { map, x, y } = sight(random);
+    let given = map.point(x, y);
+    let wanted = match grid::grid(way(spoil), map, x, y) {
+        [Some(x), Some(y)] => (0, x, y),
+        _ => (COORD, 0, 0),
+    };
+    Said {
+        call: "points mapped",
+        refusal: given.refusal,
+        allowed: MAP,
+        sound: (given.refusal, given.x, given.y) == wanted,
+        guarded: true,
+    }
+}
+
+/// A surveyed point added to a state: by the rules written out for its grid point, the answer and every word.
+fn draw_surveyed(random: &mut Random, spoil: Spoil) -> Said {
+    let room = random.below(24);
+    let mut words = Lent::new(room);
+    let state = state(random, room);
+    let Sight { map, x, y } = sight(random);
+    let [to_x, to_y] = grid::place(way(spoil), map, x, y);
+    let (wanted, front) = drawing::drawn(state, Call::Add(to_x, to_y), words.words());
+    let given = state.add_surveyed(map, x, y, words.words());
+    let same = if wanted.refusal == 0 {
+        meant(given.state) == meant(wanted.state)
+    } else {
+        given.state == state
+    };
+    let answer = (given.refusal, given.words, given.edge0, given.edge1);
+    let expected = (wanted.refusal, wanted.words, wanted.edge0, wanted.edge1);
+    Said {
+        call: "surveyed points added to states",
+        refusal: given.refusal,
+        allowed: ADD,
+        sound: same && answer == expected && words.differs(front.into_iter()).is_none(),
+        guarded: words.guarded(),
+    }
+}
+
+/// A whole survey of arbitrary lists: answer and words are those of our job of the grid points.
+fn survey(random: &mut Random, spoil: Spoil) -> Said {
+    let Sight { map, .. } = sight(random);
+    let any = random.chance(2);
+    let mut points = Vec::new();
+    for _ in 0..random.below(6) {
+        let Sight { x, y, .. } = sight(random);
+        let to = [0; 2].map(|_| random.between(-4, 14) as i32);
+        let near = doubles::back(random, map, to);
+        points.extend(if any { [x, y] } else { near });
+    }
+    if random.chance(6) {
+        points.push(doubles::any(random));
+    }
+    let count = (points.len() / 2) as u32;
+    let ends = match random.below(3) {
+        0 => list(random, 4),
+        _ => vec![random.below(count as usize + 1) as u32, count],
+    };
+    let kind = match random.below(6) {
+        0 => number(random),
+        _ => random.between(1, 3) as u32,
+    };
+    let edges = edges(random);
+    let room = random.below(40);
+    let (mut words, mut others) = (Lent::new(room), Lent::new(room));
+    let given = ours::encode_survey(kind, edges, map, &points, &ends, words.words());
+    let mut places = Vec::new();
+    for pair in points.chunks(2) {
+        let y = pair.get(1).copied().unwrap_or(0.0);
+        places.extend(&grid::place(way(spoil), map, pair[0], y)[..pair.len()]);
+    }
+    let wanted = ours::encode_job(kind, edges, &places, &ends, others.words());
+    Said {
+        call: "whole surveys",
+        refusal: given.refusal,
+        allowed: WHOLE,
+        sound: (given.refusal, given.points, given.words)
+            == (wanted.refusal, wanted.points, wanted.words)
+            && words == others,
+        guarded: words.guarded(),
+    }
+}
+
 /// A reading: by the independent one its answer, the place in it, and every number.
 fn read(random: &mut Random) -> Said {
     let words = if random.chance(2) {
@@ -380,19 +502,22 @@ fn read(random: &mut Random) -> Said {
     }
 }
 
-/// Spoiled, taken out is one more in an accepted call on a state.
-pub fn run(seed: u64, count: usize, spoil: bool, tally: &mut Tally) -> Option<Difference> {
+pub fn run(seed: u64, count: usize, spoil: Spoil, tally: &mut Tally) -> Option<Difference> {
     for at in 0..count {
         let mut random = Random::new(
             seed.wrapping_add(at as u64)
                 .wrapping_mul(0xD134_2543_DE82_EF95),
         );
-        let said = match at % 8 {
+        let turn = at % 11;
+        let said = match turn {
             0 => clip(&mut random),
             1 => start(&mut random),
             2..=4 => draw(&mut random, spoil, tally),
             5 | 6 => whole(&mut random),
-            _ => read(&mut random),
+            7 => read(&mut random),
+            8 => map(&mut random, spoil),
+            9 => draw_surveyed(&mut random, spoil),
+            _ => survey(&mut random, spoil),
         };
         if !said.allowed.contains(&said.refusal) || !said.sound || !said.guarded {
             let what = format!(
@@ -408,10 +533,10 @@ pub fn run(seed: u64, count: usize, spoil: bool, tally: &mut Tally) -> Option<Di
         if said.refusal == 0 {
             tally.add("accepted", 1);
         }
-        if at % 8 == 7 {
+        if turn == 7 {
             tally.add(readings::answer(said.refusal), 1);
         }
-        if at % 8 == 0 {
+        if turn == 0 {
             tally.add(
                 [
                     "clips accepted",

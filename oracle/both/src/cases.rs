@@ -3,6 +3,7 @@
 use crate::random::Random;
 use crate::readings;
 use crate::scripts;
+use crate::survey;
 use crate::texts;
 
 pub const LIMIT: i64 = 1_073_741_823;
@@ -361,8 +362,10 @@ pub fn print(kind: &str, seed: u64, count: usize) {
             (0..count).for_each(|at| hex(scripts::next_tile(&mut random, at)));
         }
         "large_tiles" => scripts::large_tiles().into_iter().for_each(hex),
-        // Made here alone: with their readings, which reading.py holds against its own, and with the Rust's word on them, which utf8.py does.
+        // Made here alone: with their readings, which reading.py holds against its own, with their grid points by the Rust's doubles, which mapping.py does, and with the
+        // Rust's word on them, which utf8.py does.
         "readings" => readings::print(seed, count),
+        "survey" => survey::print(seed, count),
         "texts" => texts::print(seed, count),
         _ => {
             fixed_clips().into_iter().for_each(line);

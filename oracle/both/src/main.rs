@@ -9,9 +9,11 @@ mod caps;
 mod cases;
 mod clips;
 mod counts;
+mod doubles;
 mod drawing;
 mod edges;
 mod features;
+mod grid;
 mod held;
 mod held_calls;
 mod jobs;
@@ -28,6 +30,7 @@ mod scripts;
 mod shrink;
 mod side;
 mod strict;
+mod survey;
 mod text_lists;
 mod texts;
 mod tile_cases;
@@ -37,11 +40,12 @@ mod varints;
 mod whole;
 mod word_lists;
 
+use grid::Way;
 use jobs::Spoil;
 use report::{Difference, Tally};
 use std::process::exit;
 
-const USAGE: &str = "usage: both jobs|clips|counts|laws|readings|strict|texts|tiles|varints|arbitrary|arbitrary-tiles|spoiled-jobs|spoiled-clips|spoiled-turned|spoiled-moved|spoiled-edges|spoiled-calls|spoiled-taken|spoiled-boundary|spoiled-skipped|spoiled-taken-out|spoiled-refused|spoiled-most|spoiled-vertices|spoiled-finished|spoiled-readings|spoiled-place|spoiled-cuts|spoiled-command-count|spoiled-close|spoiled-nought|spoiled-written|spoiled-behind|spoiled-texts|spoiled-text-calls|spoiled-text-order|spoiled-again|spoiled-elsewhere|spoiled-again-room|spoiled-mark|spoiled-tiles|spoiled-varints|spoiled-arbitrary|spoiled-carried-room|spoiled-carried-second|spoiled-carried-lone|spoiled-carried-mark SEED COUNT, or both cases jobs|large_jobs|clips|tiles|large_tiles|readings|texts SEED COUNT";
+const USAGE: &str = "usage: both jobs|clips|counts|laws|readings|strict|survey|texts|tiles|varints|arbitrary|arbitrary-tiles|spoiled-jobs|spoiled-clips|spoiled-turned|spoiled-moved|spoiled-edges|spoiled-calls|spoiled-taken|spoiled-boundary|spoiled-skipped|spoiled-taken-out|spoiled-refused|spoiled-most|spoiled-vertices|spoiled-finished|spoiled-readings|spoiled-place|spoiled-cuts|spoiled-command-count|spoiled-close|spoiled-nought|spoiled-written|spoiled-behind|spoiled-texts|spoiled-text-calls|spoiled-text-order|spoiled-again|spoiled-elsewhere|spoiled-again-room|spoiled-mark|spoiled-half|spoiled-even|spoiled-fused|spoiled-behind-first|spoiled-limit|spoiled-nan|spoiled-exchanged|spoiled-surveyed-state|spoiled-surveyed-room|spoiled-survey|spoiled-odd|spoiled-block|spoiled-tiles|spoiled-varints|spoiled-arbitrary|spoiled-arbitrary-grid|spoiled-carried-room|spoiled-carried-second|spoiled-carried-lone|spoiled-carried-mark SEED COUNT, or both cases jobs|large_jobs|clips|tiles|large_tiles|readings|survey|texts SEED COUNT";
 
 fn run(kind: &str, seed: u64, count: usize, tally: &mut Tally) -> Option<Difference> {
     match kind {
@@ -95,12 +99,32 @@ fn run(kind: &str, seed: u64, count: usize, tally: &mut Tally) -> Option<Differe
         "spoiled-elsewhere" => strict::compare(seed, count, strict::Spoil::Elsewhere, tally),
         "spoiled-again-room" => strict::compare(seed, count, strict::Spoil::Room, tally),
         "spoiled-mark" => strict::compare(seed, count, strict::Spoil::Mark, tally),
+        "survey" => survey::compare(seed, count, survey::Spoil::Nothing, tally),
+        // The same: the grid by a way that is wrong somewhere; COORD before STATE and ROOM before COORD in a call; a word of ours, an odd list that is taken, a point behind
+        // the first block elsewhere.
+        "spoiled-half" => survey::compare(seed, count, survey::Spoil::Grid(Way::Half), tally),
+        "spoiled-even" => survey::compare(seed, count, survey::Spoil::Grid(Way::Even), tally),
+        "spoiled-fused" => survey::compare(seed, count, survey::Spoil::Grid(Way::Fused), tally),
+        "spoiled-behind-first" => {
+            survey::compare(seed, count, survey::Spoil::Grid(Way::Behind), tally)
+        }
+        "spoiled-limit" => survey::compare(seed, count, survey::Spoil::Grid(Way::Limit), tally),
+        "spoiled-nan" => survey::compare(seed, count, survey::Spoil::Grid(Way::Nan), tally),
+        "spoiled-exchanged" => {
+            survey::compare(seed, count, survey::Spoil::Grid(Way::Exchanged), tally)
+        }
+        "spoiled-surveyed-state" => survey::compare(seed, count, survey::Spoil::State, tally),
+        "spoiled-surveyed-room" => survey::compare(seed, count, survey::Spoil::Room, tally),
+        "spoiled-survey" => survey::compare(seed, count, survey::Spoil::Word, tally),
+        "spoiled-odd" => survey::compare(seed, count, survey::Spoil::Odd, tally),
+        "spoiled-block" => survey::compare(seed, count, survey::Spoil::Block, tally),
         "varints" => varints::compare(seed, count, false, tally),
         // The same: our size is one more.
         "spoiled-varints" => varints::compare(seed, count, true, tally),
-        "arbitrary" => arbitrary::run(seed, count, false, tally),
-        // The same: a count that a call on a state answers is one more.
-        "spoiled-arbitrary" => arbitrary::run(seed, count, true, tally),
+        "arbitrary" => arbitrary::run(seed, count, arbitrary::Spoil::Nothing, tally),
+        // The same: a count that a call on a state answers is one more; the grid has halves at the even number.
+        "spoiled-arbitrary" => arbitrary::run(seed, count, arbitrary::Spoil::Count, tally),
+        "spoiled-arbitrary-grid" => arbitrary::run(seed, count, arbitrary::Spoil::Grid, tally),
         "arbitrary-tiles" => {
             arbitrary_tiles::run(seed, count, arbitrary_tiles::Spoil::Nothing, tally)
         }

@@ -3,7 +3,7 @@
 pub mod tiles;
 
 /// The number of the interface that is written down here; the archives have to be of it.
-pub const VERSION: u32 = 6;
+pub const VERSION: u32 = 7;
 
 #[repr(C)]
 #[derive(Clone, Copy, Debug, Default, PartialEq)]
@@ -86,6 +86,26 @@ pub struct Finished {
     pub state: Encoder,
 }
 
+/// The map of a survey: x on the grid is a·x + b·y + c, y is d·x + e·y + f.
+#[repr(C)]
+#[derive(Clone, Copy, Debug, Default, PartialEq)]
+pub struct Affine {
+    pub a: f64,
+    pub b: f64,
+    pub c: f64,
+    pub d: f64,
+    pub e: f64,
+    pub f: f64,
+}
+
+#[repr(C)]
+#[derive(Clone, Copy, Debug, Default, PartialEq)]
+pub struct Mapped {
+    pub refusal: u32,
+    pub x: i32,
+    pub y: i32,
+}
+
 mod c {
     use super::*;
 
@@ -162,6 +182,29 @@ mod c {
             -> Drawn;
         pub fn bp_encoder_count(state: Encoder) -> u32;
         pub fn bp_encoder_len(state: Encoder) -> usize;
+        pub fn bp_map_point(map: Affine, x: f64, y: f64) -> Mapped;
+        pub fn bp_encoder_add_surveyed(
+            state: Encoder,
+            map: Affine,
+            x: f64,
+            y: f64,
+            words: *mut u32,
+            words_len: usize,
+        ) -> Drawn;
+        pub fn bp_encode_survey(
+            kind: u32,
+            x_min: i32,
+            x_max: i32,
+            y_min: i32,
+            y_max: i32,
+            map: Affine,
+            points: *const f64,
+            points_len: usize,
+            ends: *const u32,
+            ends_len: usize,
+            words: *mut u32,
+            words_len: usize,
+        ) -> Job;
     }
 }
 
@@ -257,6 +300,34 @@ pub fn encode_job_state(
     }
 }
 
+/// Of surveyed points, by their map.
+pub fn encode_survey(
+    kind: u32,
+    edges: [i32; 4],
+    map: Affine,
+    points: &[f64],
+    ends: &[u32],
+    words: &mut [u32],
+) -> Job {
+    let [x_min, x_max, y_min, y_max] = edges;
+    unsafe {
+        c::bp_encode_survey(
+            kind,
+            x_min,
+            x_max,
+            y_min,
+            y_max,
+            map,
+            points.as_ptr(),
+            points.len(),
+            ends.as_ptr(),
+            ends.len(),
+            words.as_mut_ptr(),
+            words.len(),
+        )
+    }
+}
+
 pub fn decode(words: &[u32], out: &mut [i32]) -> Reading {
     unsafe { c::bp_decode(words.as_ptr(), words.len(), out.as_mut_ptr(), out.len()) }
 }
@@ -266,7 +337,17 @@ pub fn encoder(kind: u32, edges: [i32; 4]) -> Started {
     unsafe { c::bp_encoder_new(kind, x_min, x_max, y_min, y_max) }
 }
 
+impl Affine {
+    pub fn point(self, x: f64, y: f64) -> Mapped {
+        unsafe { c::bp_map_point(self, x, y) }
+    }
+}
+
 impl Encoder {
+    pub fn add_surveyed(self, map: Affine, x: f64, y: f64, words: &mut [u32]) -> Drawn {
+        unsafe { c::bp_encoder_add_surveyed(self, map, x, y, words.as_mut_ptr(), words.len()) }
+    }
+
     pub fn add_point(self, x: i32, y: i32, words: &mut [u32]) -> Drawn {
         unsafe { c::bp_encoder_add_point(self, x, y, words.as_mut_ptr(), words.len()) }
     }
