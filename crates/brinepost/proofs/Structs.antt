@@ -1,6 +1,7 @@
 -- The struct of each answer, by the cases of its enum.
 use Prim.Native.Nat.{ℕ}
 use mathlib.Core.Path.{_≡_}
+use lib.IntN.{pos}
 use Rattle.refusal.specs.declared.Refusal.{Refusal}
 use Rattle.refusal.specs.declared.Fault.{Fault}
 use Rattle.refusal.specs.Refusals.{numberOf}
@@ -20,17 +21,23 @@ use Rattle.encoder.specs.declared.Drawn.{Drawn}
 use Rattle.encoder.specs.declared.Drawn.the-variants.{Done, Refused as NotDrawn}
 use Rattle.encoder.specs.declared.Edges.{Edges}
 use Rattle.encoder.specs.Answers.{saidStarted, saidDrawn, edgesOf}
+use Rattle.clip.specs.declared.Pt.{Pt}
 use Rattle.clip.specs.Numbers.{edgeNumber}
+use Rattle.affine.specs.declared.Mapped.{Mapped}
+use Rattle.affine.specs.declared.Mapped.the-variants.{At, Refused as NotMapped}
+use Rattle.affine.specs.Mapping.{saidMapped}
 use Rattle.brinepost.specs.declared.vertices.BpReading.{BpReading}
 use Rattle.brinepost.specs.declared.work.BpJob.{BpJob}
 use Rattle.brinepost.specs.declared.finished.BpFinished.{BpFinished}
 use Rattle.brinepost.specs.declared.state.BpEncoder.{BpEncoder}
 use Rattle.brinepost.specs.declared.calls.BpStarted.{BpStarted}
 use Rattle.brinepost.specs.declared.calls.BpDrawn.{BpDrawn}
+use Rattle.brinepost.specs.declared.surveyed.BpMapped.{BpMapped}
 use Rattle.brinepost.specs.Works.{flatJob, flatFinished}
 use Rattle.brinepost.specs.Readings.{flatReading}
 use Rattle.brinepost.specs.Carried.{stateTo, nothing}
 use Rattle.brinepost.specs.Drawing.{flatStarted, flatDrawn, flagged}
+use Rattle.brinepost.specs.Surveyed.{flatMapped}
 
 module _ (r : Reading) where
   pub read-done : (n : ℕ) → r ≡ Read n → _≡_ {A = BpReading} (record { refusal = 0; vertices = n; place = 0 }) (flatReading (saidReading r))
@@ -41,6 +48,15 @@ module _ (r : Reading) where
       _≡_ {A = BpReading} (record { refusal = n; vertices = 0; place = f .place }) (flatReading (saidReading r))
   unfolding flatReading
   read-not f n e h = rw (e, h)
+
+module _ (r : Mapped) where
+  pub mapped-done : (p : Pt) → r ≡ At p → _≡_ {A = BpMapped} (record { refusal = 0; x = p .x; y = p .y }) (flatMapped (saidMapped r))
+  unfolding flatMapped
+  mapped-done p e = rw e
+
+  pub mapped-not : (k : Refusal) (n : ℕ) → r ≡ NotMapped k → n ≡ numberOf k → _≡_ {A = BpMapped} (record { refusal = n; x = pos 0; y = pos 0 }) (flatMapped (saidMapped r))
+  unfolding flatMapped
+  mapped-not k n e h = rw (e, h)
 
 module _ (r : Encoded) (points : ℕ) where
   pub job-done : (n : ℕ) → r ≡ Words n → _≡_ {A = BpJob} (record { refusal = 0; points = points; words = n }) (flatJob points (saidEncoded r))

@@ -7,6 +7,7 @@ use borrow.Author.Tests.{not-true, not-false}
 use mir.Syntax.{w32}
 use mir.Val.{toZ, ofZ}
 use lib.IntN.{ℤ}
+use lib.Ieee.{Float}
 use lib.Dec.{eqb}
 use Rattle.whole.proofs.Machine.{Back}
 use Rattle.promise.specs.Answers.{Written, Gives}
@@ -15,6 +16,7 @@ use Rattle.refusal.specs.declared.Refusal.the-variants.{Box, Coord, State}
 use Rattle.refusal.specs.Refusals.{numberOf}
 use Rattle.refusal.specs.Said.{Said, accepted}
 use Rattle.telling.proofs.Tellings.{told-gives}
+use Rattle.clip.specs.declared.Pt.{Pt}
 use Rattle.clip.specs.declared.Seg.{Seg}
 use Rattle.clip.specs.declared.BBox.{BBox}
 use Rattle.clip.specs.declared.ClippedSeg.{ClippedSeg}
@@ -27,20 +29,25 @@ use Rattle.clip.specs.Cutting.{given as asGiven, overlap}
 use Rattle.clip.specs.declared.Edge.{Edge}
 use Rattle.promise.proofs.Joined.{both}
 use Rattle.clip.proofs.Callers.{box-refused, coord-refused, kept-inside, kept-apart}
+use Rattle.affine.specs.declared.Affine.{Affine}
+use Rattle.affine.specs.declared.Mapped.{Mapped}
+use Rattle.affine.specs.Mapping.{saidMapped, mapped}
 use Rattle.encoder.specs.declared.GeomEncoder.{GeomEncoder}
 use Rattle.encoder.specs.declared.Started.{Started}
 use Rattle.encoder.specs.declared.Drawn.{Drawn}
 use Rattle.encoder.specs.declared.Edges.{Edges}
 use Rattle.encoder.specs.Answers.{Counted, saidStarted, started, saidDrawn, none, edgesOf, passed}
-use Rattle.encoder.specs.Adding.{added, pointAt, edges}
+use Rattle.encoder.specs.Adding.{added, edges}
 use Rattle.encoder.specs.Completing.{completed}
 use Rattle.brinepost.specs.declared.segment.BpClipped.{BpClipped}
 use Rattle.brinepost.specs.declared.state.BpEncoder.{BpEncoder}
 use Rattle.brinepost.specs.declared.calls.BpStarted.{BpStarted}
 use Rattle.brinepost.specs.declared.calls.BpDrawn.{BpDrawn}
+use Rattle.brinepost.specs.declared.surveyed.BpMapped.{BpMapped}
 use Rattle.brinepost.specs.Segments.{ends, flatClip}
 use Rattle.brinepost.specs.Carried.{areFlags, stateOf}
-use Rattle.brinepost.specs.Drawing.{flatStarted, flatDrawn, flagged, unlessFlagged, addedFrom, completedFrom}
+use Rattle.brinepost.specs.Drawing.{flatStarted, flatDrawn, flagged, unlessFlagged, addedAt, completedFrom}
+use Rattle.brinepost.specs.Surveyed.{flatMapped}
 
 -- a segment and a box made of numbers, and the numbers of a clipped segment, as the machine reads them back
 abbrev read : ℤ → ℤ
@@ -98,6 +105,9 @@ module _ (a : Clipped) (s : Seg) (b : BBox) (e : saidClipped a ≡ clipped s b) 
 pub start-told : (a : Started) (kind : ℕ) (b : BBox) (r : BpStarted) → saidStarted a ≡ started kind b → r ≡ flatStarted (saidStarted a) → r ≡ flatStarted (started kind b)
 start-told a kind b r e h = h ∙ ap flatStarted e
 
+pub map-told : (a : Mapped) (t u : Affine) (x y : Float) (r : BpMapped) → t ≡ u → saidMapped a ≡ mapped t x y → r ≡ flatMapped (saidMapped a) → r ≡ flatMapped (mapped u x y)
+map-told a t u x y r f e h = h ∙ ap flatMapped (e ∙ ap (λ (z : Affine). mapped z x y) f)
+
 -- ---- the edges: a refused call names none, so what was passed on once is told as it is
 passed-once : (b : Bool) (e : Edges) → cond b (cond b e none) none ≡ cond b e none
 passed-once true e = refl
@@ -124,15 +134,15 @@ module _ (given : BpEncoder) (out : List ℕ) (t : Bool) (f : t ≡ areFlags giv
       let q : r ≡ flatDrawn given e (saidDrawn a) = k ∙ ap (λ (x : Edges). flatDrawn given x (saidDrawn a)) p ∙ told-once given e (saidDrawn a) in
       rw (sym f ∙ not-false t h) (told-gives (flatDrawn given e) w (saidDrawn a) r m g q)
 
-  pub add-flagged : (x y : ℤ) (r : BpDrawn) → not t ≡ true → r ≡ flagged given State → Gives (addedFrom given x y out) r out
-  add-flagged x y r h k = flags-no (edges (stateOf given) (pointAt x y)) (added (stateOf given) (pointAt x y) out) r h k
+  pub add-flagged : (p : Pt) (r : BpDrawn) → not t ≡ true → r ≡ flagged given State → Gives (addedAt given p out) r out
+  add-flagged p r h k = flags-no (edges (stateOf given) p) (added (stateOf given) p out) r h k
 
   pub complete-flagged : (r : BpDrawn) → not t ≡ true → r ≡ flagged given State → Gives (completedFrom given out) r out
   complete-flagged r h k = flags-no none (completed (stateOf given) out) r h k
 
   module _ (h : not t ≡ false) (s : GeomEncoder) (k : s ≡ stateOf given) (a : Drawn) (r : BpDrawn) (m : List ℕ) (q : r ≡ flatDrawn given (edgesOf a) (saidDrawn a)) where
-    pub add-told : (x y : ℤ) → Gives (added s (pointAt x y) out) (saidDrawn a) m → edgesOf a ≡ passed (added s (pointAt x y) out .answer) (edges s (pointAt x y)) → Gives (addedFrom given x y out) r m
-    add-told x y g n = rw (← k) (flags-yes (edges s (pointAt x y)) (added s (pointAt x y) out) a r m h g n q)
+    pub add-told : (p : Pt) → Gives (added s p out) (saidDrawn a) m → edgesOf a ≡ passed (added s p out .answer) (edges s p) → Gives (addedAt given p out) r m
+    add-told p g n = rw (← k) (flags-yes (edges s p) (added s p out) a r m h g n q)
 
     pub complete-told : Gives (completed s out) (saidDrawn a) m → edgesOf a ≡ none → Gives (completedFrom given out) r m
     complete-told g n = rw (← k) (flags-yes none (completed s out) a r m h g (n ∙ sym (passes-none (eqb (completed s out .answer .number) 0))) q)

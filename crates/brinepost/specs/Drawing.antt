@@ -10,6 +10,7 @@ use Rattle.refusal.specs.declared.Refusal.the-variants.{State}
 use Rattle.refusal.specs.Refusals.{numberOf}
 use Rattle.refusal.specs.Said.{Said}
 use Rattle.encoder.specs.declared.GeomEncoder.{GeomEncoder}
+use Rattle.clip.specs.declared.Pt.{Pt}
 use Rattle.clip.specs.Numbers.{edgeNumber}
 use Rattle.encoder.specs.declared.Edges.{Edges}
 use Rattle.encoder.specs.Answers.{Counted, none, passed}
@@ -48,8 +49,12 @@ flagged given r = record { refusal = numberOf r; words = 0; state = given; edge0
 unfoldable pub unlessFlagged : BpEncoder → List ℕ → Edges → Written (Said Counted) (List ℕ) → Written BpDrawn (List ℕ)
 unlessFlagged given out e w = cond (areFlags given) (told (flatDrawn given e) w) (kept (flagged given State) out)
 
+-- a point of the grid, however it came there: given as two numbers, or surveyed (specs/Surveyed)
+abbrev pub addedAt : BpEncoder → Pt → List ℕ → Written BpDrawn (List ℕ)
+addedAt given p out = unlessFlagged given out (edges (stateOf given) p) (added (stateOf given) p out)
+
 abbrev pub addedFrom : BpEncoder → ℤ → ℤ → List ℕ → Written BpDrawn (List ℕ)
-addedFrom given x y out = unlessFlagged given out (edges (stateOf given) (pointAt x y)) (added (stateOf given) (pointAt x y) out)
+addedFrom given x y out = addedAt given (pointAt x y) out
 
 -- completing ends no segment
 abbrev pub completedFrom : BpEncoder → List ℕ → Written BpDrawn (List ℕ)

@@ -3,3 +3,4 @@ pub mod Carried
 pub mod Works
 pub mod Readings
 pub mod Drawing
+pub mod Surveyed

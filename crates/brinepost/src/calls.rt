@@ -42,7 +42,7 @@ fn begun(r: Started) -> BpStarted
 }
 
 // A refused call has given its state back, and C has it as it was given, whatever lay behind a flag of 0; it names no edge.
-fn answered(given: BpEncoder, r: Drawn) -> BpDrawn
+pub(crate) fn answered(given: BpEncoder, r: Drawn) -> BpDrawn
     ensures { λ a. ⌜ a ≡ flatDrawn given (edgesOf r) (saidDrawn r) ⌝ }
 {
     match r {
@@ -61,7 +61,7 @@ fn answered(given: BpEncoder, r: Drawn) -> BpDrawn
     }
 }
 
-fn refused(given: BpEncoder, k: Refusal) -> BpDrawn
+pub(crate) fn refused(given: BpEncoder, k: Refusal) -> BpDrawn
     ensures { λ a. ⌜ a ≡ flagged given k ⌝ }
 {
     BpDrawn {

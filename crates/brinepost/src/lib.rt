@@ -8,4 +8,5 @@ pub mod finished; // a whole job with the state that it ends in
 pub mod vertices; // words to vertices
 pub mod state; // an encoder's state as C carries it
 pub mod calls; // the encoder call by call
+pub mod surveyed; // surveyed points: doubles, mapped and put on the grid
 pub mod number; // the number of the interface

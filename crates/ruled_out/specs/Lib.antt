@@ -8,6 +8,7 @@ pub mod Points
 pub mod Encoding
 pub mod Counts
 pub mod Jobs
+pub mod Surveys
 pub mod Reading
 pub mod Stepping
 pub mod Tables

@@ -3,4 +3,4 @@
 use Prim.Native.Nat.{ℕ}
 
 abbrev pub interfaceVersion : ℕ
-interfaceVersion = 6
+interfaceVersion = 7

@@ -5,5 +5,5 @@ ghost use Rattle.telling.specs.Version.{interfaceVersion};
 pub fn version() -> u32
     ensures { λ r. ⌜ r ≡ interfaceVersion ⌝ }
 {
-    6
+    7
 }

@@ -1,5 +1,6 @@
 -- By the flags; then what the encoder said of the state that C's stands for.
 use mir.Facts.{toZ-ofZ}
+use Rattle.encoder.specs.Adding.{pointAt}
 use Rattle.brinepost.proofs.Tellings.{add-flagged, add-told}
 use borrow.Author.Needs.{needs}
 use Rattle.brinepost.proofs.calls.bp_encoder_add_point.Statement.{statement}
@@ -32,7 +33,7 @@ returns-2 c =
     let t = p .before .before in
     let i = t .before in
     let s = i .before .before .before in
-    add-told _ _ _ (i .before .are-flags .ensures) (i .if1 .left) _ (t .state-of .ensures) (p .add-point .result) _ _ (c .answered .ensures) _ _
+    add-told _ _ _ (i .before .are-flags .ensures) (i .if1 .left) _ (t .state-of .ensures) (p .add-point .result) _ _ (c .answered .ensures) (pointAt (s .args .x) (s .args .y))
     (rw (toZ-ofZ (s .fits .x), toZ-ofZ (s .fits .y)) at (p .add-point .ensures .0))
     (rw (toZ-ofZ (s .fits .x), toZ-ofZ (s .fits .y)) at (p .add-point .ensures .1))
 
