@@ -1,5 +1,5 @@
 -- What the functions of this crate ask of each other.
-use Prim.Native.Nat.{ℕ, zero, suc, _-_, _*_, _≤_}
+use Prim.Native.Nat.{ℕ, zero, suc, _-_, _%_, _≤_}
 use mathlib.Core.Path.{_≡_}
 use mathlib.Core.Bool.{Bool, true, false, _&&_}
 use mathlib.Core.List.{List}
@@ -39,8 +39,9 @@ half = ofBits binary64 0x3fe0_0000_0000_0000
 unfoldable pub isNear : Float → Float → Bool
 isNear x t = lt (sub binary64 x t) half && lt (neg half) (sub binary64 x t)
 
--- ---- the points from `from` up to r are mapped, and laid where they belong
+-- ---- the numbers from `from` up to r are those of whole points, mapped, and laid where they belong
 pub record MapsPlain (t : Affine) (points : List Float) (from to : ℕ) (out : List ℤ) (r : ℕ) (l : List ℤ) : Type 0 where
   pub ahead : from ≤ r
   pub upto : r ≤ to
-  pub list : l ≡ lay (2 * from) (gridsOf t (take (2 * (r - from)) (drop (2 * from) points))) out
+  pub whole : (r - from) % 2 ≡ 0
+  pub list : l ≡ lay from (gridsOf t (take (r - from) (drop from points))) out

@@ -1,7 +1,7 @@
 // Points from satellite receivers (document 02, request (x)): two doubles, mapped by six others and put on the grid.
 // In the default floating-point environment: to nearest, ties to even, subnormals kept. No product is fused with a sum.
 ghost use mathlib.Core.Path.{_≡_};
-ghost use Prim.Native.Nat.{_*_, _/_, _≤_};
+ghost use Prim.Native.Nat.{_-_, _%_, _≤_};
 ghost use lib.Dec.{T};
 ghost use lib.ListN.{length};
 ghost use Rattle.promise.specs.Answers.{Gives};
@@ -100,12 +100,13 @@ fn is_near(x: f64, t: f64) -> bool
     below & above
 }
 
-// Maps the points from `from` on and lays them in `out`, up to the first with a coordinate that is no plain one: beyond the limit, or at a tie. The two
-// coordinates go through every step side by side, so that the machine takes both at once.
+// Maps the points from the number at `from` on and lays them in `out`, up to the first with a coordinate that is no plain one: beyond the limit, or at a
+// tie. The two coordinates go through every step side by side, so that the machine takes both at once.
 fn map_plain(t: Affine, points: &[f64], from: usize, to: usize, out: &mut [i32]) -> usize
     requires { ⌜ from ≤ to ⌝ }
-    requires { ⌜ to ≤ length (now points) / 2 ⌝ }
-    requires { ⌜ to ≤ length (now out) / 2 ⌝ }
+    requires { ⌜ (to - from) % 2 ≡ 0 ⌝ }
+    requires { ⌜ to ≤ length (now points) ⌝ }
+    requires { ⌜ to ≤ length (now out) ⌝ }
     ensures { λ r. ⌜ MapsPlain t (now (points .entry)) from to (now (out .entry)) r (now (out .exit)) ⌝ }
 {
     let a = t.a;
@@ -116,8 +117,8 @@ fn map_plain(t: Affine, points: &[f64], from: usize, to: usize, out: &mut [i32])
     let f = t.f;
     let mut i = from;
     while i < to {
-        let x = points[2 * i];
-        let y = points[2 * i + 1];
+        let x = points[i];
+        let y = points[i + 1];
         let u = along(a, b, c, x, y);
         let v = along(d, e, f, x, y);
         let s = stepped(u);
@@ -127,9 +128,9 @@ fn map_plain(t: Affine, points: &[f64], from: usize, to: usize, out: &mut [i32])
         if !(on_grid & near) {
             return i;
         }
-        out[2 * i] = s as i32;
-        out[2 * i + 1] = w as i32;
-        i += 1;
+        out[i] = s as i32;
+        out[i + 1] = w as i32;
+        i += 2;
     }
     i
 }
@@ -163,16 +164,17 @@ impl Affine {
         ensures { λ r. ⌜ Gives (mappedAll self (now (points .entry)) (now (out .entry))) r (now (out .exit)) ⌝ }
     {
         let n = smaller(points.len() / 2, out.len() / 2);
+        let end = 2 * n;
         let mut i = 0;
-        while i < n {
-            i = map_plain(self, points, i, n, out);
-            if i < n {
-                let p = self.grid_point(points[2 * i], points[2 * i + 1]);
+        while i < end {
+            i = map_plain(self, points, i, end, out);
+            if i < end {
+                let p = self.grid_point(points[i], points[i + 1]);
                 let x = p.x;
                 let y = p.y;
-                out[2 * i] = x;
-                out[2 * i + 1] = y;
-                i += 1;
+                out[i] = x;
+                out[i + 1] = y;
+                i += 2;
             }
         }
         n

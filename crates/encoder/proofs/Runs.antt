@@ -1,29 +1,32 @@
 -- A run of points: what is left of it, from the state and the list that there are, gives the rest of the answer; and a run is a piece of a part.
---     run-start run-all                 at its start, and behind its last point
---     run-stretch run-turn run-stop     after a stretch, after a point by itself, and at a point that is refused
---     go-shift                          the same calls with more points accepted before
---     run-on run-off                    a run of a part's first points, and then the rest of the part
---     run-within run-sound              how many points a refused run accepted at most, and the state behind an accepted one
---     points-take points-drop           the points of a list's first numbers, and of those behind them
-use mathlib.Core.Path.{_≡_, refl, sym, _∙_, ap}
+--     run-start run-stretch run-turn run-stop run-all    `add_run`: its start, after a stretch, after a point by itself, at one that is refused, its end
+--     each-start each-turn each-stop each-all            `add_each`, from any state
+--     go-shift                                           the same calls with more points accepted before
+--     run-on run-off                                     a run of a part's first points, and then the rest of the part
+--     whole-part-on whole-part-off                       a run of all points of a part
+--     run-within run-sound                               how many points a refused run accepted at most, and the state behind an accepted one
+--     points-take points-drop                            the points of a list's first numbers, and of those behind them
+use mathlib.Core.Path.{_≡_, refl, sym, _∙_, ap, subst}
 use mathlib.Core.Bool.{Bool, true, false, cond, _&&_}
-use mathlib.Core.List.{List, [], _∷_, _++_}
+use mathlib.Core.List.{List, [], _∷_, _++_, append-nil}
 use Prim.Native.Nat.{ℕ, zero, suc, _+_, _-_, _*_, _/_, _^_, _≤_, _<_}
 use native.Mathlib.Omega.{arith}
 use borrow.Author.Needs.{sfits-of}
-use borrow.Author.Tests.{leb-true}
+use borrow.Author.Tests.{lt-leb, le-leb, ltb-true}
 use lib.Dec.{leb, eqb}
 use lib.IntN.{ℤ, pos}
 use lib.Signed.{mag}
 use lib.ListN.{length, take, drop, getD, drop-of-length-le}
+use lib.Seq.{take-all}
 use mir.Syntax.{w32}
 use mir.Val.{ofZ, toZ}
 use mir.Facts.{toZ-ofZ}
 use Rattle.promise.specs.Answers.{Written, Gives, kept}
 use Rattle.promise.proofs.Joined.{both}
 use Rattle.refusal.specs.declared.Refusal.{Refusal}
-use Rattle.refusal.specs.Said.{Said}
 use Rattle.clip.specs.declared.Pt.{Pt}
+use Rattle.encoder.specs.declared.points.MaybePt.{MaybePt}
+use Rattle.encoder.specs.declared.points.MaybePt.the-variants.{Nowhere, At}
 use Rattle.encoder.specs.declared.GeomEncoder.{GeomEncoder}
 use Rattle.encoder.specs.declared.Drawn.{Drawn}
 use Rattle.encoder.specs.declared.Edges.{Edges}
@@ -32,100 +35,134 @@ use Rattle.encoder.specs.Answers.{saidDrawn, done, turned}
 use Rattle.encoder.specs.Adding.{pointAt, added}
 use Rattle.encoder.specs.Calls.{Call, add, complete, call, partCalls}
 use Rattle.encoder.specs.declared.stretch.Stretch.{Stretch}
-use Rattle.encoder.specs.Stretches.{pointIn, halted, stretched, stretchedOn}
-use Rattle.encoder.specs.States.{valid, Sound}
+use Rattle.encoder.specs.Stretches.{pointIn, stretched}
+use Rattle.encoder.specs.States.{valid, isThere, Sound, isPlaced}
 use Rattle.encoder.specs.declared.whole_job.Course.{Course}
 use Rattle.encoder.specs.declared.whole_job.Course.the-variants.{On, Off}
-use Rattle.encoder.specs.Jobs.{pointsOf, Outcome, on, off, taken, stopped, go, addCalls, addedRun, outcomeOf, endOf}
+use Rattle.encoder.specs.Jobs.{pointsOf, part, Outcome, on, off, taken, stopped, go, addCalls, addedRun, outcomeOf, endOf}
 use Rattle.encoder.proofs.States.{valid-facts}
+use Rattle.encoder.proofs.Reached.{valid-is, add-sound}
 use Rattle.encoder.proofs.Callers.{stretch-keeps}
 use Rattle.encoder.proofs.Courses.{go-on, go-off, off-list, then, go-then}
 use Rattle.encoder.proofs.Within.{go-sound}
-use Rattle.encoder.proofs.Turns.{points-at}
+use Rattle.encoder.proofs.Turns.{points-at, part-more, part-over, Adding}
 
--- i points of the list are added; those behind them give the rest
-pub record Running (l : List ℤ) (out₀ : List ℕ) (s : GeomEncoder) (out : List ℕ) (q : GeomEncoder) (i : ℕ) : Type 0 where
+-- ---- `add_run`: the points up to i are added; those behind them give the rest
+pub record Running (l : List ℤ) (from to : ℕ) (out₀ : List ℕ) (s : GeomEncoder) (out : List ℕ) (q : GeomEncoder) (i : ℕ) : Type 0 where
+  pub upto : i ≤ to
+  pub long : length out ≡ length out₀
+  pub sound : Sound q (length out)
+  pub rest : go (addCalls (part (pointsOf l) from to)) from s out₀ ≡ go (addCalls (part (pointsOf l) i to)) i q out
+
+pub run-start : (l : List ℤ) (from to : ℕ) (out : List ℕ) (s : GeomEncoder) → from ≤ to → Sound s (length out) → Running l from to out s out s from
+run-start l from to out s h S = record { upto = h; long = refl; sound = S; rest = refl }
+
+module _ (l : List ℤ) (from to : ℕ) (out₀ : List ℕ) (s : GeomEncoder) (k : to ≤ length l / 2) where
+  -- one more accepted point
+  one-more : (i : ℕ) (q t : GeomEncoder) (out o : List ℕ) → i < to → Gives (call (add (pointIn l i)) q out) (done t) o → length o ≡ length out →
+      Running l from to out₀ s out q i → Running l from to out₀ s o t (i + 1)
+  one-more i q t out o h g f I = record {
+    upto = omega arith;
+    long = f ∙ I .long;
+    sound = add-sound q (pointIn l i) out t o (I .sound) (λ j. kept (sym (g .answer) j) (sym (g .memory) j)) .0;
+    rest = I .rest ∙ rw (part-more l i to h k) (go-on (add (pointIn l i)) (addCalls (part (pointsOf l) (i + 1) to)) i q t out o g);
+  }
+
+  module _ (out : List ℕ) (q : GeomEncoder) (i : ℕ) (I : Running l from to out₀ s out q i) where
+    pub run-all : to ≤ i → Gives (go (addCalls (part (pointsOf l) from to)) from s out₀) (outcomeOf to (On q)) out
+    run-all h =
+        let e : i ≡ to = omega (arith, I .upto) in
+        rw (I .rest, part-over (pointsOf l) i to e) (record { answer = ap (λ (n : ℕ). on n q) (sym e); memory = refl })
+
+    -- a stretch of them
+    pub run-stretch : (x : Stretch) (y : List ℕ) → Gives (stretched q l i to out) x y → Running l from to out₀ s y (x .state) (x .reached) × (i ≤ x .reached)
+    run-stretch x y g = rw (g .answer, g .memory) (stretch-keeps l to Holds step q i out (I .sound) (I, omega arith))
+      where
+        Holds : ℕ → GeomEncoder → List ℕ → Type 0
+        Holds j p m = Running l from to out₀ s m p j × (i ≤ j)
+
+        step : (j : ℕ) (p t : GeomEncoder) (m o : List ℕ) → j < to → added p (pointIn l j) m ≡ kept (done t) o → length o ≡ length m → Holds j p m → Holds (j + 1) t o
+        step j p t m o h a f J = (one-more j p t m o h (rw a (record { answer = refl; memory = refl })) f (J .0), let b = J .1 in omega arith)
+
+    pub run-valid : valid q (length out) ≡ true
+    run-valid = valid-is q (length out) (I .sound .valid)
+
+    module _ (h : i < to) (r : Drawn) (o : List ℕ)
+        (m : mag (getD l (2 * i) (pos 0)) < 2 ^ 31) (n : mag (getD l (2 * i + 1) (pos 0)) < 2 ^ 31)
+        (g : Gives (added q (pointAt (toZ w32 (ofZ w32 (getD l (2 * i) (pos 0)))) (toZ w32 (ofZ w32 (getD l (2 * i + 1) (pos 0))))) out) (saidDrawn r) o) where
+      given : Gives (call (add (pointIn l i)) q out) (saidDrawn r) o
+      given = rw (toZ-ofZ (sfits-of m), toZ-ofZ (sfits-of n)) at g
+
+      opened : go (addCalls (part (pointsOf l) from to)) from s out₀ ≡ go (add (pointIn l i) ∷ addCalls (part (pointsOf l) (i + 1) to)) i q out
+      opened = I .rest ∙ rw (part-more l i to h k)
+
+      pub run-turn : (t : GeomEncoder) (v : Edges) → r ≡ Done t v → length o ≡ length out → Running l from to out₀ s o t (i + 1)
+      run-turn t v e f = one-more i q t out o h (rw e at given) f I
+
+      pub run-stop : (x : Refusal) (t : GeomEncoder) → r ≡ NotDrawn x t → Gives (go (addCalls (part (pointsOf l) from to)) from s out₀) (outcomeOf to (Off x i)) o
+      run-stop x t e =
+          let g′ : Gives (call (add (pointIn l i)) q out) (turned x t) o = rw e at given in
+          rw (opened ∙ go-off (add (pointIn l i)) (addCalls (part (pointsOf l) (i + 1) to)) i q t out o x g′)
+          (record { answer = refl; memory = off-list (add (pointIn l i)) (addCalls (part (pointsOf l) (i + 1) to)) i q t out o x g′ })
+
+-- ---- `add_each`: i points of the list are added, from any state
+pub record Each (l : List ℤ) (out₀ : List ℕ) (s : GeomEncoder) (out : List ℕ) (q : GeomEncoder) (i : ℕ) : Type 0 where
   pub upto : i ≤ length l / 2
   pub long : length out ≡ length out₀
   pub rest : addedRun s l out₀ ≡ go (addCalls (drop i (pointsOf l))) i q out
 
-pub run-start : (l : List ℤ) (out : List ℕ) (s : GeomEncoder) → Running l out s out s 0
+pub each-start : (l : List ℤ) (out : List ℕ) (s : GeomEncoder) → Each l out s out s 0
 unfolding addedRun
-run-start l out s = record { upto = omega arith; long = refl; rest = refl }
+each-start l out s = record { upto = omega arith; long = refl; rest = refl }
 
 count-points : (l : List ℤ) → length (pointsOf l) ≡ length l / 2
 count-points [] = refl
 count-points (x ∷ []) = omega arith
 count-points (x ∷ y ∷ l) = let h = count-points l in omega arith
 
--- a valid state with two points in its part is sound
-two-sound : (s : GeomEncoder) (n : ℕ) → 2 ≤ s .count → valid s n ≡ true → Sound s n
-two-sound s n h v = let facts = valid-facts s n v in record { valid = facts; points = λ e. facts .placed (λ z. omega arith) }
+module _ (l : List ℤ) (out₀ : List ℕ) (s : GeomEncoder) (out : List ℕ) (q : GeomEncoder) (i : ℕ) (I : Each l out₀ s out q i) where
+  pub each-all : length l / 2 ≤ i → Gives (addedRun s l out₀) (endOf l (On q)) out
+  each-all h =
+      let e : i ≡ length l / 2 = omega (arith, I .upto) in
+      let n : length (pointsOf l) ≤ i = omega (arith, count-points l) in
+      rw (I .rest, drop-of-length-le (pointsOf l) n) (record { answer = ap (λ (n : ℕ). on n q) (sym e); memory = refl })
 
--- ---- `stretch_on`: v is what STATE answers
-module _ (s : GeomEncoder) (l : List ℤ) (i : ℕ) (out : List ℕ) (v : Bool) (e : v ≡ valid s (length out)) where
-  pub on-asked : (leb 2 (s .count) && v) ≡ true → Sound s (length out)
-  on-asked h = let (two, w) = both (leb 2 (s .count)) v h in two-sound s (length out) (leb-true 2 (s .count) two) (sym e ∙ w)
+  module _ (h : i < length l / 2) (r : Drawn) (o : List ℕ)
+      (m : mag (getD l (2 * i) (pos 0)) < 2 ^ 31) (n : mag (getD l (2 * i + 1) (pos 0)) < 2 ^ 31)
+      (g : Gives (added q (pointAt (toZ w32 (ofZ w32 (getD l (2 * i) (pos 0)))) (toZ w32 (ofZ w32 (getD l (2 * i + 1) (pos 0))))) out) (saidDrawn r) o) where
+    asked : Gives (call (add (pointIn l i)) q out) (saidDrawn r) o
+    asked = rw (toZ-ofZ (sfits-of m), toZ-ofZ (sfits-of n)) at g
 
-  pub on-run : (leb 2 (s .count) && v) ≡ true → (x : Stretch) (o : List ℕ) → Gives (stretched s l i (length l / 2) out) x o → Gives (stretchedOn s l i out) x o
-  on-run h x o g = rw (ap (λ (b : Bool). leb 2 (s .count) && b) (sym e) ∙ h) g
+    next-call : addedRun s l out₀ ≡ go (add (pointIn l i) ∷ addCalls (drop (i + 1) (pointsOf l))) i q out
+    next-call = I .rest ∙ rw (points-at l i h)
 
-  pub on-none : (leb 2 (s .count) && v) ≡ false → Gives (stretchedOn s l i out) (halted s i) out
-  on-none h = rw (ap (λ (b : Bool). leb 2 (s .count) && b) (sym e) ∙ h) (record { answer = refl; memory = refl })
+    pub each-turn : (t : GeomEncoder) (v : Edges) → r ≡ Done t v → length o ≡ length out → Each l out₀ s o t (i + 1)
+    each-turn t v e f = record { upto = omega arith; long = f ∙ I .long; rest = next-call ∙ go-on (add (pointIn l i)) (addCalls (drop (i + 1) (pointsOf l))) i q t out o (rw e at asked) }
 
--- ---- `add_points`
-module _ (l : List ℤ) (out₀ : List ℕ) (s : GeomEncoder) where
-  -- one more accepted point
-  one-more : (i : ℕ) (q t : GeomEncoder) (out o : List ℕ) → i < length l / 2 → Gives (call (add (pointIn l i)) q out) (done t) o → length o ≡ length out →
-      Running l out₀ s out q i → Running l out₀ s o t (i + 1)
-  one-more i q t out o h g f I = record {
-    upto = omega arith;
-    long = f ∙ I .long;
-    rest = I .rest ∙ rw (points-at l i h) (go-on (add (pointIn l i)) (addCalls (drop (i + 1) (pointsOf l))) i q t out o g);
-  }
+    pub each-stop : (x : Refusal) (t : GeomEncoder) → r ≡ NotDrawn x t → Gives (addedRun s l out₀) (endOf l (Off x i)) o
+    each-stop x t e =
+        let g′ : Gives (call (add (pointIn l i)) q out) (turned x t) o = rw e at asked in
+        rw (next-call ∙ go-off (add (pointIn l i)) (addCalls (drop (i + 1) (pointsOf l))) i q t out o x g′)
+        (record { answer = refl; memory = off-list (add (pointIn l i)) (addCalls (drop (i + 1) (pointsOf l))) i q t out o x g′ })
 
-  module _ (out : List ℕ) (q : GeomEncoder) (i : ℕ) (I : Running l out₀ s out q i) where
-    pub run-all : length l / 2 ≤ i → Gives (addedRun s l out₀) (endOf l (On q)) out
-    run-all h =
-        let e : i ≡ length l / 2 = omega (arith, I .upto) in
-        let n : length (pointsOf l) ≤ i = omega (arith, count-points l) in
-        rw (I .rest, drop-of-length-le (pointsOf l) n) (record { answer = ap (λ (n : ℕ). on n q) (sym e); memory = refl })
+-- ---- `add_points`: the two tests make a state sound, and all points are a run
+placed-is : (p : MaybePt) (place used : ℕ) → isPlaced p place used ≡ true → isThere p ≡ true → place < used
+placed-is Nowhere place used e h = absurd (let z : _≡_ {A = ℕ} 0 1 = cc in omega arith)
+placed-is (At p) place used e h = ltb-true place used e
 
-    -- a stretch of them
-    pub run-stretch : (x : Stretch) (y : List ℕ) → Gives (stretchedOn q l i out) x y → Running l out₀ s y (x .state) (x .reached) × (i ≤ x .reached)
-    run-stretch x y g = rw (g .answer, g .memory) (by (leb 2 (q .count) && valid q (length out)) refl)
-      where
-        Holds : ℕ → GeomEncoder → List ℕ → Type 0
-        Holds j p m = Running l out₀ s m p j × (i ≤ j)
+module _ (s : GeomEncoder) (n : ℕ) (v p : Bool) (e : v ≡ valid s n) (f : p ≡ isPlaced (s .pt1) (s .«cmd_offset») (s .used)) where
+  pub tests-sound : (v && p) ≡ true → Sound s n
+  tests-sound h =
+      let (a, b) = both v p h in
+      record { valid = valid-facts s n (sym e ∙ a); points = placed-is (s .pt1) (s .«cmd_offset») (s .used) (sym f ∙ b) }
 
-        step : (j : ℕ) (p t : GeomEncoder) (m o : List ℕ) → j < length l / 2 → added p (pointIn l j) m ≡ kept (done t) o → length o ≡ length m → Holds j p m → Holds (j + 1) t o
-        step j p t m o h a f J = (one-more j p t m o h (rw a (record { answer = refl; memory = refl })) f (J .0), let b = J .1 in omega arith)
-
-        by : (b : Bool) → (leb 2 (q .count) && valid q (length out)) ≡ b →
-            Holds (cond b (stretched q l i (length l / 2) out) (kept (halted q i) out) .answer .reached) (cond b (stretched q l i (length l / 2) out) (kept (halted q i) out) .answer .state)
-            (cond b (stretched q l i (length l / 2) out) (kept (halted q i) out) .memory)
-        by true e =
-            let (two, v) = both (leb 2 (q .count)) (valid q (length out)) e in
-            stretch-keeps l (length l / 2) Holds step q i out (two-sound q (length out) (leb-true 2 (q .count) two) v) (I, omega arith)
-        by false e = (I, omega arith)
-
-    module _ (h : i < length l / 2) (r : Drawn) (o : List ℕ)
-        (m : mag (getD l (2 * i) (pos 0)) < 2 ^ 31) (n : mag (getD l (2 * i + 1) (pos 0)) < 2 ^ 31)
-        (g : Gives (added q (pointAt (toZ w32 (ofZ w32 (getD l (2 * i) (pos 0)))) (toZ w32 (ofZ w32 (getD l (2 * i + 1) (pos 0))))) out) (saidDrawn r) o) where
-      given : Gives (call (add (pointIn l i)) q out) (saidDrawn r) o
-      given = rw (toZ-ofZ (sfits-of m), toZ-ofZ (sfits-of n)) at g
-
-      opened : addedRun s l out₀ ≡ go (add (pointIn l i) ∷ addCalls (drop (i + 1) (pointsOf l))) i q out
-      opened = I .rest ∙ rw (points-at l i h)
-
-      pub run-turn : (t : GeomEncoder) (v : Edges) → r ≡ Done t v → length o ≡ length out → Running l out₀ s o t (i + 1)
-      run-turn t v e f = one-more i q t out o h (rw e at given) f I
-
-      pub run-stop : (x : Refusal) (t : GeomEncoder) → r ≡ NotDrawn x t → Gives (addedRun s l out₀) (endOf l (Off x i)) o
-      run-stop x t e =
-          let g′ : Gives (call (add (pointIn l i)) q out) (turned x t) o = rw e at given in
-          rw (opened ∙ go-off (add (pointIn l i)) (addCalls (drop (i + 1) (pointsOf l))) i q t out o x g′)
-          (record { answer = refl; memory = off-list (add (pointIn l i)) (addCalls (drop (i + 1) (pointsOf l))) i q t out o x g′ })
+pub whole-run : (l : List ℤ) (s : GeomEncoder) (out : List ℕ) (r : Course) (o : List ℕ) →
+    Gives (go (addCalls (part (pointsOf l) 0 (length l / 2))) 0 s out) (outcomeOf (length l / 2) r) o → Gives (addedRun s l out) (endOf l r) o
+unfolding addedRun
+whole-run l s out r o g =
+    let n : ℕ = length l / 2 - 0 in
+    let e : part (pointsOf l) 0 (length l / 2) ≡ pointsOf l = take-all n (pointsOf l) (omega (arith, count-points l)) in
+    subst (λ (ps : List Pt). Gives (go (addCalls ps) 0 s out) (outcomeOf (length l / 2) r) o) e g
 
 -- ---- the same calls, with k points more accepted before them
 abbrev shifted : ℕ → Outcome → Outcome
@@ -222,3 +259,22 @@ points-drop zero l = refl
 points-drop (suc n) [] = rw (twice-suc n)
 points-drop (suc n) (x ∷ []) = rw (twice-suc n)
 points-drop (suc n) (x ∷ y ∷ l) = rw (twice-suc n) (points-drop n l)
+
+-- ---- a run of all points of a part, which is then to be completed
+module _ (l : List ℤ) (from to : ℕ) (h : from ≤ to) (s : GeomEncoder) (out : List ℕ) (S : Sound s (length out)) (r : Course) (o : List ℕ)
+    (g : Gives (go (addCalls (part (pointsOf l) from to)) from s out) (outcomeOf to r) o) where
+  part-then : go (partCalls (part (pointsOf l) from to)) from s out ≡ then (outcomeOf to r) (complete ∷ []) o
+  part-then =
+      ap (λ (ps : List Pt). go (partCalls ps) from s out) (sym (append-nil (part (pointsOf l) from to))) ∙ ap (λ (cs : List Call). go cs from s out) (calls-split (part (pointsOf l) from to) [])
+      ∙ go-then (complete ∷ []) (addCalls (part (pointsOf l) from to)) from s out ∙ (λ k. then (sym (g .answer) k) (complete ∷ []) (sym (g .memory) k))
+
+  pub whole-part-on : (q : GeomEncoder) → r ≡ On q → length o ≡ length out → Adding l from to out s o q to
+  whole-part-on q e f = record {
+    upto = omega arith;
+    long = f;
+    sound = rw (g .memory) (go-sound (addCalls (part (pointsOf l) from to)) from s out S to q (sym (g .answer) ∙ ap (outcomeOf to) e));
+    rest = part-then ∙ rw (e, part-over (pointsOf l) to to refl);
+  }
+
+  pub whole-part-off : (x : Refusal) (n : ℕ) → r ≡ Off x n → Gives (go (partCalls (part (pointsOf l) from to)) from s out) (outcomeOf to (Off x n)) o
+  whole-part-off x n e = rw (part-then, e) (record { answer = refl; memory = refl })

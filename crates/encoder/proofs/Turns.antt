@@ -2,37 +2,28 @@
 use mathlib.Core.Path.{_≡_, refl, sym, _∙_, ap}
 use mathlib.Core.Bool.{Bool, true, false, cond}
 use mathlib.Core.List.{List, [], _∷_}
-use Prim.Native.Nat.{ℕ, zero, suc, _+_, _-_, _*_, _/_, _%_, _^_, _≤_, _<_}
+use Prim.Native.Nat.{ℕ, zero, suc, _+_, _-_, _*_, _/_, _%_, _≤_, _<_}
 use native.Mathlib.Omega.{arith}
-use borrow.Author.Needs.{sfits-of}
 use borrow.Author.Tests.{eq-eqb, ne-eqb, le-leb, lt-leb, leb-true, eqb-true}
 use lib.Dec.{leb, eqb}
-use lib.IntN.{ℤ, pos}
-use lib.Signed.{mag}
+use lib.IntN.{ℤ}
 use lib.ListN.{length, drop, getD, drop-of-length-le}
 use lib.Seq.{drop-cons}
-use mir.Syntax.{w32}
-use mir.Val.{ofZ, toZ}
-use mir.Facts.{toZ-ofZ}
-use Rattle.promise.specs.Answers.{Gives, kept}
+use Rattle.promise.specs.Answers.{Gives}
 use Rattle.refusal.specs.declared.Refusal.{Refusal}
 use Rattle.clip.specs.declared.Pt.{Pt}
 use Rattle.encoder.specs.declared.GeomEncoder.{GeomEncoder}
 use Rattle.encoder.specs.declared.Drawn.{Drawn}
 use Rattle.encoder.specs.declared.Edges.{Edges}
 use Rattle.encoder.specs.declared.Drawn.the-variants.{Done, Refused as NotDrawn}
-use Rattle.encoder.specs.Answers.{saidDrawn, done, turned}
-use Rattle.encoder.specs.Adding.{pointAt, added}
+use Rattle.encoder.specs.Answers.{saidDrawn, turned}
 use Rattle.encoder.specs.Completing.{completed}
-use Rattle.encoder.specs.Calls.{add, complete, call, partCalls}
-use Rattle.encoder.specs.declared.stretch.Stretch.{Stretch}
-use Rattle.encoder.specs.Stretches.{pointIn, stretched}
-use Rattle.encoder.proofs.Callers.{stretch-keeps}
+use Rattle.encoder.specs.Calls.{complete, call, partCalls}
+use Rattle.encoder.specs.Stretches.{pointIn}
 use Rattle.encoder.specs.declared.whole_job.Course.{Course}
 use Rattle.encoder.specs.declared.whole_job.Course.the-variants.{On, Off}
 use Rattle.encoder.specs.Jobs.{pointsOf, endsAt, isJobOf, part, jobCalls, on, go, outcomeOf}
-use Rattle.encoder.specs.States.{valid, Sound}
-use Rattle.encoder.proofs.Reached.{valid-is, add-sound}
+use Rattle.encoder.specs.States.{Sound}
 use Rattle.encoder.proofs.Within.{go-sound}
 use Rattle.encoder.proofs.Courses.{go-on, go-off, off-list, then, go-then}
 
@@ -96,52 +87,7 @@ pub record Adding (l : List ℤ) (from to : ℕ) (out₀ : List ℕ) (s : GeomEn
 pub add-start : (l : List ℤ) (from to : ℕ) (out : List ℕ) (s : GeomEncoder) → from ≤ to → Sound s (length out) → Adding l from to out s out s from
 add-start l from to out s h S = record { upto = h; long = refl; sound = S; rest = refl }
 
--- one more accepted point
-one-more : (l : List ℤ) (from to : ℕ) (out₀ : List ℕ) (s : GeomEncoder) → to ≤ length l / 2 → (i : ℕ) (q t : GeomEncoder) (out o : List ℕ) →
-    i < to → Gives (call (add (pointIn l i)) q out) (done t) o → length o ≡ length out → Adding l from to out₀ s out q i → Adding l from to out₀ s o t (i + 1)
-one-more l from to out₀ s k i q t out o h g f I = record {
-  upto = omega arith;
-  long = f ∙ I .long;
-  sound = add-sound q (pointIn l i) out t o (I .sound) (λ j. kept (sym (g .answer) j) (sym (g .memory) j)) .0;
-  rest = I .rest ∙ rw (part-more l i to h k) (go-on (add (pointIn l i)) (partCalls (part (pointsOf l) (i + 1) to)) i q t out o g);
-}
-
--- a stretch of them
-stretch-turn : (l : List ℤ) (from to : ℕ) (out₀ : List ℕ) (s : GeomEncoder) (out : List ℕ) (q : GeomEncoder) (i : ℕ) → to ≤ length l / 2 → Adding l from to out₀ s out q i →
-    (x : Stretch) (y : List ℕ) → Gives (stretched q l i to out) x y → Adding l from to out₀ s y (x .state) (x .reached) × (i ≤ x .reached)
-stretch-turn l from to out₀ s out q i k I x y g = rw (g .answer, g .memory) (stretch-keeps l to Holds step q i out (I .sound) (I, omega arith))
-  where
-    Holds : ℕ → GeomEncoder → List ℕ → Type 0
-    Holds j p m = Adding l from to out₀ s m p j × (i ≤ j)
-
-    step : (j : ℕ) (p t : GeomEncoder) (m o : List ℕ) → j < to → added p (pointIn l j) m ≡ kept (done t) o → length o ≡ length m → Holds j p m → Holds (j + 1) t o
-    step j p t m o h a f J = (one-more l from to out₀ s k j p t m o h (rw a (record { answer = refl; memory = refl })) f (J .0), let b = J .1 in omega arith)
-
 module _ (l : List ℤ) (from to : ℕ) (out₀ : List ℕ) (s : GeomEncoder) (out : List ℕ) (q : GeomEncoder) (i : ℕ) (I : Adding l from to out₀ s out q i) where
-  pub valid-in : valid q (length out) ≡ true
-  valid-in = valid-is q (length out) (I .sound .valid)
-
-  module _ (h : i < to) (k : to ≤ length l / 2) (r : Drawn) (o : List ℕ)
-      (m : mag (getD l (2 * i) (pos 0)) < 2 ^ 31) (n : mag (getD l (2 * i + 1) (pos 0)) < 2 ^ 31)
-      (g : Gives (added q (pointAt (toZ w32 (ofZ w32 (getD l (2 * i) (pos 0)))) (toZ w32 (ofZ w32 (getD l (2 * i + 1) (pos 0))))) out) (saidDrawn r) o) where
-    given : Gives (call (add (pointIn l i)) q out) (saidDrawn r) o
-    given = rw (toZ-ofZ (sfits-of m), toZ-ofZ (sfits-of n)) at g
-
-    opened : go (partCalls (part (pointsOf l) from to)) from s out₀ ≡ go (add (pointIn l i) ∷ partCalls (part (pointsOf l) (i + 1) to)) i q out
-    opened = I .rest ∙ rw (part-more l i to h k)
-
-    pub add-turn : (t : GeomEncoder) (n : Edges) → r ≡ Done t n → length o ≡ length out → Adding l from to out₀ s o t (i + 1)
-    add-turn t v e f = one-more l from to out₀ s k i q t out o h (rw e at given) f I
-
-    pub add-more : (t : GeomEncoder) (n : Edges) → r ≡ Done t n → length o ≡ length out → (x : Stretch) (y : List ℕ) → Gives (stretched t l (i + 1) to o) x y →
-        Adding l from to out₀ s y (x .state) (x .reached) × (i + 1 ≤ x .reached)
-    add-more t v e f x y z = stretch-turn l from to out₀ s o t (i + 1) k (add-turn t v e f) x y z
-
-    pub add-stop : (x : Refusal) (t : GeomEncoder) → r ≡ NotDrawn x t → Gives (go (partCalls (part (pointsOf l) from to)) from s out₀) (outcomeOf to (Off x i)) o
-    add-stop x t e =
-        let g′ : Gives (call (add (pointIn l i)) q out) (turned x t) o = rw e at given in
-        rw (opened ∙ go-off (add (pointIn l i)) (partCalls (part (pointsOf l) (i + 1) to)) i q t out o x g′) (record { answer = refl; memory = off-list (add (pointIn l i)) (partCalls (part (pointsOf l) (i + 1) to)) i q t out o x g′ })
-
   module _ (h : to ≤ i) (r : Drawn) (o : List ℕ) (g : Gives (completed q out) (saidDrawn r) o) where
     over : go (partCalls (part (pointsOf l) from to)) from s out₀ ≡ go (complete ∷ []) to q out
     over = let e : i ≡ to = omega (arith, I .upto) in I .rest ∙ rw (part-over (pointsOf l) i to e, e)

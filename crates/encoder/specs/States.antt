@@ -2,6 +2,7 @@
 use Prim.Native.Nat.{ℕ, _+_, _/_, _≤_, _<_}
 use mathlib.Core.Path.{_≡_}
 use mathlib.Core.Bool.{Bool, true, false, _&&_}
+use lib.Dec.{ltb}
 use Rattle.clip.specs.declared.BBox.{BBox}
 use Rattle.clip.specs.Domain.{isGood}
 use Rattle.words.specs.Geometries.{isKind, room}
@@ -53,3 +54,7 @@ isThere (At p) = true
 pub record Sound (s : GeomEncoder) (n : ℕ) : Type 0 where
   pub valid : Valid s n
   pub points : isThere (s .pt1) ≡ true → s .«cmd_offset» < s .used
+
+abbrev pub isPlaced : MaybePt → ℕ → ℕ → Bool
+isPlaced Nowhere place used = true
+isPlaced (At p) place used = ltb place used

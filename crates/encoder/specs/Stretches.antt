@@ -12,7 +12,7 @@ use Rattle.clip.specs.declared.Pt.{Pt}
 use Rattle.clip.specs.Domain.{isCoord}
 use Rattle.words.specs.Geometries.{room}
 use Rattle.encoder.specs.declared.GeomEncoder.{GeomEncoder}
-use Rattle.encoder.specs.States.{valid, Sound}
+use Rattle.encoder.specs.States.{Sound}
 use Rattle.encoder.specs.declared.tally.Tally.{Tally}
 use Rattle.encoder.specs.Tallies.{maxTally, countsFit}
 use Rattle.encoder.specs.Adding.{pointAt, counted, added}
@@ -76,7 +76,3 @@ unfoldable pub stretched : GeomEncoder → List ℤ → ℕ → ℕ → List ℕ
 stretched s l from to out =
     let most : ℕ = smaller (lastPoint (length l) to - from) (spareOf (s .tally)) in
     cond (isStart (draftOf s)) (run most l from s out) (kept (halted s from) out)
-
--- from a state that may be bad: the points from the one at i on, where the state breaks no rule and the part has two points
-abbrev pub stretchedOn : GeomEncoder → List ℤ → ℕ → List ℕ → Written Stretch (List ℕ)
-stretchedOn s l from out = cond (leb 2 (s .count) && valid s (length out)) (stretched s l from (length l / 2) out) (kept (halted s from) out)

@@ -11,11 +11,9 @@ ghost use Rattle.encoder.specs.Jobs.{pointsOf, isJob, isJobOf, endsAt, p
 use crate::Drawn;
 use crate::GeomEncoder;
 use crate::Started;
-use crate::add_valid;
 use crate::complete_valid;
-use crate::stretch::add_stretch;
+use crate::run::add_run;
 use clip::BBox;
-use clip::Pt;
 use refusal::Refusal;
 
 pub enum Encoded {
@@ -58,34 +56,19 @@ pub fn is_job(points: &[i32], ends: &[u32]) -> bool
     is_job_of(points.len(), ends)
 }
 
-// Adds the points of one part and completes it: one point by itself, which may be any, then a stretch of those that are plain. None starts before a part
-// has two points.
+// Adds the points of one part and completes it.
 fn add_part(s: GeomEncoder, points: &[i32], from: usize, to: usize, words: &mut [u32]) -> Course
     requires { ⌜ from ≤ to ⌝ }
     requires { ⌜ to ≤ length (now points) / 2 ⌝ }
     requires { ⌜ Sound s (length (now words)) ⌝ }
     ensures { λ r. ⌜ Gives (go (partCalls (part (pointsOf (now (points .entry))) from to)) from s (now (words .entry))) (outcomeOf to r) (now (words .exit)) ⌝ }
 {
-    let mut q = s;
-    let mut i = from;
-    while i < to {
-        let x = points[2 * i];
-        let y = points[2 * i + 1];
-        match add_valid(q, Pt { x: x, y: y }, words) {
-            Drawn::Done(t, _) => q = t,
-            Drawn::Refused(r, _) => return Course::Off(r, i),
-        }
-        i += 1;
-        if q.count < 2 {
-            continue;
-        }
-        let plain = add_stretch(q, points, i, to, words);
-        q = plain.state;
-        i = plain.reached;
-    }
-    match complete_valid(q, words) {
-        Drawn::Done(t, _) => Course::On(t),
-        Drawn::Refused(r, _) => Course::Off(r, to),
+    match add_run(s, points, from, to, words) {
+        Course::Off(r, n) => Course::Off(r, n),
+        Course::On(q) => match complete_valid(q, words) {
+            Drawn::Done(t, _) => Course::On(t),
+            Drawn::Refused(r, _) => Course::Off(r, to),
+        },
     }
 }
 

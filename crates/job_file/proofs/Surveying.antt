@@ -23,7 +23,7 @@ use Rattle.affine.specs.Mapping.{gridsOf}
 use Rattle.encoder.proofs.Within.{encoded-within}
 use Rattle.survey_job.specs.Surveys.{surveyedJob}
 use Rattle.job_file.specs.declared.Body.{Body}
-use Rattle.job_file.specs.declared.Body.the-variants.{At, Cut}
+use Rattle.job_file.specs.declared.Body.the-variants.{Cut}
 use Rattle.job_file.specs.JobFile.{kindOf, boxOf, partsOf, endsOf, bodyOf}
 use Rattle.job_file.specs.SurveyFile.{doublesOf, mapOf, behindTable, bodySurveyed, surveyFile}
 use Rattle.job_file.proofs.Taking.{Whole, cut-file}

@@ -6,8 +6,6 @@ use Prim.Native.Nat.{ℕ}
 use lib.IntN.{ℤ, pos, negsuc}
 use lib.Ieee.{Float, binary64, ofBits, add, mul}
 use lib.ListN.{replicate}
-use Rattle.promise.specs.Answers.{Written}
-use Rattle.refusal.specs.Said.{Said}
 use Rattle.clip.specs.declared.BBox.{BBox}
 use Rattle.clip.specs.Domain.{isCoord, isGood}
 use Rattle.words.specs.Params.{param}

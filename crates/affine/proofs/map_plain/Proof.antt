@@ -1,5 +1,5 @@
--- `affine::map_plain` meets its contract: after each turn the points from `from` up to i are mapped and laid.
-use Prim.Native.Nat.{_+_, _-_, _*_}
+-- `affine::map_plain` meets its contract: after each turn the numbers from `from` up to i are those of whole points, mapped and laid.
+use Prim.Native.Nat.{_+_, _-_, _≤_}
 use native.Mathlib.Omega.{arith}
 use borrow.Author.Needs.{needs}
 use mathlib.Core.Path.{_≡_}
@@ -18,11 +18,24 @@ abbrev μ-loop : tie.MeasureT-loop
 μ-loop points from to out₀ a b c d e f i₀ out i = to - i
 
 loop-holds : tie.Need-loop-holds Inv-loop μ-loop
-loop-holds c = let s = c .before in maps-none (s .pre .1 .0) (s .pre .1 .1) (s .pre .0)
+loop-holds c = let s = c .before in maps-none (s .pre .1 .1 .0) (s .pre .1 .1 .1) (s .pre .0)
 
 -- the list that is laid in keeps its length
 long : (c : tie.At-loop Inv-loop μ-loop) → length (c .loop .out) ≡ length (c .before .before .args .out .now)
-long c = let s = c .before .before in maps-long (s .pre .1 .0) (s .pre .1 .1) (c .loop .inv)
+long c = let s = c .before .before in maps-long (s .pre .1 .1 .0) (s .pre .1 .1 .1) (c .loop .inv)
+
+-- a whole point is left
+left : (c : tie.In-loop Inv-loop μ-loop) → c .before .loop .i + 2 ≤ c .before .before .before .args .to
+left c =
+    let k = c .before in
+    let s = k .before .before in
+    omega (arith, k .loop .inv .ahead, k .loop .inv .whole, s .pre .0, s .pre .1 .0, c .loop-test .taken)
+
+in-points : (c : tie.In-loop Inv-loop μ-loop) → c .before .loop .i + 2 ≤ length (c .before .before .before .args .points .now)
+in-points c = omega (arith, left c, c .before .before .before .pre .1 .1 .0)
+
+in-out : (c : tie.In-loop Inv-loop μ-loop) → c .before .loop .i + 2 ≤ length (c .before .loop .out)
+in-out c = omega (arith, left c, long (c .before), c .before .before .before .pre .1 .1 .1)
 
 -- the turn that a point's tests stand in
 abbrev turn : tie.After-is-near2 Inv-loop μ-loop → tie.In-loop Inv-loop μ-loop
@@ -34,7 +47,7 @@ Passed c =
     let n = c .before in
     let k = turn n .before in
     let v = n .before .before .before .before .before .before in
-    Tested (k .before .before .args .t) (getD (k .before .before .args .points .now) (2 * k .loop .i) nan) (getD (k .before .before .args .points .now) (2 * k .loop .i + 1) nan)
+    Tested (k .before .before .args .t) (getD (k .before .before .args .points .now) (k .loop .i) nan) (getD (k .before .before .args .points .now) (k .loop .i + 1) nan)
     (v .before .along .result) (v .along2 .result) (n .before .before .before .before .before .stepped .result) (n .before .before .before .before .stepped2 .result)
     (n .before .before .before .is-on-grid .result) (n .before .before .is-on-grid2 .result) (n .before .is-near .result) (n .is-near2 .result)
 
@@ -54,25 +67,19 @@ tested c =
     }
 
 mul-x : tie.Need-mul-x Inv-loop μ-loop
-mul-x c = search needs
-
-mul-x-2 : tie.Need-mul-x-2 Inv-loop μ-loop
-mul-x-2 c = search needs
+mul-x c = let h = in-points c in search needs
 
 shared-slice-read-x : tie.Need-shared-slice-read-x Inv-loop μ-loop
-shared-slice-read-x c = search needs
-
-mul-y : tie.Need-mul-y Inv-loop μ-loop
-mul-y c = search needs
+shared-slice-read-x c = let h = in-points (c .before) in search needs
 
 add-y : tie.Need-add-y Inv-loop μ-loop
-add-y c = search needs
+add-y c = let h = in-points (c .before) in search needs
 
-mul-y-2 : tie.Need-mul-y-2 Inv-loop μ-loop
-mul-y-2 c = search needs
+mul-y : tie.Need-mul-y Inv-loop μ-loop
+mul-y c = let h = in-points (c .before) in search needs
 
 shared-slice-read-y : tie.Need-shared-slice-read-y Inv-loop μ-loop
-shared-slice-read-y c = search needs
+shared-slice-read-y c = let h = in-points (c .before .before) in search needs
 
 along-requires : tie.Need-along-requires Inv-loop μ-loop
 along-requires c κs = search needs
@@ -108,31 +115,25 @@ float-to-int-out : tie.Need-float-to-int-out Inv-loop μ-loop
 float-to-int-out c = cast-across (tested (c .before))
 
 mul-out : tie.Need-mul-out Inv-loop μ-loop
-mul-out c = search needs
-
-mul-out-2 : tie.Need-mul-out-2 Inv-loop μ-loop
-mul-out-2 c = search needs
+mul-out c = let h = in-points (turn (c .before .before)) in search needs
 
 slice-set-from-out : tie.Need-slice-set-from-out Inv-loop μ-loop
-slice-set-from-out c = let k = turn (c .before .before) in omega (arith, long (k .before), k .before .before .before .pre .1 .1, k .loop-test .taken)
+slice-set-from-out c = omega (arith, in-out (turn (c .before .before)))
 
 float-to-int-out-2 : tie.Need-float-to-int-out-2 Inv-loop μ-loop
 float-to-int-out-2 c = cast-upward (tested (c .before .before))
 
-mul-t26 : tie.Need-mul-t26 Inv-loop μ-loop
-mul-t26 c = search needs
+add-t25 : tie.Need-add-t25 Inv-loop μ-loop
+add-t25 c = let h = in-points (turn (c .before .before .before)) in search needs
 
-add-t22 : tie.Need-add-t22 Inv-loop μ-loop
-add-t22 c = search needs
-
-mul-t23 : tie.Need-mul-t23 Inv-loop μ-loop
-mul-t23 c = search needs
+mul-t22 : tie.Need-mul-t22 Inv-loop μ-loop
+mul-t22 c = let h = in-points (turn (c .before .before .before)) in search needs
 
 slice-set-from-out-2 : tie.Need-slice-set-from-out-2 Inv-loop μ-loop
-slice-set-from-out-2 c = let k = turn (c .before .before .before) in simp length-set (omega (arith, long (k .before), k .before .before .before .pre .1 .1, k .loop-test .taken))
+slice-set-from-out-2 c = simp length-set (omega (arith, in-out (turn (c .before .before .before))))
 
 add-i : tie.Need-add-i Inv-loop μ-loop
-add-i c = search needs
+add-i c = let h = in-points (turn (c .before .before .before)) in search needs
 
 loop-less : tie.Need-loop-less Inv-loop μ-loop
 loop-less c = search needs
@@ -142,8 +143,8 @@ loop-again c =
     let e = c .before .before in
     let k = turn (e .before) in
     let s = k .before .before .before in
-    maps-more (s .pre .1 .0) (s .pre .1 .1) (k .before .loop .inv)
-    (maps-one (s .pre .1 .0) (omega (arith, long (k .before), s .pre .1 .1)) nan (k .loop-test .taken) (is-x (tested e)) (is-y (tested e)))
+    maps-more (s .pre .1 .1 .0) (s .pre .1 .1 .1) (k .before .loop .inv)
+    (maps-one (s .pre .1 .1 .0) (omega (arith, long (k .before), s .pre .1 .1 .1)) nan (left k) (is-x (tested e)) (is-y (tested e)))
 
 same-length-2 : tie.Need-same-length-2 Inv-loop μ-loop
 same-length-2 c = long (c .before)
@@ -159,11 +160,9 @@ map-plain-spec =
     μ-loop
     loop-holds
     mul-x
-    mul-x-2
     shared-slice-read-x
-    mul-y
     add-y
-    mul-y-2
+    mul-y
     shared-slice-read-y
     along-requires
     along-requires-2
@@ -177,12 +176,10 @@ map-plain-spec =
     returns
     float-to-int-out
     mul-out
-    mul-out-2
     slice-set-from-out
     float-to-int-out-2
-    mul-t26
-    add-t22
-    mul-t23
+    add-t25
+    mul-t22
     slice-set-from-out-2
     add-i
     loop-less

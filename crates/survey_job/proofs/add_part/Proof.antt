@@ -1,7 +1,7 @@
 -- What is left of the part, from the state and the list that there are, gives the rest of the answer, after each block; then completing.
 use native.Mathlib.Omega.{arith}
 use mathlib.Core.Path.{_≡_, refl, sym}
-use Prim.Native.Nat.{_-_, _*_, _≤_}
+use Prim.Native.Nat.{_-_, _≤_}
 use lib.ListN.{length}
 use lib.Seq.{length-take-le}
 use Rattle.encoder.proofs.Turns.{Adding, add-start, part-done, part-stop}
