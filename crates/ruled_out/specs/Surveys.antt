@@ -1,7 +1,7 @@
 -- Crates `affine`, `survey_job` and `job_file` (its survey file): wrong ways to the grid, wrong maps, wrong surveys.
 use Prim.Native.Nat.{ℕ, _+_, _-_, _*_, _/_}
 use mathlib.Core.Path.{_≡_, ap}
-use mathlib.Core.Bool.{Bool, true, false}
+use mathlib.Core.Bool.{Bool, true, false, cond}
 use mathlib.Core.List.{List, [], _∷_}
 use lib.IntN.{ℤ, pos, negℤ}
 use lib.Ieee.{Float, nan, inf, fin, binary64, up, down, ofBits, add, mul, toUnsigned}
@@ -10,11 +10,15 @@ use lib.ListN.{length}
 use native.Mathlib.Omega.{arith}
 use Rattle.whole.specs.Twos.{wide}
 use Rattle.clip.specs.Domain.{within, isCoord}
+use Rattle.encoder.specs.declared.points.MaybePt.the-variants.{Nowhere}
+use Rattle.encoder.specs.declared.GeomEncoder.{GeomEncoder}
+use Rattle.encoder.specs.States.{valid}
+use Rattle.encoder.specs.Adding.{added}
 use Rattle.affine.specs.declared.Affine.{Affine}
 use Rattle.affine.specs.Grid.{signed, wholeOf, gridOf}
 use Rattle.affine.specs.Mapping.{along, surveyed, mapped, gridsOf}
 use Rattle.job_file.specs.SurveyFile.{doublesOf, mapOf}
-use Rattle.ruled_out.specs.Inputs.{bit, size}
+use Rattle.ruled_out.specs.Inputs.{bit, size, state}
 
 abbrev double : ℕ → Float
 double bits = ofBits binary64 bits
@@ -56,6 +60,12 @@ held-at-the-limit h = let e : _≡_ {A = ℕ} 0 1 = ap bit (h (inf false)) in om
 pub nan-accepted : ((t : Affine) (x y : Float) → mapped t x y .number ≡ 0) → ⊥
 unfolding mapped isCoord gridOf wholeOf ofBits add mul
 nan-accepted h = let e : _≡_ {A = ℕ} 5 0 = h (record { a = one; b = naught; c = naught; d = naught; e = one; f = naught }) nan one in omega arith
+
+-- COORD before STATE: no number, added to a state that uses more words than there are
+pub coord-first : ((s : GeomEncoder) (t : Affine) (x y : Float) (out : List ℕ)
+    → added s (surveyed t x y) out .answer .number ≡ cond (isCoord (surveyed t x y)) (added s (surveyed t x y) out .answer .number) 5) → ⊥
+unfolding added valid isCoord gridOf wholeOf ofBits add mul
+coord-first h = let e : _≡_ {A = ℕ} 4 5 = h (state 1 Nowhere Nowhere Nowhere 0 0 9) (record { a = one; b = naught; c = naught; d = naught; e = one; f = naught }) nan one [] in omega arith
 
 -- ---- the map
 -- the sum from the right: 1 added to -1e16 is lost
