@@ -55,6 +55,7 @@ pub record Sound (s : GeomEncoder) (n : ℕ) : Type 0 where
   pub valid : Valid s n
   pub points : isThere (s .pt1) ≡ true → s .«cmd_offset» < s .used
 
+-- the same rule as a test: where there is a last point, the last command's place is below the used words
 abbrev pub isPlaced : MaybePt → ℕ → ℕ → Bool
 isPlaced Nowhere place used = true
 isPlaced (At p) place used = ltb place used
