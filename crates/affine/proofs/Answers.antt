@@ -1,16 +1,29 @@
 -- The answers for one number and for one point, from what the calls have told.
 use mathlib.Core.Path.{_≡_, sym, ap, _∙_}
 use mathlib.Core.Bool.{Bool, true, false, cond}
-use mathlib.Core.List.{[], _∷_}
+use mathlib.Core.List.{List, [], _∷_}
 use lib.IntN.{ℤ}
 use lib.Ieee.{Float}
 use Rattle.refusal.specs.declared.Refusal.the-variants.{Coord}
-use Rattle.refusal.specs.Said.{accepted, refused}
+use Rattle.refusal.specs.Said.{Said, accepted, refused}
+use Rattle.refusal.proofs.Laws.{one-refusal, never-both}
 use Rattle.clip.specs.declared.Pt.{Pt}
 use Rattle.clip.specs.Domain.{within, isCoord}
 use Rattle.affine.specs.declared.Affine.{Affine}
+use Rattle.affine.specs.declared.Mapped.{Mapped}
+use Rattle.affine.specs.declared.Mapped.the-variants.{At, Refused}
 use Rattle.affine.specs.Grid.{beyond, wholeOf, gridOf}
-use Rattle.affine.specs.Mapping.{along, surveyed, mapped}
+use Rattle.affine.specs.Mapping.{along, surveyed, saidMapped, mapped}
+
+-- ---- an answer is known by what it says
+one-point : (p q : Pt) → p ∷ [] ≡ q ∷ [] → p ≡ q
+one-point p q e = cc
+
+pub one-mapped : (r r′ : Mapped) → saidMapped r ≡ saidMapped r′ → r ≡ r′
+one-mapped (At p) (At q) e = ap At (one-point p q (ap (λ (s : Said (List Pt)). s .values) e))
+one-mapped (At p) (Refused r) e = absurd (never-both r e)
+one-mapped (Refused r) (At q) e = absurd (never-both r (sym e))
+one-mapped (Refused r) (Refused r′) e = ap Refused (one-refusal r r′ e)
 
 -- ---- one number: its nearest whole number where that lies within the limit
 pub on-grid : (x : Float) → within (wholeOf x) ≡ true → wholeOf x ≡ gridOf x

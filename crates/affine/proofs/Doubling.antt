@@ -12,6 +12,9 @@ use lib.Ieee.{Float, fin, binary64, up, down, round, add, fits}
 use lib.Ieee.Exact.{HasValue, round-exact}
 use Rattle.affine.proofs.Sums.{sum-like}
 
+doubled : (n : ℕ) → n + n ≡ n * 2
+doubled n = omega arith
+
 -- a + a times 2 ^ l, for a = m * 2 ^ k and for a = m / 2 ^ k
 whole-part : (m k l : ℕ) → (m * 2 ^ k * 1 + m * 2 ^ k * 1) * 2 ^ l ≡ m * 2 ^ (k + (1 + l)) * (1 * 1)
 whole-part m k l =
@@ -19,9 +22,6 @@ whole-part m k l =
     let L : ℕ = 2 ^ l in
     ap (λ (x : ℕ). (x + x) * L) (mul-one P) ∙ add-mul P P L ∙ doubled (P * L) ∙ sym (mul-one (P * L * 2)) ∙ ap (λ (x : ℕ). x * 1) (right m k l)
   where
-    doubled : (n : ℕ) → n + n ≡ n * 2
-    doubled n = omega arith
-
     right : (m k l : ℕ) → m * 2 ^ k * 2 ^ l * 2 ≡ m * 2 ^ (k + (1 + l))
     right m k l =
         mul-assoc (m * 2 ^ k) (2 ^ l) 2 ∙ mul-assoc m (2 ^ k) (2 ^ l * 2)
@@ -33,9 +33,6 @@ fraction-part m k j l e =
     ap (λ (x : ℕ). (x * D + x * D) * 2 ^ l) (mul-one m) ∙ add-mul (m * D) (m * D) (2 ^ l) ∙ doubled (m * D * 2 ^ l)
     ∙ mul-assoc (m * D) (2 ^ l) 2 ∙ ap (λ (x : ℕ). m * D * x) (mul-comm (2 ^ l) 2 ∙ sym (pow-add 2 1 l) ∙ ap (λ (x : ℕ). 2 ^ x) (sym e) ∙ pow-add 2 j k)
     ∙ mul-assoc m D (2 ^ j * D) ∙ ap (λ (x : ℕ). m * x) (mul-left-comm D (2 ^ j) D) ∙ sym (mul-assoc m (2 ^ j) (D * D))
-  where
-    doubled : (n : ℕ) → n + n ≡ n * 2
-    doubled n = omega arith
 
 add-is : (s : Bool) (m : ℕ) (e : ℤ) → add binary64 (fin s m e) (fin s m e) ≡ round binary64 s (m * up e * down e + m * up e * down e) (down e * down e)
 unfolding add

@@ -9,9 +9,7 @@ use lib.Ieee.{fin, up, down, neg}
 use lib.Ieee.Fits.{down-pos}
 use Rattle.affine.specs.Grid.{nearest, signed, wholeOf}
 use Rattle.affine.specs.Laws.{IsNearest}
-
-twice-pos : (d : ℕ) → 0 < d → 0 < 2 * d
-twice-pos d h = omega arith
+use Rattle.affine.proofs.Limits.{twice-pos}
 
 -- a quotient by 2 * d, in multiples of d
 times : (n d : ℕ) → n * (2 * d) ≡ 2 * (n * d)

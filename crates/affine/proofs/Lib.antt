@@ -9,3 +9,4 @@ pub mod Stepping
 pub mod Plain
 pub mod Lists
 pub mod Turns
+pub mod Lost

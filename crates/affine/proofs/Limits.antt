@@ -21,7 +21,7 @@ same-test false true p q = absurd (q tt)
 same-test false false p q = refl
 
 -- ---- (2 * a + d) / (2 * d) is at most the limit exactly where a / d is below the limit and a half
-twice-pos : (d : ℕ) → 0 < d → 0 < 2 * d
+pub twice-pos : (d : ℕ) → 0 < d → 0 < 2 * d
 twice-pos d h = omega arith
 
 pub within-then : (a d : ℕ) → 0 < d → (2 * a + d) / (2 * d) ≤ 1073741823 → a * 2 < 2147483647 * d
@@ -86,13 +86,13 @@ within-size true m e t = within-then (m * up e) (down e) (down-pos e) (within-ne
 within-size false m e t = within-then (m * up e) (down e) (down-pos e) (within-pos (nearest m e) t)
 
 -- ---- the two comparisons of the code, at 1073741823.5 and its opposite
-abbrev pub half : Float
-half = fin false 2147483647 (negsuc 0)
+abbrev above : Float
+above = fin false 2147483647 (negsuc 0)
 
-abbrev pub opposite : Float
-opposite = fin true 2147483647 (negsuc 0)
+abbrev below : Float
+below = fin true 2147483647 (negsuc 0)
 
-pub small-is : (x : Float) → (lt x half && lt opposite x) ≡ within (wholeOf x)
+pub small-is : (x : Float) → (lt x above && lt below x) ≡ within (wholeOf x)
 unfolding lt wholeOf
 small-is nan = refl
 small-is (inf true) = refl

@@ -1,19 +1,17 @@
 -- Points mapped and laid where they belong, as `map_plain` promises: none, one that is stored, and some behind others.
 use mathlib.Core.Path.{_≡_, sym, ap, _∙_}
-use Prim.Native.Nat.{ℕ, suc, _+_, _-_, _*_, _/_, _%_, _≤_, _<_}
+use Prim.Native.Nat.{ℕ, suc, _+_, _-_, _*_, _/_, _%_, _≤_}
 use mathlib.Core.List.{List, _∷_, _++_}
 use native.Mathlib.Omega.{arith}
 use lib.IntN.{ℤ}
 use lib.Ieee.{Float}
 use lib.ListN.{length, take, drop, getD, set, length-drop}
 use lib.Seq.{length-take-le, drop-cons, drop-drop, take-add}
-use mathlib.Core.Bool.{Bool, true, false, not, cond}
-use lib.Dec.{T, leb, leb→le, nleb→lt}
 use Rattle.promise.specs.Answers.{Gives}
 use Rattle.promise.specs.Laid.{lay}
 use Rattle.promise.proofs.Laying.{lay-nothing, length-lay, lay-next}
 use Rattle.promise.proofs.Stores.{two-stores}
-use Rattle.number.specs.Least.{smaller}
+use Rattle.number.proofs.Least.{smaller-le}
 use Rattle.affine.specs.declared.Affine.{Affine}
 use Rattle.affine.specs.Mapping.{surveyed, gridsOf, fitting, mappedAll}
 use Rattle.affine.specs.Facts.{MapsPlain}
@@ -91,19 +89,12 @@ module _ {t : Affine} {points : List Float} {to : ℕ} {out : List ℤ} (inside 
       }
 
 -- ---- a whole list, at the front
-smaller-fits : (a b n : ℕ) → n ≡ smaller a b → (n ≤ a) × (n ≤ b)
-smaller-fits a b n e = by (leb a b) (leb→le a b) (nleb→lt a b) e
-  where
-    by : (x : Bool) → (T x → a ≤ b) → (T (not x) → b < a) → n ≡ cond x a b → (n ≤ a) × (n ≤ b)
-    by true h k e = let g = h tt in (omega arith, omega arith)
-    by false h k e = let g = k tt in (omega arith, omega arith)
-
 -- as many points as both lists hold
 pub fits-points : (points : List Float) (out : List ℤ) (n : ℕ) → n ≡ fitting points out → n ≤ length points / 2
-fits-points points out n e = smaller-fits (length points / 2) (length out / 2) n e .0
+fits-points points out n e = rw e (smaller-le (length points / 2) (length out / 2) .0)
 
 pub fits-out : (points : List Float) (out : List ℤ) (n : ℕ) → n ≡ fitting points out → n ≤ length out / 2
-fits-out points out n e = smaller-fits (length points / 2) (length out / 2) n e .1
+fits-out points out n e = rw e (smaller-le (length points / 2) (length out / 2) .1)
 
 pub maps-all : {t : Affine} {points : List Float} {out l : List ℤ} {n i : ℕ} → n ≡ fitting points out → 2 * n ≤ i → MapsPlain t points 0 (2 * n) out i l → Gives (mappedAll t points out) n l
 unfolding mappedAll

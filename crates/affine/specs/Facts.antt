@@ -3,10 +3,11 @@ use Prim.Native.Nat.{ℕ, zero, suc, _-_, _%_, _≤_}
 use mathlib.Core.Path.{_≡_}
 use mathlib.Core.Bool.{Bool, true, false, _&&_}
 use mathlib.Core.List.{List}
-use lib.IntN.{ℤ, pos}
+use lib.IntN.{ℤ, pos, natAbs}
 use lib.Ieee.{Float, nan, inf, fin, binary64, add, sub, neg, lt, ofBits}
 use lib.ListN.{take, drop}
 use Rattle.promise.specs.Laid.{lay}
+use Rattle.clip.specs.Domain.{limit}
 use Rattle.affine.specs.declared.Affine.{Affine}
 use Rattle.affine.specs.Grid.{nearest}
 use Rattle.affine.specs.Mapping.{gridsOf}
@@ -21,7 +22,7 @@ magnitude (fin s m e) = pos (nearest m e)
 unfoldable pub Small : Float → Type 0
 Small nan = ⊥
 Small (inf s) = ⊥
-Small (fin false m e) = nearest m e ≤ 1073741823
+Small (fin false m e) = nearest m e ≤ natAbs limit
 Small (fin true zero e) = Unit {0}
 Small (fin true (suc m) e) = ⊥
 
