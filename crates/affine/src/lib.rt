@@ -1,5 +1,7 @@
 // Points from satellite receivers (document 02, request (x)): two doubles, mapped by six others and put on the grid.
 // In the default floating-point environment: to nearest, ties to even, subnormals kept. No product is fused with a sum.
+#![tactic(auto)]
+
 ghost use Rattle.std.specs.Prelude.{◌≡◌, ◌-◌, ◌%◌, ◌≤◌, T, length};
 ghost use Rattle.promise.specs.Answers.{Gives};
 ghost use Rattle.clip.specs.Domain.{within};

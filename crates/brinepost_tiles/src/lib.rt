@@ -1,5 +1,7 @@
 // Layers and tiles in the C interface: `rt staticlib brinepost_tiles` makes the archive, include/brinepost.h says in C what stands here. Each exported
 // function takes any numbers and lists, calls one proved function, and answers a struct whose first number is the refusal, 0 where the call is accepted.
+#![tactic(auto)]
+
 pub mod carried; // a layer and a tile as C carries them
 pub mod answers; // the structs of the answers
 pub mod layers; // the calls that change a layer

@@ -1,5 +1,7 @@
 // Cutting a segment at the edges of a box (document 01, "Cutting a segment"; in the Rust: `clip` for i32 of encoder.rs, with `Pt`, `Seg` and `BBox` of pointy).
 // No loop; a division only for a cut whose line the segment reaches with one end strictly outside; for a segment inside the box nothing but comparisons.
+#![tactic(auto)]
+
 ghost use Rattle.std.specs.Prelude.{◌≡◌, ◌&&◌};
 ghost use Rattle.clip.specs.Domain.{limit, within, is_coord, is_good, is_inside};
 ghost use Rattle.clip.specs.Facts.{beside, beside_x, beside_y};

@@ -1,4 +1,6 @@
 // Document 01, "Reading words", as request (iii) amends it: a geometry's words to its vertices, by MVT 4.3 alone; all of them at once, or one after the other.
+#![tactic(auto)]
+
 ghost use Rattle.std.specs.Prelude.{◌≡◌, ◌<◌, length, drop};
 ghost use Rattle.promise.specs.Answers.{Gives};
 ghost use Rattle.decoder.specs.ReadingWords.{reading, said_reading};

@@ -1,5 +1,7 @@
 // The whole job with its edges (document 02, request (v)): words as `encoder::whole_job` writes them, and in a second lent list two numbers for each raw
 // point, what became of the ends of the segment that ends in it. By the encoder's calls in order; a job without edges does not pay for them.
+#![tactic(auto)]
+
 ghost use Rattle.std.specs.Prelude.{◌≡◌, true, ◌+◌, ◌*◌, ◌/◌, ◌≤◌, length};
 ghost use Rattle.promise.specs.Laid.{lay};
 ghost use Rattle.encoder.specs.Adding.{point_at};

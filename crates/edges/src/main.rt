@@ -1,4 +1,6 @@
 // The program: takes one job file from standard input and prints the edges of its raw points, or its refusal (RULES 11).
+#![tactic(auto)]
+
 ghost use Rattle.std.specs.Prelude.{◌*◌, ◌+◌, ◌≤◌, length};
 ghost use Rattle.printed.specs.Lending.{Tells};
 ghost use Rattle.edges.specs.Program.{printed};

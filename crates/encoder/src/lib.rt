@@ -2,6 +2,8 @@
 // A single point is planned first, as drafts of the state in plain numbers (`plan`, `draft`); then the room is asked for, and only then is anything
 // written, so a refused call has not written.
 // The whole job (`whole_job`) draws the points of a part that has begun in one loop (`stretch`), by the same steps (`pen`).
+#![tactic(auto)]
+
 ghost use Rattle.std.specs.Prelude.{◌≡◌, true, ◌≤◌, length};
 ghost use Rattle.promise.specs.Answers.{Gives};
 ghost use Rattle.clip.specs.Domain.{is_coord};

@@ -1,6 +1,8 @@
 // An index beside the scan of crate `table`: a list that the caller lends, by which a key or a value is looked up among the entries of one bucket alone. It
 // is proved to answer as the scan does where it is the index of the entries (`Indexes`). A list that holds anything else may miss an entry, or find a later one
 // that is the same.
+#![tactic(auto)]
+
 ghost use Rattle.std.specs.Prelude.{◌≡◌, cond, ◌≤◌, length};
 ghost use Rattle.table.specs.Texts.{text_of};
 ghost use Rattle.index.specs.Hashes.{Octet, hash_text, mixed, hash_value, hash_stored};

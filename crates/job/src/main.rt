@@ -1,4 +1,6 @@
 // The program: takes one job file from standard input and prints its words, or its refusal (RULES 11).
+#![tactic(auto)]
+
 ghost use Rattle.std.specs.Prelude.{◌*◌, ◌+◌, ◌≤◌, length};
 ghost use Rattle.printed.specs.Lending.{Tells};
 ghost use Rattle.job.specs.Program.{printed};

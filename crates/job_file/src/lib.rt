@@ -1,4 +1,6 @@
 // A job file's numbers to words (RULES 11), to words and edges, or to the state behind the last call: the contents table is taken apart, and the job encoded.
+#![tactic(auto)]
+
 ghost use Rattle.std.specs.Prelude.{◌≡◌, map, ◌≤◌, length};
 ghost use Rattle.promise.specs.Answers.{Gives};
 ghost use Rattle.promise.specs.Laid.{lay};

@@ -2,6 +2,8 @@
 // and feature records stand in four lent lists, of which the record says how much is used.
 // What a call costs: its STATE check reads the used part of every list once, so each call costs what the layer holds, and n features made by single calls
 // cost about n times that. Whole features (`whole_feature`, `many`) ask it once.
+#![tactic(auto)]
+
 pub mod state; // the STATE check
 pub mod feature; // opening, marking, completing and abandoning a feature
 pub mod tags; // a tag, one call for each kind of value

@@ -1,4 +1,6 @@
 // The program: takes one job file from standard input and prints what became of its points, or its refusal (RULES 11).
+#![tactic(auto)]
+
 ghost use Rattle.std.specs.Prelude.{◌+◌, ◌≤◌, length};
 ghost use Rattle.printed.specs.Lending.{Shows, Tells};
 ghost use Rattle.printed.specs.Losses.{losses_room};

@@ -1,5 +1,7 @@
 // Numbers of the machine, one as another, once for every crate: widened, taken into halves and put together, read as signed and back, how far from
 // zero; and the smaller of two.
+#![tactic(auto)]
+
 ghost use Rattle.std.specs.Prelude.{◌≡◌, ◌%◌, ◌/◌, nat_abs};
 ghost use Rattle.promise.specs.Widened.{Wide};
 ghost use Rattle.whole.specs.Twos.{signed32, signed64, wide, bits_of};

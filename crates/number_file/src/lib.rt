@@ -1,4 +1,6 @@
 // A file's bytes as numbers (document 01, "Job file"): 32-bit little-endian, read as signed where the document says so.
+#![tactic(auto)]
+
 ghost use Rattle.std.specs.Prelude.{◌≡◌, ◌+◌, ◌/◌, ◌≤◌, length};
 ghost use Rattle.promise.specs.Answers.{Gives};
 ghost use Rattle.promise.specs.Laid.{lay};

@@ -1,6 +1,8 @@
 // The program: takes a tile from standard input and prints what is in it, or where its fault is. The tile is checked first, so that a fault's line stands
 // alone; then it is gone through layer by layer, and each piece is printed as soon as it is laid, since no list that we can lend holds the text of any tile.
 // On a good tile no call of the reader refuses; where one did, the function would return.
+#![tactic(auto)]
+
 use opened::quoted::show_quoted;
 use opened::values::show_value;
 use opened::{Piece, show_feature, show_layer_end, show_layers, show_numbers};

@@ -1,5 +1,7 @@
 // What `open` prints of a tile, piece by piece, laid out in lent bytes. A tile's text can be longer than any list that we can lend, so every piece is
 // bounded, and a long text or many numbers are laid in portions.
+#![tactic(auto)]
+
 pub mod quoted; // the bytes of a text
 pub mod values; // the line of a value that is no text
 

@@ -1,5 +1,7 @@
 // What the programs print, laid out in lent bytes: lines of numbers in decimal, one or two to a line, rows of them, lines of a tile's outcomes, and of
 // bytes in hexadecimal; and how much of a list, and of a text, is printed.
+#![tactic(auto)]
+
 pub mod faults; // a refusal, and its place where it has one
 pub mod losses; // the counts of what was lost
 pub mod vertices; // the vertices of words that were read

@@ -1,4 +1,6 @@
 // The program: takes the words of one geometry from standard input and prints its vertices, or its refusal (RULES 11).
+#![tactic(auto)]
+
 ghost use Rattle.std.specs.Prelude.{◌≤◌, length};
 ghost use Rattle.printed.specs.Lending.{Tells};
 ghost use Rattle.printed.specs.Vertices.{vertices_room};

@@ -2,6 +2,8 @@
 // value, and the numbers of a feature's tags and geometry into a lent list. Names, keys and texts are handed out as the part of the caller's bytes where they
 // stand. A call takes any bytes and any places: where it cannot read, it says WIRE with the tile's fault, or STATE where the tile is good and the place is no
 // field's.
+#![tactic(auto)]
+
 pub mod reader; // a reader that stands on the caller's bytes and remembers how far it has come
 pub mod layers; // the next layer
 pub mod features; // the next feature of a layer

@@ -1,5 +1,7 @@
 // The feature records of a layer, in a lent list of words: six words (kind, id mark, id low, id high, tag word count, geometry word count), then the
 // geometry, then the tag words.
+#![tactic(auto)]
+
 ghost use Rattle.std.specs.Prelude.{◌≡◌};
 ghost use Rattle.records.specs.Records.{head_ok, record_end, records_in, one_record};
 

@@ -1,5 +1,7 @@
 // The table of refusals, document 01's and the later requests' (in the Rust: error.rs), and how a refusal's place travels. A later request adds its row in
 // two places of this crate, here and in specs/Refusals.antt.
+#![tactic(auto)]
+
 ghost use Rattle.std.specs.Prelude.{◌≡◌};
 ghost use Rattle.refusal.specs.Refusals.{number_of};
 

@@ -1,5 +1,7 @@
 // For the programs that replay kept cases: a file of cases as numbers, its records, and answers printed. Each record begins with how many numbers follow
 // in it. A number that is not there is 0, and a list that is cut short has what there is, so that a replay need not ask.
+#![tactic(auto)]
+
 ghost use Rattle.std.specs.Prelude.{◌≡◌, get_or, take};
 ghost use Rattle.replay.specs.Records.{Past, body_of};
 ghost use Rattle.replay.specs.Printing.{size_of, printed, words_printed, tile_printed};

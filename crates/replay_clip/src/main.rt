@@ -1,4 +1,6 @@
 // Replays clips: prints for each segment and box the segment after the cuts, or the refusal.
+#![tactic(auto)]
+
 use clip::{BBox, Clipped, Pt, Seg};
 use number::signed_long;
 use replay::signed_at;

@@ -1,4 +1,6 @@
 // Replays jobs: prints for each job file what the program `job` prints for it, its words or its refusal.
+#![tactic(auto)]
+
 use encoder::whole_job::Encoded;
 
 fn print_job(job: &[u32], words: &mut [u32]) {

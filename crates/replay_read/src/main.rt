@@ -1,5 +1,7 @@
 // Replays readings of words: prints for each list of words how many vertices there are and then each vertex, its id, x and y, on a line; or the refusal
 // and its place.
+#![tactic(auto)]
+
 use decoder::Reading;
 use number::signed_long;
 

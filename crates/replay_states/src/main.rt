@@ -1,4 +1,6 @@
 // Replays the encoder's calls one by one: prints after each call its refusal, where it is refused, the whole state, and the words.
+#![tactic(auto)]
+
 use clip::{BBox, Pt};
 use encoder::points::MaybePt;
 use encoder::tally::Tally;

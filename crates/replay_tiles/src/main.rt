@@ -1,5 +1,7 @@
 // Replays tile scripts: prints for each script what the program `tiles` prints for it, its outcomes and the tile's bytes; then the key and value index of
 // every accepted tag on a line.
+#![tactic(auto)]
+
 use replay::number;
 use script::{Op, Part};
 use tile::Tile;

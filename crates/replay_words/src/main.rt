@@ -1,5 +1,7 @@
 // Replays words. Prints for each number its word and the number read back from it; for each command its word, and the id and the count read back from it,
 // or the refusal.
+#![tactic(auto)]
+
 use words::command::{Command, CommandInt, CommandRead, CommandWord};
 use words::param::ParamInt;
 

@@ -1,4 +1,6 @@
 // Runs of words and of bytes, laid at a place of a lent list where they fit. Each call costs what the run has.
+#![tactic(auto)]
+
 ghost use Rattle.std.specs.Prelude.{◌≡◌, ◌+◌, leb};
 ghost use Rattle.runs.specs.Fitting.{laid_in};
 

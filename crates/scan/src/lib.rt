@@ -1,5 +1,7 @@
 // The automaton that reads a tile byte by byte: its states, shared by the code and the definitions. Specs say what a byte does and which states some bytes
 // finish; proofs say that this gives the place of a fault.
+#![tactic(auto)]
+
 use messages::key::{Body, Kind};
 
 // A byte of a varint that is under way.

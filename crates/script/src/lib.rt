@@ -1,4 +1,6 @@
 // A tile script, read operation by operation: oracle/README.md, "Tile script". The script is a list of numbers, of which the first is the tile's extent.
+#![tactic(auto)]
+
 ghost use Rattle.std.specs.Prelude.{◌≡◌, ◌≤◌, length};
 ghost use Rattle.script.specs.Script.{creates, opens, sets, tags, operation, text_of, words_of};
 

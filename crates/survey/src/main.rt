@@ -1,4 +1,6 @@
 // The program: takes one survey file from standard input and prints its words, or its refusal (RULES 11).
+#![tactic(auto)]
+
 ghost use Rattle.std.specs.Prelude.{◌*◌, ◌+◌, ◌≤◌, length};
 ghost use Rattle.printed.specs.Lending.{Tells};
 ghost use Rattle.survey.specs.Program.{printed};

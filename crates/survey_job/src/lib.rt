@@ -1,5 +1,7 @@
 // Surveyed points (document 02, request (x)), a step before the encoder: doubles go to the grid and then as grid points to its calls. The definitions are the
 // encoder's own, of the grid points: STATE, COORD, ROOM, the accepted points and what a refused job leaves are what they are there.
+#![tactic(auto)]
+
 ghost use Rattle.std.specs.Prelude.{◌≡◌, true, ◌/◌, ◌≤◌, length};
 ghost use Rattle.promise.specs.Answers.{Gives};
 ghost use Rattle.encoder.specs.Adding.{added, edges};

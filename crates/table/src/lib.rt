@@ -1,6 +1,8 @@
 // The texts, keys and values of a layer, in lent lists (in the Rust: the key and value maps of tile.rs). A key is two words, where its text
 // starts and how long it is; a value three, its kind and then the same, or its content's low and high half. Every function is told the used part of
 // a list alone, so what stands beyond it cannot matter. Looking an entry up reads the entries before it, and the texts of those of its length.
+#![tactic(auto)]
+
 ghost use Rattle.std.specs.Prelude.{◌≡◌};
 ghost use Rattle.table.specs.Texts.{short_text, same_text};
 ghost use Rattle.table.specs.Keys.{find_key, index_of, keys_in};

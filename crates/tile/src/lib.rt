@@ -1,5 +1,7 @@
 // A tile (in the Rust: Tile of tile.rs, and prost). Its own record goes in and comes back by value; its bytes, as they go out, and the places of its layers'
 // names in them stand in two lent lists, of which the record says how much is used. A layer is written when it is added.
+#![tactic(auto)]
+
 ghost use Rattle.std.specs.Prelude.{◌≡◌, true, take};
 ghost use Rattle.promise.specs.Answers.{Gives};
 ghost use Rattle.layer.specs.Held.{seen};

@@ -1,5 +1,7 @@
 // Request (i) of document 02: whether some bytes are a good tile, and where the fault is in those that are not. Most tiles are good, so they are first read
 // message by message, which costs little and tells good from not good; only where that fails the bytes go one by one through the automaton, for the place.
+#![tactic(auto)]
+
 ghost use Rattle.std.specs.Prelude.{◌≡◌};
 ghost use Rattle.messages.specs.Tiles.{Answers};
 ghost use Rattle.tile_check.specs.Checking.{checked};

@@ -1,5 +1,7 @@
 // A whole tile script, run operation after operation. Its outcomes, 0 or a refusal's number, go into a lent list; the tile's bytes are the used part of
 // the last list.
+#![tactic(auto)]
+
 pub mod hand; // what a script has at hand, and a layer's calls on it
 pub mod performing; // what a script works on, and one operation
 

@@ -1,4 +1,6 @@
 // The program: takes one tile script from standard input and prints its outcomes and the tile's bytes.
+#![tactic(auto)]
+
 ghost use Rattle.std.specs.Prelude.{[], ◌∷◌, ◌≤◌, length, take};
 ghost use Rattle.refusal.specs.Refusals.{number_of};
 ghost use Rattle.printed.specs.Lending.{Shows, Tells};

@@ -1,5 +1,7 @@
 // Whether a text is UTF-8, as the Unicode Standard defines it. The ASCII at its front goes by four bytes; each byte is looked at once, but for the four at
 // which that ends.
+#![tactic(auto)]
+
 ghost use Rattle.std.specs.Prelude.{◌≡◌, cond, ◌&&◌, ◌+◌, ◌-◌, ◌≤◌, ◌<◌, length, drop};
 ghost use Rattle.utf8.specs.Utf8.{within, ascii, is_utf8};
 ghost use Rattle.utf8.specs.Steps.{follows, ranges, Goes, Read};

@@ -1,0 +1,44 @@
+-- Below zero, what stands between -1 and the number is one less than its size, and is no less than zero in the arm that casts it.
+use lib.IntN.{negsuc, ◌-ℤ◌}
+use mir.Syntax.{w64}
+use Rattle.whole.proofs.Machine.{Back, back, lt_yes, lt_no}
+use Rattle.number.proofs.Signs.{Below, below, casts}
+use Rattle.number.proofs.magnitude.Goals as goal
+use Rattle.number.proofs.magnitude.Reads as reads
+use Rattle.number.proofs.magnitude.Lts as lts
+
+-- the places on the way that the lemmas below speak of
+abbrev Start : Type 0
+Start = lts.Start reads.Pre reads.Post
+
+abbrev Then-n-lt0 : Type 0
+Then-n-lt0 = lts.Then1 reads.Pre reads.Post
+
+value : (s : Start) → Back w64 s.args.n
+value s = back s.ranges.n
+
+ruleset read = (value)
+
+under : (c : Then-n-lt0) → Below c.args.n
+under c = below c.ranges.n (lt_yes (simp read at c.if-n-lt0.true))
+
+less : (c : Then-n-lt0) → Back w64 (negsuc 0 -ℤ c.args.n)
+less c = back (under c).fits
+
+pub overflow_sub-result : goal.overflow_sub-result
+overflow_sub-result c = simp read (under c).fits
+
+pub overflow_cast-result : goal.overflow_cast-result
+overflow_cast-result c = simp (value, less c) (under c).casts
+
+pub overflow_add-result : goal.overflow_add-result
+overflow_add-result c = simp (value, less c) (under c).sum
+
+pub returns-then-n-lt0 : goal.returns-then-n-lt0
+returns-then-n-lt0 c = simp (value, less c) (under c).same
+
+pub overflow_cast-result-2 : goal.overflow_cast-result-2
+overflow_cast-result-2 c = simp read (casts c.ranges.n (lt_no (simp read at c.if-n-lt0.false)))
+
+pub returns : goal.returns
+returns c = simp read
