@@ -14,7 +14,7 @@ use number::smaller;
 use refusal::Refusal;
 
 // The grid's x is a·x + b·y + c, its y is d·x + e·y + f.
-#[derive(Drop)]
+#[derive(Clone, Copy)]
 pub struct Affine {
     pub a: f64,
     pub b: f64,
@@ -24,7 +24,7 @@ pub struct Affine {
     pub f: f64,
 }
 
-#[derive(Drop)]
+#[derive(Clone, Copy)]
 pub enum Mapped {
     At(Pt),
     Refused(Refusal),

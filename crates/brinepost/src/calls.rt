@@ -11,14 +11,14 @@ use encoder::{Drawn, GeomEncoder, Started};
 use refusal::Refusal;
 
 #[repr(C)]
-#[derive(Drop)]
+#[derive(Clone, Copy)]
 pub struct BpStarted {
     pub refusal: u32,
     pub state: BpEncoder,
 }
 
 #[repr(C)]
-#[derive(Drop)]
+#[derive(Clone, Copy)]
 pub struct BpDrawn {
     pub refusal: u32,
     pub words: usize, // how many are used

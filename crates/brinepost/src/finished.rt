@@ -9,7 +9,7 @@ use clip::BBox;
 use encoder::whole_job::Course;
 
 #[repr(C)]
-#[derive(Drop)]
+#[derive(Clone, Copy)]
 pub struct BpFinished {
     pub refusal: u32,
     pub points: usize, // how many were accepted

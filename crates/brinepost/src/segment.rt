@@ -10,7 +10,7 @@ use clip::{BBox, Clipped, Edge, Pt, Seg};
 use refusal::Refusal;
 
 #[repr(C)]
-#[derive(Drop)]
+#[derive(Clone, Copy)]
 pub struct BpClipped {
     pub refusal: u32,
     pub x0: i32,

@@ -9,7 +9,7 @@ use encoder::points::MaybePt;
 use encoder::tally::Tally;
 
 #[repr(C)]
-#[derive(Drop)]
+#[derive(Clone, Copy)]
 pub struct BpPoint {
     pub is_set: u32,
     pub x: i32,
@@ -17,7 +17,7 @@ pub struct BpPoint {
 }
 
 #[repr(C)]
-#[derive(Drop)]
+#[derive(Clone, Copy)]
 pub struct BpEncoder {
     pub kind: u32,
     pub count: u32,

@@ -14,7 +14,7 @@ use refusal::Refusal;
 
 // The grid's x is a·x + b·y + c, its y is d·x + e·y + f.
 #[repr(C)]
-#[derive(Drop)]
+#[derive(Clone, Copy)]
 pub struct BpAffine {
     pub a: f64,
     pub b: f64,
@@ -25,7 +25,7 @@ pub struct BpAffine {
 }
 
 #[repr(C)]
-#[derive(Drop)]
+#[derive(Clone, Copy)]
 pub struct BpMapped {
     pub refusal: u32,
     pub x: i32,

@@ -8,7 +8,7 @@ ghost use Rattle.brinepost.specs.Readings.{flat_reading};
 use decoder::Reading;
 
 #[repr(C)]
-#[derive(Drop)]
+#[derive(Clone, Copy)]
 pub struct BpReading {
     pub refusal: u32,
     pub vertices: usize,

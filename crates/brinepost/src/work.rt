@@ -8,7 +8,7 @@ use clip::BBox;
 use encoder::whole_job::Encoded;
 
 #[repr(C)]
-#[derive(Drop)]
+#[derive(Clone, Copy)]
 pub struct BpJob {
     pub refusal: u32,
     pub points: usize, // how many were accepted

@@ -7,7 +7,7 @@ ghost use Rattle.brinepost_reader.specs.Flat.{as_told, no_key, flat_key, no_valu
 use reader::entries::{NextKey, NextValue, next_key_at, next_value_at};
 
 #[repr(C)]
-#[derive(Drop)]
+#[derive(Clone, Copy)]
 pub struct BpNextKey {
     pub refusal: u32,
     // 1, or 0 where no key follows or the call is refused.
@@ -18,7 +18,7 @@ pub struct BpNextKey {
 }
 
 #[repr(C)]
-#[derive(Drop)]
+#[derive(Clone, Copy)]
 pub struct BpNextValue {
     pub refusal: u32,
     // 1, or 0 where no value follows or the call is refused.

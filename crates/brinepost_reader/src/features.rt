@@ -7,7 +7,7 @@ ghost use Rattle.brinepost_reader.specs.Flat.{as_told, bit_of, no_feature, flat_
 use reader::features::{NextFeature, next_feature_at};
 
 #[repr(C)]
-#[derive(Drop)]
+#[derive(Clone, Copy)]
 pub struct BpNextFeature {
     pub refusal: u32,
     // 1, or 0 where no feature follows or the call is refused.

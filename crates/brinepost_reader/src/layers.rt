@@ -7,7 +7,7 @@ ghost use Rattle.brinepost_reader.specs.Flat.{as_told, no_layer, flat_layer};
 use reader::layers::{NextLayer, next_layer_at};
 
 #[repr(C)]
-#[derive(Drop)]
+#[derive(Clone, Copy)]
 pub struct BpNextLayer {
     pub refusal: u32,
     // 1, or 0 where no layer follows or the call is refused.

@@ -7,7 +7,7 @@ ghost use Rattle.brinepost_reader.specs.Flat.{flat_opened, as_told};
 use tile_check::{Checked, check};
 
 #[repr(C)]
-#[derive(Drop)]
+#[derive(Clone, Copy)]
 pub struct BpOpened {
     pub refusal: u32,
     pub place: usize,

@@ -9,7 +9,7 @@ ghost use Rattle.brinepost_reader.specs.Flat.{as_told, flat_words};
 use reader::into::{Laid, geometry_into, tags_into};
 
 #[repr(C)]
-#[derive(Drop)]
+#[derive(Clone, Copy)]
 pub struct BpWordsRead {
     pub refusal: u32,
     pub place: usize,

@@ -10,14 +10,14 @@ use layer::{Changed, Counted, Created, Layer, Named};
 use tile::Added;
 
 #[repr(C)]
-#[derive(Drop)]
+#[derive(Clone, Copy)]
 pub struct BpChanged {
     pub refusal: u32,
     pub layer: BpLayer,
 }
 
 #[repr(C)]
-#[derive(Drop)]
+#[derive(Clone, Copy)]
 pub struct BpMany {
     pub refusal: u32,
     pub layer: BpLayer,
@@ -25,14 +25,14 @@ pub struct BpMany {
 }
 
 #[repr(C)]
-#[derive(Drop)]
+#[derive(Clone, Copy)]
 pub struct BpCounted {
     pub refusal: u32,
     pub count: usize,
 }
 
 #[repr(C)]
-#[derive(Drop)]
+#[derive(Clone, Copy)]
 pub struct BpNamed {
     pub refusal: u32,
     pub start: usize,
@@ -40,7 +40,7 @@ pub struct BpNamed {
 }
 
 #[repr(C)]
-#[derive(Drop)]
+#[derive(Clone, Copy)]
 pub struct BpAdded {
     pub refusal: u32,
     pub tile: BpTile,

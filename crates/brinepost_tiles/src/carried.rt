@@ -8,7 +8,7 @@ use layer::{Figures, Layer, Open};
 use tile::Tile;
 
 #[repr(C)]
-#[derive(Drop)]
+#[derive(Clone, Copy)]
 pub struct BpFigures {
     pub keys: usize,
     pub values: usize,
@@ -17,7 +17,7 @@ pub struct BpFigures {
 }
 
 #[repr(C)]
-#[derive(Drop)]
+#[derive(Clone, Copy)]
 pub struct BpLayer {
     pub extent: u32,
     pub is_open: u32,
@@ -28,7 +28,7 @@ pub struct BpLayer {
 }
 
 #[repr(C)]
-#[derive(Drop)]
+#[derive(Clone, Copy)]
 pub struct BpTile {
     pub extent: u32,
     pub used: usize,

@@ -11,7 +11,7 @@ ghost use Rattle.clip.specs.Numbers.{cornered};
 use crate::{ClippedSeg, Edge, Pt, Seg};
 
 // Whether a segment crosses an edge's line, and at which y.
-#[derive(Drop)]
+#[derive(Clone, Copy)]
 enum Meeting {
     Nowhere,
     At(i32),

@@ -15,19 +15,19 @@ use refusal::Refusal;
 
 mod cutting;
 
-#[derive(Drop)]
+#[derive(Clone, Copy)]
 pub struct Pt {
     pub x: i32,
     pub y: i32,
 }
 
-#[derive(Drop)]
+#[derive(Clone, Copy)]
 pub struct Seg {
     pub p0: Pt,
     pub p1: Pt,
 }
 
-#[derive(Drop)]
+#[derive(Clone, Copy)]
 pub struct BBox {
     pub x_min: i32,
     pub x_max: i32,
@@ -36,7 +36,7 @@ pub struct BBox {
 }
 
 // What became of an end: it stayed as given, or the cut at that edge moved it. The definitions' `edge_number` has their numbers.
-#[derive(Drop)]
+#[derive(Clone, Copy)]
 pub enum Edge {
     Stayed,
     XMin,
@@ -46,14 +46,14 @@ pub enum Edge {
 }
 
 // A clipped segment, and what became of its first and of its second end.
-#[derive(Drop)]
+#[derive(Clone, Copy)]
 pub struct ClippedSeg {
     pub seg: Seg,
     pub first: Edge,
     pub second: Edge,
 }
 
-#[derive(Drop)]
+#[derive(Clone, Copy)]
 pub enum Clipped {
     Done(ClippedSeg),
     Refused(Refusal),

@@ -8,7 +8,7 @@ use crate::pen::Head;
 use number::wide;
 use refusal::{Fault, Refusal};
 
-#[derive(Drop)]
+#[derive(Clone, Copy)]
 pub(crate) enum Asked {
     // An id and its pairs, which are there.
     Draw(u32, usize),

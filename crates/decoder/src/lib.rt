@@ -16,14 +16,14 @@ mod command; // a command word with the words behind it
 mod passes; // through all the words, to size and to write
 pub mod pen; // what one word says, and where a reading stands
 
-#[derive(Drop)]
+#[derive(Clone, Copy)]
 pub enum Reading {
     // How many vertices there are.
     Read(usize),
     Refused(Fault),
 }
 
-#[derive(Drop)]
+#[derive(Clone, Copy)]
 pub enum Found {
     // A vertex, where the pen is now.
     Vertex(Pen),

@@ -12,13 +12,13 @@ use crate::{command, pen};
 use refusal::{Fault, Refusal};
 use words::param::ParamInt;
 
-#[derive(Drop)]
+#[derive(Clone, Copy)]
 pub(crate) enum Sized {
     Vertices(usize),
     Bad(Fault),
 }
 
-#[derive(Drop)]
+#[derive(Clone, Copy)]
 pub(crate) enum Ran {
     // Behind the command's last pair.
     Over(Pen),

@@ -12,7 +12,7 @@ use words::command::{Command, CommandInt, CommandRead};
 use words::param::ParamInt;
 
 // The next word, how many pairs of the present command are still to come, its id, and the cursor.
-#[derive(Drop)]
+#[derive(Clone, Copy)]
 pub struct Pen {
     pub at: usize,
     pub left: usize,
@@ -22,7 +22,7 @@ pub struct Pen {
 }
 
 // What a command word says by itself.
-#[derive(Drop)]
+#[derive(Clone, Copy)]
 pub(crate) enum Head {
     Draw(u32, u32),
     Close,

@@ -16,7 +16,7 @@ use encoder::{Drawn, Edges, GeomEncoder, Started};
 use refusal::Refusal;
 
 // The calls go on, or one was refused after so many accepted points.
-#[derive(Drop)]
+#[derive(Clone, Copy)]
 enum Course {
     On(GeomEncoder),
     Off(Refusal, usize),

@@ -14,7 +14,7 @@ use clip::{BBox, Clipped, ClippedSeg, Pt, Seg};
 use words::geometry::Geometry;
 
 // The ends of a clipped segment, and whether each has moved.
-#[derive(Drop)]
+#[derive(Clone, Copy)]
 pub(crate) struct Ends {
     pub moved0: bool,
     pub moved1: bool,

@@ -12,7 +12,7 @@ use words::command::{Command, CommandInt, CommandWord};
 use words::geometry::Geometry;
 
 // A word that may be missing.
-#[derive(Drop)]
+#[derive(Clone, Copy)]
 pub enum MaybeWord {
     NoWord,
     Word(u32),

@@ -19,7 +19,7 @@ use clip::{BBox, Pt};
 use words::geometry::Geometry;
 
 // A state; a point that it has none of is not looked at.
-#[derive(Drop)]
+#[derive(Clone, Copy)]
 pub(crate) struct Draft {
     pub kind: u32,
     pub bbox: BBox,

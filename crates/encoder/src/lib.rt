@@ -37,7 +37,7 @@ pub mod tally;
 pub mod whole_job;
 
 // The state between calls; a carried one may be bad.
-#[derive(Drop)]
+#[derive(Clone, Copy)]
 pub struct GeomEncoder {
     pub tally: Tally, // what became of the points
     pub kind: u32,
@@ -50,20 +50,20 @@ pub struct GeomEncoder {
     pub used: usize,
 }
 
-#[derive(Drop)]
+#[derive(Clone, Copy)]
 pub enum Started {
     Fresh(GeomEncoder),
     Refused(Refusal),
 }
 
 // What became of the ends of the raw segment that a point ends: the first, which is the point before it, and the second.
-#[derive(Drop)]
+#[derive(Clone, Copy)]
 pub struct Edges {
     pub first: Edge,
     pub second: Edge,
 }
 
-#[derive(Drop)]
+#[derive(Clone, Copy)]
 pub enum Drawn {
     Done(GeomEncoder, Edges),
     Refused(Refusal, GeomEncoder),

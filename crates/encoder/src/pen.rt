@@ -16,7 +16,7 @@ use clip::Pt;
 use words::param::ParamInt;
 
 // What an accepted point changes: the last raw point, the emitted one before the last, the last one, the two figures, and the points that are lost.
-#[derive(Drop)]
+#[derive(Clone, Copy)]
 pub(crate) struct Pen {
     pub raw: Pt,
     pub pt0: Pt,

@@ -15,7 +15,7 @@ use crate::points::last_of;
 use clip::Pt;
 
 // The drafts after each of a point's emissions.
-#[derive(Drop)]
+#[derive(Clone, Copy)]
 pub(crate) struct Plan {
     first: Draft,
     second: Draft,

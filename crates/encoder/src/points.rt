@@ -7,7 +7,7 @@ ghost use Rattle.encoder.specs.Points.{in_limit, in_limits, clamp_to, clamped, s
 use clip::{BBox, Pt};
 
 // A point that may be missing.
-#[derive(Drop)]
+#[derive(Clone, Copy)]
 pub enum MaybePt {
     Nowhere,
     At(Pt),

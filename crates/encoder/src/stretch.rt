@@ -20,7 +20,7 @@ use crate::tally::Tally;
 use clip::{BBox, Pt, Seg};
 use words::geometry::Geometry;
 
-#[derive(Drop)]
+#[derive(Clone, Copy)]
 pub struct Stretch {
     pub state: GeomEncoder,
     pub reached: usize, // the first point that is not taken

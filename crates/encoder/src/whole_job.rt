@@ -11,14 +11,14 @@ use crate::{Drawn, GeomEncoder, Started, complete_valid};
 use clip::BBox;
 use refusal::Refusal;
 
-#[derive(Drop)]
+#[derive(Clone, Copy)]
 pub enum Encoded {
     Words(usize),
     Refused(Refusal, usize), // and the count of accepted points
 }
 
 // The calls went on to a state, its counts among it, or one was refused after so many accepted points.
-#[derive(Drop)]
+#[derive(Clone, Copy)]
 pub enum Course {
     On(GeomEncoder),
     Off(Refusal, usize),

@@ -44,7 +44,7 @@ fn box_of(file: &[u32]) -> BBox
 }
 
 // Where a file's points begin.
-#[derive(Drop)]
+#[derive(Clone, Copy)]
 enum Body {
     At(usize),
     Cut,

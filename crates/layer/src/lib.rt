@@ -31,7 +31,7 @@ use refusal::Refusal;
 use table::Text;
 
 // How much of each list is used: keys and values in entries, texts in bytes, features in words.
-#[derive(Drop)]
+#[derive(Clone, Copy)]
 pub struct Figures {
     pub keys: usize,
     pub values: usize,
@@ -40,7 +40,7 @@ pub struct Figures {
 }
 
 // Whether a feature is open, and since which figures.
-#[derive(Drop)]
+#[derive(Clone, Copy)]
 pub enum Open {
     Shut,
     Since(Figures),
@@ -59,7 +59,7 @@ impl Open {
 }
 
 // The name is the first text, and so long. A strict layer takes no key twice in a feature.
-#[derive(Drop)]
+#[derive(Clone, Copy)]
 pub struct Layer {
     pub extent: u32,
     pub strict: bool,
@@ -69,28 +69,28 @@ pub struct Layer {
 }
 
 // What a call answers that changes a layer: the layer after it, or the refusal and the layer as it was given.
-#[derive(Drop)]
+#[derive(Clone, Copy)]
 pub enum Changed {
     Done(Layer),
     Refused(Refusal, Layer),
 }
 
 // What creating a layer answers.
-#[derive(Drop)]
+#[derive(Clone, Copy)]
 pub enum Created {
     Done(Layer),
     Refused(Refusal),
 }
 
 // What a call answers that asks for a number.
-#[derive(Drop)]
+#[derive(Clone, Copy)]
 pub enum Counted {
     Is(usize),
     Refused(Refusal, Layer),
 }
 
 // Where the name stands among the texts.
-#[derive(Drop)]
+#[derive(Clone, Copy)]
 pub enum Named {
     At(Text),
     Refused(Refusal, Layer),

@@ -9,7 +9,7 @@ use crate::whole_feature::{Head, add_known};
 use crate::{Changed, Layer};
 use refusal::Refusal;
 
-#[derive(Drop)]
+#[derive(Clone, Copy)]
 pub enum Added {
     Done(Layer, usize),
     Refused(Refusal, Layer, usize),

@@ -8,7 +8,7 @@ use table::{Text, Value};
 use utf8::is_utf8;
 
 // Where the parts of a tag stand.
-#[derive(Drop)]
+#[derive(Clone, Copy)]
 pub(crate) struct Place {
     pub(crate) key: Text,
     pub(crate) value: Value,

@@ -20,7 +20,7 @@ use refusal::Refusal;
 use words::geometry::Geometry;
 
 // What a feature is besides its lists: its kind, and its id if it has one.
-#[derive(Drop)]
+#[derive(Clone, Copy)]
 pub struct Head {
     pub kind: u32,
     pub has_id: bool,
@@ -44,7 +44,7 @@ impl Head {
 }
 
 // Whether a feature may be put, ROOM apart.
-#[derive(Drop)]
+#[derive(Clone, Copy)]
 pub(crate) enum Asked {
     Fine,
     Barred(Refusal),

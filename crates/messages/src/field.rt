@@ -7,7 +7,7 @@ ghost use Rattle.messages.specs.Asking.{FourOrEight, Short};
 use crate::key::{Follows, Kind, after_key};
 use crate::numbers::{VarintAt, varint_at};
 
-#[derive(Drop)]
+#[derive(Clone, Copy)]
 pub struct FieldAt {
     // 8 × number + wire type.
     pub key: u64,
@@ -18,7 +18,7 @@ pub struct FieldAt {
     pub end: usize,
 }
 
-#[derive(Drop)]
+#[derive(Clone, Copy)]
 pub enum NextField {
     Is(FieldAt),
     Faulty,

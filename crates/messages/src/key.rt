@@ -7,7 +7,7 @@ ghost use Rattle.messages.specs.Keys.{knows as knowsOf, only as onlyOf, content 
 use wire::field::Field;
 
 // MVT's messages.
-#[derive(Drop)]
+#[derive(Clone, Copy)]
 pub enum Kind {
     Tile,
     Layer,
@@ -16,7 +16,7 @@ pub enum Kind {
 }
 
 // What MVT's schema says of a field's number.
-#[derive(Drop)]
+#[derive(Clone, Copy)]
 pub enum Holds {
     Number,
     Four,
@@ -28,7 +28,7 @@ pub enum Holds {
 }
 
 // A body of a length: any bytes, varints to its end, or a message.
-#[derive(Drop)]
+#[derive(Clone, Copy)]
 pub enum Body {
     Any,
     Varints,
@@ -36,7 +36,7 @@ pub enum Body {
 }
 
 // What follows a key: a varint, so many bytes, a length and a body; or nothing can, since the key is wrong.
-#[derive(Drop)]
+#[derive(Clone, Copy)]
 pub enum Follows {
     Wrong,
     AVarint,
@@ -82,7 +82,7 @@ const VALUE_SINT: u64 = 6;
 const VALUE_BOOL: u64 = 7;
 
 // The keys of MVT's fields: 8 × number + wire type. Tags and geometry have two, since their numbers stand packed or one by one.
-#[derive(Drop)]
+#[derive(Clone, Copy)]
 pub struct Key {}
 
 impl Key {

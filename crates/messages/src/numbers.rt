@@ -5,7 +5,7 @@ ghost use Rattle.messages.specs.Fields.{varint_at, numbers_from};
 ghost use Rattle.messages.specs.Tiles.{is_read};
 ghost use Rattle.messages.specs.Asking.{next_of};
 
-#[derive(Drop)]
+#[derive(Clone, Copy)]
 pub enum VarintAt {
     // The number, and where the next byte stands.
     Is(u64, usize),

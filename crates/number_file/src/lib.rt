@@ -8,12 +8,12 @@ ghost use Rattle.number_file.specs.Numbers.{max_bytes, number, numbers_of, numbe
 
 use refusal::Refusal;
 
-#[derive(Drop)]
+#[derive(Clone, Copy)]
 pub struct File {
     pub length: usize,
 }
 
-#[derive(Drop)]
+#[derive(Clone, Copy)]
 pub enum Numbers {
     Read(usize),
     Refused(Refusal),

@@ -14,7 +14,7 @@ use number::long;
 use runs::lay_bytes;
 
 // The texts that a program lends for a piece.
-#[derive(Drop)]
+#[derive(Clone, Copy)]
 pub struct Piece {}
 
 impl Piece {

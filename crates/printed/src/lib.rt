@@ -18,7 +18,7 @@ ghost use Rattle.printed.specs.Tiles.{outcome_line, outcome_lines, hex_digit, he
 use number::{long, magnitude};
 
 // The texts that the programs lend.
-#[derive(Drop)]
+#[derive(Clone, Copy)]
 pub struct Text {}
 
 impl Text {

@@ -16,7 +16,7 @@ use messages::field::{FieldAt, NextField, field_at};
 use messages::key::{Key, Kind};
 use refusal::{Fault, Refusal};
 
-#[derive(Drop)]
+#[derive(Clone, Copy)]
 pub enum NextKey {
     // Where its text stands; the next key is behind it.
     Is(Part),
@@ -25,7 +25,7 @@ pub enum NextKey {
 }
 
 // A value: 1 text, 2 float, 3 double, 4 int, 5 uint, 6 sint, 7 bool, or 0 where it is empty.
-#[derive(Drop)]
+#[derive(Clone, Copy)]
 pub struct ValueAt {
     pub kind: u32,
     // Of a text: where it stands.
@@ -36,7 +36,7 @@ pub struct ValueAt {
     pub end: usize,
 }
 
-#[derive(Drop)]
+#[derive(Clone, Copy)]
 pub enum NextValue {
     Is(ValueAt),
     End,
@@ -44,7 +44,7 @@ pub enum NextValue {
 }
 
 // What a call meets, before it is known whose fault it is that something cannot be read.
-#[derive(Drop)]
+#[derive(Clone, Copy)]
 pub(crate) enum KeyStep {
     Is(Part),
     End,
@@ -54,7 +54,7 @@ pub(crate) enum KeyStep {
     Broken,
 }
 
-#[derive(Drop)]
+#[derive(Clone, Copy)]
 pub(crate) enum ValueStep {
     Is(ValueAt),
     End,

@@ -12,7 +12,7 @@ use messages::field::{FieldAt, NextField, field_at};
 use messages::key::{Key, Kind};
 use refusal::{Fault, Refusal};
 
-#[derive(Drop)]
+#[derive(Clone, Copy)]
 pub struct FeatureHead {
     pub has_id: bool,
     // 0 where it has none.
@@ -25,7 +25,7 @@ pub struct FeatureHead {
     pub end: usize,
 }
 
-#[derive(Drop)]
+#[derive(Clone, Copy)]
 pub enum NextFeature {
     Is(FeatureHead),
     End,
@@ -33,14 +33,14 @@ pub enum NextFeature {
 }
 
 // A feature's message, read or not.
-#[derive(Drop)]
+#[derive(Clone, Copy)]
 pub(crate) enum FeatureRead {
     Is(FeatureHead),
     Broken,
 }
 
 // The next feature, before it is asked whose fault it is that one cannot be read.
-#[derive(Drop)]
+#[derive(Clone, Copy)]
 pub(crate) enum FeatureStep {
     Is(FeatureHead),
     End,

@@ -5,7 +5,7 @@ ghost use Rattle.reader.specs.Finding.{first_of};
 use messages::field::{FieldAt, NextField, field_at};
 use messages::key::Kind;
 
-#[derive(Drop)]
+#[derive(Clone, Copy)]
 pub(crate) enum Found {
     At(FieldAt),
     Nothing,

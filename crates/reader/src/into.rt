@@ -18,7 +18,7 @@ use messages::field::{FieldAt, NextField, field_at};
 use messages::key::{Key, Kind};
 use refusal::{Fault, Refusal};
 
-#[derive(Drop)]
+#[derive(Clone, Copy)]
 pub enum Laid {
     // How many there are, at the front of the list.
     Words(usize),
@@ -26,14 +26,14 @@ pub enum Laid {
 }
 
 // The numbers of a feature that a call lays.
-#[derive(Drop)]
+#[derive(Clone, Copy)]
 pub(crate) enum Which {
     Tags,
     Geometry,
 }
 
 // What a call did, before it is asked whose fault it is that the feature cannot be read.
-#[derive(Drop)]
+#[derive(Clone, Copy)]
 pub(crate) enum WordsStep {
     Words(usize),
     NoRoom,

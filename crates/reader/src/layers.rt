@@ -16,13 +16,13 @@ use messages::key::{Key, Kind};
 use refusal::{Fault, Refusal};
 
 // A part of the caller's bytes.
-#[derive(Drop)]
+#[derive(Clone, Copy)]
 pub struct Part {
     pub start: usize,
     pub len: usize,
 }
 
-#[derive(Drop)]
+#[derive(Clone, Copy)]
 pub struct LayerHead {
     pub name: Part,
     pub version: u32,
@@ -35,7 +35,7 @@ pub struct LayerHead {
     pub end: usize,
 }
 
-#[derive(Drop)]
+#[derive(Clone, Copy)]
 pub enum NextLayer {
     Is(LayerHead),
     End,
@@ -43,7 +43,7 @@ pub enum NextLayer {
 }
 
 // What a call meets, before it is known whose fault it is that something cannot be read.
-#[derive(Drop)]
+#[derive(Clone, Copy)]
 pub(crate) enum LayerStep {
     Is(LayerHead),
     End,

@@ -6,7 +6,7 @@ ghost use Rattle.reader.specs.Packed.{counted, RoomFor, PutsAt, low_of};
 use crate::layers::low32;
 use messages::numbers::{VarintAt, varint_at};
 
-#[derive(Drop)]
+#[derive(Clone, Copy)]
 pub(crate) enum Count {
     Are(usize),
     // What stands there is not varints, exactly to the end.

@@ -9,7 +9,7 @@ use crate::features::{NextFeature, next_feature_at};
 use crate::layers::{NextLayer, next_layer_at};
 use crate::parts::text_at;
 
-#[derive(Drop)]
+#[derive(Clone, Copy)]
 pub struct Reader<'a> {
     pub src: &'a [u8],
     pub at: usize,

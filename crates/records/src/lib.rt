@@ -9,7 +9,7 @@ use table::Found;
 use words::geometry::Geometry;
 
 // A feature record, by its words.
-#[derive(Drop)]
+#[derive(Clone, Copy)]
 pub struct Record;
 
 impl Record {

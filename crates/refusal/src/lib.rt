@@ -5,7 +5,7 @@
 ghost use Rattle.std.specs.Prelude.{◌≡◌};
 ghost use Rattle.refusal.specs.Refusals.{number_of};
 
-#[derive(Drop)]
+#[derive(Clone, Copy)]
 pub enum Refusal {
     Job,
     Kind,
@@ -30,7 +30,7 @@ pub enum Refusal {
 
 // A refusal and where it was met, for the answers that tell a place; it is 0 where there is none. A variant that carries the place would make every
 // answer larger, those that never tell one too.
-#[derive(Drop)]
+#[derive(Clone, Copy)]
 pub struct Fault {
     pub refusal: Refusal,
     pub place: usize,

@@ -5,7 +5,7 @@
 use messages::key::{Body, Kind};
 
 // A byte of a varint that is under way.
-#[derive(Drop)]
+#[derive(Clone, Copy)]
 pub enum Digit {
     // An eleventh byte would come, or a 65th bit.
     Bad,
@@ -15,7 +15,7 @@ pub enum Digit {
     Ends(u64),
 }
 
-#[derive(Drop)]
+#[derive(Clone, Copy)]
 pub enum Phase {
     // Before a key, or at the end.
     Field,
@@ -32,7 +32,7 @@ pub enum Phase {
 }
 
 // What a byte does to a phase.
-#[derive(Drop)]
+#[derive(Clone, Copy)]
 pub enum Next {
     Dead,
     On(Phase),
@@ -40,7 +40,7 @@ pub enum Next {
     Opens(Kind, u64),
 }
 
-#[derive(Drop)]
+#[derive(Clone, Copy)]
 pub enum Where {
     Outside,
     // The bytes left in the innermost message.
@@ -49,7 +49,7 @@ pub enum Where {
     Two(Kind, u64, Kind, u64),
 }
 
-#[derive(Drop)]
+#[derive(Clone, Copy)]
 pub enum State {
     Lost,
     At(Where, Phase),

@@ -12,14 +12,14 @@ use crate::values::read_value;
 use number::wide;
 
 // A part of the script: a text starts at a word and has so many bytes, a run of words has so many words.
-#[derive(Drop)]
+#[derive(Clone, Copy)]
 pub struct Part {
     pub start: usize,
     pub len: usize,
 }
 
 // A value to tag with; its kind's number is that of a layer's values. A float and a double are given by their bits.
-#[derive(Drop)]
+#[derive(Clone, Copy)]
 pub enum Value {
     Text(Part),
     Float(u32),
@@ -31,7 +31,7 @@ pub enum Value {
 }
 
 // One operation. Creating says whether the layer is strict.
-#[derive(Drop)]
+#[derive(Clone, Copy)]
 pub enum Op {
     Create(u32, Part, bool),
     Open(u32, Part),
@@ -62,7 +62,7 @@ impl Op {
 }
 
 // An operation and where the next one begins, or nothing that can be read.
-#[derive(Drop)]
+#[derive(Clone, Copy)]
 pub enum Next {
     Is(Op, usize),
     Bad,

@@ -6,7 +6,7 @@ use crate::Part;
 use number::wide;
 
 // A text and where the number behind it stands.
-#[derive(Drop)]
+#[derive(Clone, Copy)]
 pub(crate) enum Taken {
     Is(Part, usize),
     Bad,

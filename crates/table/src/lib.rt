@@ -12,7 +12,7 @@ use number::wide;
 use runs::has_room;
 
 // Where a text stands in the list of texts.
-#[derive(Drop)]
+#[derive(Clone, Copy)]
 pub struct Text {
     pub start: usize,
     pub len: usize,
@@ -30,7 +30,7 @@ impl Text {
 }
 
 // The three words of a value. Where the kind is 1 the text stands beside it, and the other two words are found when it is stored.
-#[derive(Drop)]
+#[derive(Clone, Copy)]
 pub struct Value {
     pub kind: u32,
     pub low: u32,
@@ -55,7 +55,7 @@ impl Value {
 }
 
 // The index of an entry.
-#[derive(Drop)]
+#[derive(Clone, Copy)]
 pub enum Found {
     At(usize),
     Nothing,

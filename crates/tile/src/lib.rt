@@ -31,7 +31,7 @@ use wire::field::Field;
 use wire::head::varint_field_size;
 
 // How much of the lent bytes is used, and how many layers the lent names have, two words each.
-#[derive(Drop)]
+#[derive(Clone, Copy)]
 pub struct Tile {
     pub extent: u32,
     pub used: usize,
@@ -39,14 +39,14 @@ pub struct Tile {
 }
 
 // What adding a layer answers: the tile after it, or the refusal and the tile as it was given.
-#[derive(Drop)]
+#[derive(Clone, Copy)]
 pub enum Added {
     Done(Tile),
     Refused(Refusal, Tile),
 }
 
 // What a call answers that asks for a number.
-#[derive(Drop)]
+#[derive(Clone, Copy)]
 pub enum Counted {
     Is(usize),
     Refused(Refusal, Tile),

@@ -12,7 +12,7 @@ use scanning::place::place_of;
 
 mod messages_in; // message by message, each to its end
 
-#[derive(Drop)]
+#[derive(Clone, Copy)]
 pub enum Checked {
     // A good tile, of so many layers.
     Good(usize),

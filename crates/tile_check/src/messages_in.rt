@@ -8,7 +8,7 @@ use messages::field::{NextField, field_at};
 use messages::key::{Key, Kind};
 use messages::numbers::are_varints;
 
-#[derive(Drop)]
+#[derive(Clone, Copy)]
 pub(crate) enum Layers {
     // A good tile, of so many layers.
     Are(usize),

@@ -11,14 +11,14 @@ use layer::{Changed, Created, Layer};
 use refusal::Refusal;
 use script::Value;
 
-#[derive(Drop)]
+#[derive(Clone, Copy)]
 pub enum Hand {
     Nothing,
     Holds(Layer),
 }
 
 // What is at hand after an operation, or the refusal and what was at hand.
-#[derive(Drop)]
+#[derive(Clone, Copy)]
 pub(crate) enum Handled {
     Done(Hand),
     Refused(Refusal, Hand),

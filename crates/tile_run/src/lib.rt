@@ -16,14 +16,14 @@ use script::Next;
 use tile::Tile;
 
 // An outcome, what there is after it and where the next operation begins; or nothing that can be read.
-#[derive(Drop)]
+#[derive(Clone, Copy)]
 pub enum Step {
     Is(u32, Work, usize),
     Bad,
 }
 
 // How many outcomes there are, and how many bytes the tile has.
-#[derive(Drop)]
+#[derive(Clone, Copy)]
 pub enum Ran {
     Done(usize, usize),
     Refused(Refusal),

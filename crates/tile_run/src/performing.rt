@@ -16,14 +16,14 @@ use script::{Next, Op};
 use tile::{Added, Tile};
 
 // A tile, and what is at hand.
-#[derive(Drop)]
+#[derive(Clone, Copy)]
 pub struct Work {
     pub tile: Tile,
     pub hand: Hand,
 }
 
 // What an operation leaves, or the refusal and what it was given.
-#[derive(Drop)]
+#[derive(Clone, Copy)]
 pub(crate) enum Performed {
     Done(Work),
     Refused(Refusal, Work),

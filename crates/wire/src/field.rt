@@ -2,7 +2,7 @@
 ghost use Rattle.std.specs.Prelude.{◌≡◌};
 ghost use Rattle.wire.specs.Schema.{kind_number, kind_type, number_of, type_of, key_of};
 
-#[derive(Drop)]
+#[derive(Clone, Copy)]
 pub enum ValueKind {
     Text,
     Float,
@@ -13,7 +13,7 @@ pub enum ValueKind {
     Bool,
 }
 
-#[derive(Drop)]
+#[derive(Clone, Copy)]
 pub enum Field {
     TileLayer,
     LayerName,

@@ -4,26 +4,26 @@ ghost use Rattle.words.specs.Commands.{id_of, max_count, said_word, encoded, sai
 
 use refusal::Refusal;
 
-#[derive(Drop)]
+#[derive(Clone, Copy)]
 pub enum Command {
     MoveTo,
     LineTo,
     ClosePath,
 }
 
-#[derive(Drop)]
+#[derive(Clone, Copy)]
 pub struct CommandInt {
     pub id: Command,
     pub count: u32,
 }
 
-#[derive(Drop)]
+#[derive(Clone, Copy)]
 pub enum CommandWord {
     Word(u32),
     Refused(Refusal),
 }
 
-#[derive(Drop)]
+#[derive(Clone, Copy)]
 pub enum CommandRead {
     Read(CommandInt),
     Refused(Refusal),

@@ -4,7 +4,7 @@ ghost use Rattle.words.specs.Geometries.{is_kind, max_words, room};
 
 use number::smaller;
 
-#[derive(Drop)]
+#[derive(Clone, Copy)]
 pub struct Geometry {
     pub kind: u32,
 }

@@ -2,7 +2,7 @@
 ghost use Rattle.std.specs.Prelude.{◌≡◌};
 ghost use Rattle.words.specs.Params.{param, unparam};
 
-#[derive(Drop)]
+#[derive(Clone, Copy)]
 pub struct ParamInt {
     pub value: i32,
 }
