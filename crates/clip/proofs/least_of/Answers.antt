@@ -1,0 +1,16 @@
+-- `clip::least_of` meets its contract: the branch taken is the definition's.
+use Rattle.whole.proofs.Machine.{back}
+use Rattle.clip.proofs.Tests.{least_first, least_second}
+use Rattle.clip.proofs.least_of.Goals as goal
+use Rattle.clip.proofs.least_of.Reads as reads
+use Rattle.clip.proofs.least_of.Lts as lts
+
+-- the places on the way that the lemmas below speak of
+abbrev Start : Type 0
+Start = lts.Start reads.Pre reads.Post
+
+pub returns-then-m-n : goal.returns-then-m-n
+returns-then-m-n c = let s : Start = c.before in least_first (back s.ranges.m) (back s.ranges.n) c.if-m-n.true
+
+pub returns-else-m-n : goal.returns-else-m-n
+returns-else-m-n c = let s : Start = c.before in least_second (back s.ranges.m) (back s.ranges.n) c.if-m-n.false

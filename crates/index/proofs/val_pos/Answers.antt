@@ -1,0 +1,23 @@
+-- No slots, no entry; else the walk starts at the head of the bucket.
+use Prim.Native.Nat.{◌/◌}
+use lib.ListN.{length}
+use Rattle.index.specs.Entries.{value_at}
+use Rattle.index.proofs.Walking.{walked_nowhere, in_slots, ahead_values, walked_is}
+use borrow.Author.Rules.{rules}
+use Rattle.index.proofs.val_pos.Goals as goal
+
+pub returns-then-slots-eq0 : goal.returns-then-slots-eq0
+returns-then-slots-eq0 c = search (rules, walked_nowhere)
+
+pub offset_bounds-index-hash : goal.offset_bounds-index-hash
+offset_bounds-index-hash c = search (rules, in_slots)
+
+pub bounds-index-hash : goal.bounds-index-hash
+bounds-index-hash c = search (rules, in_slots)
+
+pub walk_values-requires : goal.walk_values-requires
+walk_values-requires c = search (rules, ahead_values)
+
+pub returns : goal.returns
+returns c = let g = c.args in
+    walked_is g.index.now (value_at g.values.now g.texts.now g.v g.text.now) (length g.values.now / 3) g.hash _ c.smaller-limit.ensures _ c.wide-head.ensures _ c.walk_values.ensures _ c.found.ensures
