@@ -1,4 +1,5 @@
 // A whole job with its edges, from C: as a whole job, and in a second lent list two numbers for each raw point, what became of the ends of its segment.
+ghost use Rattle.promise.specs.Lent.{mutable};
 ghost use Rattle.edge_job.specs.EdgeJobs.{Writes};
 ghost use Rattle.brinepost.specs.Works.{edge_job_from};
 
@@ -18,7 +19,7 @@ pub extern "C" fn bp_encode_job_edges(
     words: &mut [u32],
     edges: &mut [u32],
 ) -> BpJob
-    ensures { Writes (edge_job_from kind left right bottom top points.now ends.now) result words edges }
+    ensures { Writes (edge_job_from kind left right bottom top points.now ends.now) result (mutable words) (mutable edges) }
 {
     let bbox = BBox {
         x_min: left,

@@ -1,5 +1,6 @@
 // The calls that change a layer, from C: the layer goes in and comes back by value, its keys, values, texts and feature records stand in four lent lists.
 ghost use Rattle.std.specs.Prelude.{◌%◌, ◌/◌};
+ghost use Rattle.promise.specs.Lent.{mutable};
 ghost use Rattle.promise.specs.Answers.{Gives};
 ghost use Rattle.layer.specs.Calls.{created, created_strict, into_feature, set_id, into_layer, abandoned};
 ghost use Rattle.telling.specs.Telling.{told};
@@ -40,7 +41,7 @@ pub extern "C" fn bp_into_feature(
     texts: &[u8],
     features: &mut [u32],
 ) -> BpChanged
-    ensures { Called (into_feature kind words.now) given result keys values texts features }
+    ensures { Called (into_feature kind words.now) given result keys values texts (mutable features) }
 {
     let s = layer_of(given);
     let r = layer::feature::into_feature(s, kind, words, keys, values, texts, features);
@@ -57,7 +58,7 @@ pub extern "C" fn bp_set_id(
     texts: &[u8],
     features: &mut [u32],
 ) -> BpChanged
-    ensures { Called (set_id (id % 4294967296) (id / 4294967296)) given result keys values texts features }
+    ensures { Called (set_id (id % 4294967296) (id / 4294967296)) given result keys values texts (mutable features) }
 {
     let s = layer_of(given);
     let r = layer::feature::set_id(s, id, keys, values, texts, features);
@@ -112,7 +113,7 @@ pub extern "C" fn bp_add_feature(
     texts: &mut [u8],
     features: &mut [u32],
 ) -> BpChanged
-    ensures { Called (whole_feature kind has_id id words tags bytes) given result keys values texts features }
+    ensures { Called (whole_feature kind has_id id words tags bytes) given result (mutable keys) (mutable values) (mutable texts) (mutable features) }
 {
     let s = layer_of(given);
     let head = Head {
@@ -142,7 +143,7 @@ pub extern "C" fn bp_add_features(
     ki: &mut [u32],
     vi: &mut [u32],
 ) -> BpMany
-    ensures { CalledMany given result heads words tags bytes keys values texts features ki vi }
+    ensures { CalledMany given result heads words tags bytes (mutable keys) (mutable values) (mutable texts) (mutable features) (mutable ki) (mutable vi) }
 {
     let s = layer_of(given);
     let r = layer::many::add_features(

@@ -1,5 +1,6 @@
 // A tag of the open feature, from C: a call for each kind of value. Floats and doubles are given by their bits. Each refuses STATE, TEXT, UTF8, TURN,
 // AGAIN (of a strict layer) and ROOM.
+ghost use Rattle.promise.specs.Lent.{mutable};
 ghost use Rattle.table.specs.Values.{float_kind, double_kind, int_kind, uint_kind, sint_kind, bool_kind};
 ghost use Rattle.layer.specs.Calls.{add_tag, tag_string, tag_bits, bits_of, bit_of};
 ghost use Rattle.brinepost_tiles.specs.Calls.{is_true};
@@ -19,7 +20,7 @@ pub extern "C" fn bp_add_tag_string(
     texts: &mut [u8],
     features: &mut [u32],
 ) -> BpChanged
-    ensures { Called (add_tag (tag_string key.now val.now)) given result keys values texts features }
+    ensures { Called (add_tag (tag_string key.now val.now)) given result (mutable keys) (mutable values) (mutable texts) (mutable features) }
 {
     let s = layer_of(given);
     let r = layer::tags::add_tag_string(s, key, val, keys, values, texts, features);
@@ -37,7 +38,7 @@ pub extern "C" fn bp_add_tag_float(
     texts: &mut [u8],
     features: &mut [u32],
 ) -> BpChanged
-    ensures { Called (add_tag (tag_bits float_kind key.now bits)) given result keys values texts features }
+    ensures { Called (add_tag (tag_bits float_kind key.now bits)) given result (mutable keys) (mutable values) (mutable texts) (mutable features) }
 {
     let s = layer_of(given);
     let r = layer::tags::add_tag_float(s, key, bits, keys, values, texts, features);
@@ -55,7 +56,7 @@ pub extern "C" fn bp_add_tag_double(
     texts: &mut [u8],
     features: &mut [u32],
 ) -> BpChanged
-    ensures { Called (add_tag (tag_bits double_kind key.now bits)) given result keys values texts features }
+    ensures { Called (add_tag (tag_bits double_kind key.now bits)) given result (mutable keys) (mutable values) (mutable texts) (mutable features) }
 {
     let s = layer_of(given);
     let r = layer::tags::add_tag_double(s, key, bits, keys, values, texts, features);
@@ -73,7 +74,7 @@ pub extern "C" fn bp_add_tag_int(
     texts: &mut [u8],
     features: &mut [u32],
 ) -> BpChanged
-    ensures { Called (add_tag (tag_bits int_kind key.now (bits_of val))) given result keys values texts features }
+    ensures { Called (add_tag (tag_bits int_kind key.now (bits_of val))) given result (mutable keys) (mutable values) (mutable texts) (mutable features) }
 {
     let s = layer_of(given);
     let r = layer::tags::add_tag_int(s, key, val, keys, values, texts, features);
@@ -91,7 +92,7 @@ pub extern "C" fn bp_add_tag_uint(
     texts: &mut [u8],
     features: &mut [u32],
 ) -> BpChanged
-    ensures { Called (add_tag (tag_bits uint_kind key.now val)) given result keys values texts features }
+    ensures { Called (add_tag (tag_bits uint_kind key.now val)) given result (mutable keys) (mutable values) (mutable texts) (mutable features) }
 {
     let s = layer_of(given);
     let r = layer::tags::add_tag_uint(s, key, val, keys, values, texts, features);
@@ -109,7 +110,7 @@ pub extern "C" fn bp_add_tag_sint(
     texts: &mut [u8],
     features: &mut [u32],
 ) -> BpChanged
-    ensures { Called (add_tag (tag_bits sint_kind key.now (bits_of val))) given result keys values texts features }
+    ensures { Called (add_tag (tag_bits sint_kind key.now (bits_of val))) given result (mutable keys) (mutable values) (mutable texts) (mutable features) }
 {
     let s = layer_of(given);
     let r = layer::tags::add_tag_sint(s, key, val, keys, values, texts, features);
@@ -127,7 +128,7 @@ pub extern "C" fn bp_add_tag_bool(
     texts: &mut [u8],
     features: &mut [u32],
 ) -> BpChanged
-    ensures { Called (add_tag (tag_bits bool_kind key.now (bit_of (is_true val)))) given result keys values texts features }
+    ensures { Called (add_tag (tag_bits bool_kind key.now (bit_of (is_true val)))) given result (mutable keys) (mutable values) (mutable texts) (mutable features) }
 {
     let s = layer_of(given);
     let r = layer::tags::add_tag_bool(s, key, val != 0, keys, values, texts, features);

@@ -1,5 +1,6 @@
 // The calls on a tile, from C: the tile goes in and comes back by value, its layers' names and its bytes stand in two lent lists.
 ghost use Rattle.std.specs.Prelude.{◌≡◌};
+ghost use Rattle.promise.specs.Lent.{mutable};
 ghost use Rattle.promise.specs.Answers.{Gives};
 ghost use Rattle.layer.specs.Lending.{entered};
 ghost use Rattle.layer.specs.Calls.{created, created_strict};
@@ -55,7 +56,7 @@ pub extern "C" fn bp_add_layer(
     names: &mut [u32],
     bytes: &mut [u8],
 ) -> BpAdded
-    ensures { Gives (added_from tile given (entered keys values texts features) (tile_entered names bytes)) result (tile_left names bytes) }
+    ensures { Gives (added_from tile given (entered keys values texts features) (tile_entered (mutable names) (mutable bytes))) result (tile_left (mutable names) (mutable bytes)) }
 {
     let t = tile_of(tile);
     let s = layer_of(given);

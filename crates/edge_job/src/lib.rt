@@ -3,6 +3,7 @@
 #![tactic(auto)]
 
 ghost use Rattle.std.specs.Prelude.{◌≡◌, true, ◌+◌, ◌*◌, ◌/◌, ◌≤◌, length};
+ghost use Rattle.promise.specs.Lent.{mutable};
 ghost use Rattle.promise.specs.Laid.{lay};
 ghost use Rattle.encoder.specs.Adding.{point_at};
 ghost use Rattle.encoder.specs.Answers.{said_drawn};
@@ -57,7 +58,7 @@ fn add_point(
     words: &mut [u32],
     edges: &mut [u32],
 ) -> Drawn
-    ensures { Writes (edged s (point_at x y) i) (said_drawn result) words edges }
+    ensures { Writes (edged s (point_at x y) i) (said_drawn result) (mutable words) (mutable edges) }
 {
     if edges.len() / 2 <= i {
         return Drawn::Refused(refuse(s, Pt { x: x, y: y }, words.len()), s);
@@ -82,7 +83,7 @@ fn add_part(
 ) -> Course
     requires from_le_to { from ≤ to }
     requires to_in_bounds { to ≤ length points.now / 2 }
-    ensures { Writes (go (part_calls (part (points_of points.now) from to)) from s) (outcome_of to result) words edges }
+    ensures { Writes (go (part_calls (part (points_of points.now) from to)) from s) (outcome_of to result) (mutable words) (mutable edges) }
 {
     let mut q = s;
     let mut i = from;
@@ -110,7 +111,7 @@ fn add_parts(
     edges: &mut [u32],
 ) -> Course
     requires { ends_at 0 ends.now (length points.now / 2) ≡ true }
-    ensures { Writes (go_all points.now ends.now s) (end_of points.now result) words edges }
+    ensures { Writes (go_all points.now ends.now s) (end_of points.now result) (mutable words) (mutable edges) }
 {
     let mut q = s;
     let mut from = 0;
@@ -136,7 +137,7 @@ pub fn encode(
     words: &mut [u32],
     edges: &mut [u32],
 ) -> Encoded
-    ensures { Writes (edge_job kind bbox points.now ends.now) (said_encoded result) words edges }
+    ensures { Writes (edge_job kind bbox points.now ends.now) (said_encoded result) (mutable words) (mutable edges) }
 {
     if !encoder::whole_job::is_job(points, ends) {
         return Encoded::Refused(Refusal::Job, 0);

@@ -2,6 +2,7 @@
 #![tactic(auto)]
 
 ghost use Rattle.std.specs.Prelude.{◌*◌, ◌+◌, ◌≤◌, length};
+ghost use Rattle.promise.specs.Lent.{mutable};
 ghost use Rattle.printed.specs.Lending.{Tells};
 ghost use Rattle.edges.specs.Program.{printed};
 
@@ -21,7 +22,7 @@ fn answer(
     requires numbers_in_bounds { length numbers.old ≤ length edges.old }
     requires in_bounds { 53 ≤ length text.old }
     requires edges_in_bounds { 27 + 21 * length edges.old ≤ length text.old }
-    ensures { Tells (printed file.now numbers.old words.old edges.old) result text }
+    ensures { Tells (printed file.now numbers.old words.old edges.old) result (mutable text) }
 {
     match number_file::read_numbers(file, numbers) {
         Numbers::Refused(r) => printed::show_refused(refusal::number(r), 0, text),

@@ -2,6 +2,7 @@
 #![tactic(auto)]
 
 ghost use Rattle.std.specs.Prelude.{◌≡◌, map, ◌≤◌, length};
+ghost use Rattle.promise.specs.Lent.{mutable};
 ghost use Rattle.promise.specs.Answers.{Gives};
 ghost use Rattle.promise.specs.Laid.{lay};
 ghost use Rattle.whole.specs.Twos.{signed32};
@@ -115,7 +116,7 @@ fn encode_body_edges(
     requires le_body { 6 ≤ body }
     requires body_in_bounds { body ≤ length file.now }
     requires file_in_bounds { length file.now ≤ length points.old }
-    ensures { Writes (body_edges file.now body) (said_encoded result) words edges }
+    ensures { Writes (body_edges file.now body) (said_encoded result) (mutable words) (mutable edges) }
 {
     let n = file.len() - body;
     lay_signed(&file[body..], points);
@@ -131,7 +132,7 @@ fn encode_body_edges(
 
 // As `encode_file`, with the edges of each raw point.
 pub fn encode_file_edges(file: &[u32], words: &mut [u32], edges: &mut [u32]) -> Encoded
-    ensures { Writes (job_file_edges file.now) (said_encoded result) words edges }
+    ensures { Writes (job_file_edges file.now) (said_encoded result) (mutable words) (mutable edges) }
 {
     match body_of(file) {
         Body::Cut => Encoded::Refused(Refusal::Job, 0),

@@ -1,6 +1,5 @@
 -- What a call promises of the four lists lent to it, said once for every call.
 use Rattle.std.specs.Prelude.{◌≡◌, Bool, cond, List, length, ℕ}
-use Rattle.std.specs.Borrow.{Bor}
 use Rattle.promise.specs.Answers.{Written, Gives}
 use Rattle.promise.specs.Lent.{Lent}
 use Rattle.refusal.specs.Said.{Said}
@@ -27,8 +26,8 @@ abbrev pub left : Lent → Lent → Lent → Lent → Memory
 left k v t f = mem k.exit.now v.exit.now t.exit.now f.exit.now
 
 -- the same of lists lent to a step, in what it requires
-abbrev pub lists : Bor (List ℕ) → Bor (List ℕ) → Bor (List ℕ) → Bor (List ℕ) → Memory
-lists k v t f = mem k.now v.now t.now f.now
+abbrev pub lists : List ℕ → List ℕ → List ℕ → List ℕ → Memory
+lists k v t f = mem k v t f
 
 -- what a call sees at entry
 abbrev pub sees : Layer → Lent → Lent → Lent → Lent → Seen
@@ -42,8 +41,8 @@ Does call s r k v t f = Gives (written (call (sees s k v t f)) s (entered k v t 
 abbrev pub given : Lent → Value → Lent → Tag
 given key v text = record { key = key.entry.now; value = v; text = text.entry.now }
 
-abbrev pub lent : Bor (List ℕ) → Value → Bor (List ℕ) → Tag
-lent key v text = record { key = key.now; value = v; text = text.now }
+abbrev pub lent : List ℕ → Value → List ℕ → Tag
+lent key v text = record { key = key; value = v; text = text }
 
 -- an entry and its text are laid where they were not found, and nothing else
 abbrev pub Lays : Found → List ℕ → List ℕ → ℕ → ℕ → Lent → Lent → Type 0

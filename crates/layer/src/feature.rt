@@ -1,5 +1,6 @@
 // The open feature of a layer: opening it, its id, completing and abandoning it. TURN stands for the Rust's ownership.
 ghost use Rattle.std.specs.Prelude.{◌≡◌, true, ◌+◌, ◌%◌, ◌/◌, ◌≤◌, length};
+ghost use Rattle.promise.specs.Lent.{mutable};
 ghost use Rattle.promise.specs.Laid.{lay};
 ghost use Rattle.words.specs.Geometries.{max_words};
 ghost use Rattle.layer.specs.Held.{room_of, fits};
@@ -43,7 +44,7 @@ fn put_record(
     features: &mut [u32],
 ) -> Changed
     requires { fits s.used (room_of (length keys.now) (length values.now) (length texts.now) (length features.old)) ≡ true }
-    ensures { Does (opened kind words.now) s result keys values texts features }
+    ensures { Does (opened kind words.now) s result keys values texts (mutable features) }
 {
     let n = words.len();
     if Geometry::MAX_WORDS < n {
@@ -79,7 +80,7 @@ pub fn into_feature(
     texts: &[u8],
     features: &mut [u32],
 ) -> Changed
-    ensures { Does (into_feature kind words.now) s result keys values texts features }
+    ensures { Does (into_feature kind words.now) s result keys values texts (mutable features) }
 {
     let geometry = Geometry { kind: kind };
     if !geometry.is_good() {
@@ -104,7 +105,7 @@ pub fn set_id(
     texts: &[u8],
     features: &mut [u32],
 ) -> Changed
-    ensures { Does (set_id (id % 4294967296) (id / 4294967296)) s result keys values texts features }
+    ensures { Does (set_id (id % 4294967296) (id / 4294967296)) s result keys values texts (mutable features) }
 {
     if !is_valid(s, keys, values, texts, &features[..]) {
         return Changed::Refused(Refusal::State, s);

@@ -1,4 +1,5 @@
 // A tag of a list put, looked up by the indexes that serve. Nothing is asked here: it is a tag, short, and has room.
+ghost use Rattle.promise.specs.Lent.{mutable};
 ghost use Rattle.layer.specs.Calls.{tag_put};
 ghost use Rattle.layer.specs.TagLists.{tag_at};
 ghost use Rattle.layer.specs.Lookup.{idx};
@@ -25,8 +26,8 @@ pub(crate) fn put_tag_at(
     vi: &mut [u32],
 ) -> Layer
     requires tag_there { TagThere bytes.now tags.now i }
-    requires may_tag { MayTag s o (tag_at bytes.now tags.now i) (lists keys values texts features) (idx ki.old vi.old) }
-    ensures { Fills (tag_put o (tag_at bytes.now tags.now i)) s result keys values texts features ki vi }
+    requires may_tag { MayTag s o (tag_at bytes.now tags.now i) (lists keys.old values.old texts.old features.old) (idx ki.old vi.old) }
+    ensures { Fills (tag_put o (tag_at bytes.now tags.now i)) s result (mutable keys) (mutable values) (mutable texts) (mutable features) (mutable ki) (mutable vi) }
 {
     let p = place_at(tags, i);
     let v = p.value;

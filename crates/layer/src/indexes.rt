@@ -1,4 +1,5 @@
 // The indexes of what a layer holds, built where they serve.
+ghost use Rattle.promise.specs.Lent.{mutable};
 ghost use Rattle.index.specs.Entries.{built_keys, built_values};
 ghost use Rattle.layer.specs.WholeSteps.{UsedIn};
 ghost use Rattle.layer.specs.Lending.{Builds, BuildsBoth};
@@ -6,7 +7,7 @@ ghost use Rattle.layer.specs.Lending.{Builds, BuildsBoth};
 use crate::Figures;
 
 fn index_keys(room: usize, keys: &[u32], texts: &[u8], list: &mut [u32])
-    ensures { Builds built_keys room keys texts list }
+    ensures { Builds built_keys room keys texts (mutable list) }
 {
     if !index::serves(list.len(), room) {
         return;
@@ -15,7 +16,7 @@ fn index_keys(room: usize, keys: &[u32], texts: &[u8], list: &mut [u32])
 }
 
 fn index_values(room: usize, values: &[u32], texts: &[u8], list: &mut [u32])
-    ensures { Builds built_values room values texts list }
+    ensures { Builds built_values room values texts (mutable list) }
 {
     if !index::serves(list.len(), room) {
         return;
@@ -35,7 +36,7 @@ pub(crate) fn build_index(
     vi: &mut [u32],
 )
     requires { UsedIn u keys.now values.now texts.now }
-    ensures { BuildsBoth u built room keys values texts ki vi }
+    ensures { BuildsBoth u built room keys values texts (mutable ki) (mutable vi) }
 {
     if built {
         return;

@@ -1,5 +1,6 @@
 // Many whole features in one call. STATE is checked once for all of them, since an accepted feature keeps it, so the layer is read once and not once a feature.
 ghost use Rattle.std.specs.Prelude.{◌≡◌, ◌+◌, ◌≤◌, length};
+ghost use Rattle.promise.specs.Lent.{mutable};
 ghost use Rattle.layer.specs.Many.{head_at, heads_ok, add_indexed};
 ghost use Rattle.layer.specs.WholeSteps.{all_read};
 ghost use Rattle.layer.specs.Lending.{Adds};
@@ -76,7 +77,7 @@ pub fn add_features(
     ki: &mut [u32],
     vi: &mut [u32],
 ) -> Added
-    ensures { Adds add_indexed s result heads words tags bytes keys values texts features ki vi }
+    ensures { Adds add_indexed s result heads words tags bytes (mutable keys) (mutable values) (mutable texts) (mutable features) (mutable ki) (mutable vi) }
 {
     if !is_head_list(heads, words.len(), tags.len()) {
         return Added::Refused(Refusal::Job, s, 0);

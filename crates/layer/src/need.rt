@@ -230,7 +230,7 @@ pub(crate) fn has_room(
     key_index: &[u32],
     value_index: &[u32],
 ) -> bool
-    requires { Asking s words tags.now bytes.now (lists keys values texts features) (idx key_index.now value_index.now) }
+    requires { Asking s words tags.now bytes.now (lists keys.now values.now texts.now features.now) (idx key_index.now value_index.now) }
     ensures { Decides result words (tags_of bytes.now tags.now) (sees s keys values texts features) }
 {
     let room = Layer::room(keys.len(), values.len(), texts.len(), features.len());

@@ -1,5 +1,6 @@
 // The steps of a tag that was looked up: the figures after it, and then the key, the value and the two words of the tag.
 ghost use Rattle.std.specs.Prelude.{◌≡◌, ◌≤◌, length};
+ghost use Rattle.promise.specs.Lent.{mutable};
 ghost use Rattle.table.specs.Texts.{max_bytes};
 ghost use Rattle.layer.specs.Held.{max_texts};
 ghost use Rattle.layer.specs.Calls.{grown_by, key_words, stored_as, value_words};
@@ -36,7 +37,7 @@ pub(crate) fn grown(u: Figures, kf: Found, vf: Found, key: usize, text: usize) -
 // A key that was not found goes last, and so does its text.
 fn put_key(f: Found, key: &[u8], at: usize, start: usize, keys: &mut [u32], texts: &mut [u8])
     requires { EntryRoom f 2 (length key.now) at start (length keys.old) (length texts.old) }
-    ensures { Lays f (key_words start key.now) key.now at start keys texts }
+    ensures { Lays f (key_words start key.now) key.now at start (mutable keys) (mutable texts) }
 {
     match f {
         Found::At(_) => {}
@@ -74,7 +75,7 @@ fn put_value(
     texts: &mut [u8],
 )
     requires { EntryRoom f 3 (length text.now) at start (length values.old) (length texts.old) }
-    ensures { Lays f (value_words start v text.now) text.now at start values texts }
+    ensures { Lays f (value_words start v text.now) text.now at start (mutable values) (mutable texts) }
 {
     match f {
         Found::At(_) => {}
@@ -112,8 +113,8 @@ pub(crate) fn put_tag(
     texts: &mut [u8],
     features: &mut [u32],
 )
-    requires { TagRoom u o kf vf (length key.now) (length text.now) (lists keys values texts features) }
-    ensures { left keys values texts features ≡ laid_tag u o kf vf (given key v text) (entered keys values texts features) }
+    requires { TagRoom u o kf vf (length key.now) (length text.now) (lists keys.old values.old texts.old features.old) }
+    ensures { left (mutable keys) (mutable values) (mutable texts) (mutable features) ≡ laid_tag u o kf vf (given key v text) (entered (mutable keys) (mutable values) (mutable texts) (mutable features)) }
 {
     let k = u.keys * 2;
     let e = u.values * 3;

@@ -2,6 +2,7 @@
 // given by their bits, since values are equal by bits. Each call costs its STATE check, which reads the used part of every list once, and a scan of the
 // keys and of the values.
 ghost use Rattle.std.specs.Prelude.{true, length};
+ghost use Rattle.promise.specs.Lent.{mutable};
 ghost use Rattle.refusal.specs.declared.Refusal.TheVariants.{Again};
 ghost use Rattle.table.specs.Values.{float_kind, double_kind, int_kind, uint_kind, sint_kind, bool_kind};
 ghost use Rattle.layer.specs.Calls.{tagged, takes_key, add_tag, bits_of, bit_of, tag_string, tag_bits};
@@ -31,8 +32,8 @@ fn tag_open(
     texts: &mut [u8],
     features: &mut [u32],
 ) -> Changed
-    requires { Ready s o (length key.now) (length text.now) (lists keys values texts features) }
-    ensures { Does (λ w. tagged (given key v text) w o) s result keys values texts features }
+    requires { Ready s o (length key.now) (length text.now) (lists keys.old values.old texts.old features.old) }
+    ensures { Does (λ w. tagged (given key v text) w o) s result (mutable keys) (mutable values) (mutable texts) (mutable features) }
 {
     let u = s.used;
     let k = u.keys * 2;
@@ -68,8 +69,8 @@ fn tag_strict(
     texts: &mut [u8],
     features: &mut [u32],
 ) -> Changed
-    requires { Ready s o (length key.now) (length text.now) (lists keys values texts features) }
-    ensures { Does (λ w. check (takes_key true w.held o.features key.now) Again (tagged (given key v text) w o)) s result keys values texts features }
+    requires { Ready s o (length key.now) (length text.now) (lists keys.old values.old texts.old features.old) }
+    ensures { Does (λ w. check (takes_key true w.held o.features key.now) Again (tagged (given key v text) w o)) s result (mutable keys) (mutable values) (mutable texts) (mutable features) }
 {
     let u = s.used;
     if !is_new(u, o, key, &keys[..], &texts[..], &features[..]) {
@@ -89,7 +90,7 @@ fn add_tag(
     texts: &mut [u8],
     features: &mut [u32],
 ) -> Changed
-    ensures { Does (add_tag (given key v text)) s result keys values texts features }
+    ensures { Does (add_tag (given key v text)) s result (mutable keys) (mutable values) (mutable texts) (mutable features) }
 {
     if !is_valid(s, &keys[..], &values[..], &texts[..], &features[..]) {
         return Changed::Refused(Refusal::State, s);
@@ -127,7 +128,7 @@ fn add_bits(
     texts: &mut [u8],
     features: &mut [u32],
 ) -> Changed
-    ensures { Does (add_tag (tag_bits kind key.now bits)) s result keys values texts features }
+    ensures { Does (add_tag (tag_bits kind key.now bits)) s result (mutable keys) (mutable values) (mutable texts) (mutable features) }
 {
     let v = value_of(kind, bits);
     add_tag(s, key, v, b"", keys, values, texts, features)
@@ -143,7 +144,7 @@ pub fn add_tag_string(
     texts: &mut [u8],
     features: &mut [u32],
 ) -> Changed
-    ensures { Does (add_tag (tag_string key.now val.now)) s result keys values texts features }
+    ensures { Does (add_tag (tag_string key.now val.now)) s result (mutable keys) (mutable values) (mutable texts) (mutable features) }
 {
     let v = Value {
         kind: Value::TEXT,
@@ -163,7 +164,7 @@ pub fn add_tag_float(
     texts: &mut [u8],
     features: &mut [u32],
 ) -> Changed
-    ensures { Does (add_tag (tag_bits float_kind key.now bits)) s result keys values texts features }
+    ensures { Does (add_tag (tag_bits float_kind key.now bits)) s result (mutable keys) (mutable values) (mutable texts) (mutable features) }
 {
     let wide = bits as u64;
     add_bits(s, key, Value::FLOAT, wide, keys, values, texts, features)
@@ -179,7 +180,7 @@ pub fn add_tag_double(
     texts: &mut [u8],
     features: &mut [u32],
 ) -> Changed
-    ensures { Does (add_tag (tag_bits double_kind key.now bits)) s result keys values texts features }
+    ensures { Does (add_tag (tag_bits double_kind key.now bits)) s result (mutable keys) (mutable values) (mutable texts) (mutable features) }
 {
     add_bits(s, key, Value::DOUBLE, bits, keys, values, texts, features)
 }
@@ -194,7 +195,7 @@ pub fn add_tag_int(
     texts: &mut [u8],
     features: &mut [u32],
 ) -> Changed
-    ensures { Does (add_tag (tag_bits int_kind key.now (bits_of val))) s result keys values texts features }
+    ensures { Does (add_tag (tag_bits int_kind key.now (bits_of val))) s result (mutable keys) (mutable values) (mutable texts) (mutable features) }
 {
     let bits = bits_of(val);
     add_bits(s, key, Value::INT, bits, keys, values, texts, features)
@@ -210,7 +211,7 @@ pub fn add_tag_uint(
     texts: &mut [u8],
     features: &mut [u32],
 ) -> Changed
-    ensures { Does (add_tag (tag_bits uint_kind key.now val)) s result keys values texts features }
+    ensures { Does (add_tag (tag_bits uint_kind key.now val)) s result (mutable keys) (mutable values) (mutable texts) (mutable features) }
 {
     add_bits(s, key, Value::UINT, val, keys, values, texts, features)
 }
@@ -225,7 +226,7 @@ pub fn add_tag_sint(
     texts: &mut [u8],
     features: &mut [u32],
 ) -> Changed
-    ensures { Does (add_tag (tag_bits sint_kind key.now (bits_of val))) s result keys values texts features }
+    ensures { Does (add_tag (tag_bits sint_kind key.now (bits_of val))) s result (mutable keys) (mutable values) (mutable texts) (mutable features) }
 {
     let bits = bits_of(val);
     add_bits(s, key, Value::SINT, bits, keys, values, texts, features)
@@ -241,7 +242,7 @@ pub fn add_tag_bool(
     texts: &mut [u8],
     features: &mut [u32],
 ) -> Changed
-    ensures { Does (add_tag (tag_bits bool_kind key.now (bit_of val))) s result keys values texts features }
+    ensures { Does (add_tag (tag_bits bool_kind key.now (bit_of val))) s result (mutable keys) (mutable values) (mutable texts) (mutable features) }
 {
     let bits = bit_of(val);
     add_bits(s, key, Value::BOOL, bits, keys, values, texts, features)

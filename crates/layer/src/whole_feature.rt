@@ -1,6 +1,7 @@
 // A whole feature in one call (in the Rust: a feature opened, tagged and closed). All that it was given is asked first, ROOM last; then it is written. The
 // single calls check the layer's STATE each; this one checks it once, so a feature costs what the layer holds and no more.
 ghost use Rattle.std.specs.Prelude.{◌≡◌, cond};
+ghost use Rattle.promise.specs.Lent.{mutable};
 ghost use Rattle.layer.specs.TagLists.{tags_of};
 ghost use Rattle.layer.specs.Whole.{mark_of, id_of, feature_put, add_feature};
 ghost use Rattle.layer.specs.Lookup.{idx};
@@ -122,8 +123,8 @@ fn put_feature(
     ki: &mut [u32],
     vi: &mut [u32],
 ) -> Layer
-    requires { MayPut s f words.now tags.now bytes.now (lists keys values texts features) (idx ki.old vi.old) }
-    ensures { Fills (feature_put f words.now (tags_of bytes.now tags.now)) s result keys values texts features ki vi }
+    requires { MayPut s f words.now tags.now bytes.now (lists keys.old values.old texts.old features.old) (idx ki.old vi.old) }
+    ensures { Fills (feature_put f words.now (tags_of bytes.now tags.now)) s result (mutable keys) (mutable values) (mutable texts) (mutable features) (mutable ki) (mutable vi) }
 {
     let o = s.used;
     let mark = mark_of(f);
@@ -185,8 +186,8 @@ pub(crate) fn add_known(
     ki: &mut [u32],
     vi: &mut [u32],
 ) -> Changed
-    requires { Known s stands built (lists keys values texts features) (idx ki.old vi.old) }
-    ensures { DoesIndexed (add_feature f words.now tags.now bytes.now) s result keys values texts features ki vi }
+    requires { Known s stands built (lists keys.old values.old texts.old features.old) (idx ki.old vi.old) }
+    ensures { DoesIndexed (add_feature f words.now tags.now bytes.now) s result (mutable keys) (mutable values) (mutable texts) (mutable features) (mutable ki) (mutable vi) }
 {
     let q = s.feature;
     match first_refusal(q, s.strict, stands, f.kind, words.len(), tags, bytes) {
@@ -230,7 +231,7 @@ pub fn add_feature(
     texts: &mut [u8],
     features: &mut [u32],
 ) -> Changed
-    ensures { Does (add_feature f words.now tags.now bytes.now) s result keys values texts features }
+    ensures { Does (add_feature f words.now tags.now bytes.now) s result (mutable keys) (mutable values) (mutable texts) (mutable features) }
 {
     let stands = is_valid(s, &keys[..], &values[..], &texts[..], &features[..]);
     let mut none = [0u32; 1];

@@ -2,6 +2,7 @@
 #![tactic(auto)]
 
 ghost use Rattle.std.specs.Prelude.{◌+◌, ◌≤◌, length};
+ghost use Rattle.promise.specs.Lent.{mutable};
 ghost use Rattle.printed.specs.Lending.{Shows, Tells};
 ghost use Rattle.printed.specs.Losses.{losses_room};
 ghost use Rattle.losses.specs.Program.{tally_text, printed};
@@ -14,7 +15,7 @@ use printed::Text;
 // The four counts and the vertices as lines, at the front of `text`. No more points are lost than were given, so the vertices are no less than zero.
 fn show_tally(t: Tally, text: &mut [u8]) -> usize
     requires { t.skipped + t.taken_out ≤ t.taken + t.boundary }
-    ensures { Shows losses_room (tally_text t) result text }
+    ensures { Shows losses_room (tally_text t) result (mutable text) }
 {
     let taken = t.taken as u64;
     let boundary = t.boundary as u64;
@@ -27,7 +28,7 @@ fn show_tally(t: Tally, text: &mut [u8]) -> usize
 // What the program prints for a file, at the front of `text`: how many bytes it is. The lists are the program's own, and large enough.
 fn answer(file: &[u8], numbers: &mut [u32], words: &mut [u32], text: &mut [u8]) -> usize
     requires { losses_room ≤ length text.old }
-    ensures { Tells (printed file.now numbers.old words.old) result text }
+    ensures { Tells (printed file.now numbers.old words.old) result (mutable text) }
 {
     match number_file::read_numbers(file, numbers) {
         Numbers::Refused(r) => printed::show_refused(refusal::number(r), 0, text),

@@ -6,6 +6,7 @@ pub mod quoted; // the bytes of a text
 pub mod values; // the line of a value that is no text
 
 ghost use Rattle.std.specs.Prelude.{◌+◌, ◌^◌, ◌≤◌, ◌<◌, ◌++◌, length};
+ghost use Rattle.promise.specs.Lent.{mutable};
 ghost use Rattle.printed.specs.Lending.{Appends, Shows};
 ghost use Rattle.opened.specs.Opened.{named, layers_text, layers_room, layer_end_text, layer_end_room, feature_text, feature_room, numbers_text, numbers_room};
 ghost use Rattle.opened.specs.Values.{hex_digits};
@@ -31,7 +32,7 @@ impl Piece {
 // ---- what the pieces are laid of: each lays its bytes at a place of the text, and answers the place after them
 pub(crate) fn append(bytes: &[u8], at: usize, text: &mut [u8]) -> usize
     requires { at + length bytes.now ≤ length text.old }
-    ensures { Appends bytes.now at result text }
+    ensures { Appends bytes.now at result (mutable text) }
 {
     lay_bytes(bytes, text, at);
     at + bytes.len()
@@ -40,7 +41,7 @@ pub(crate) fn append(bytes: &[u8], at: usize, text: &mut [u8]) -> usize
 // A name, and a number in decimal behind it.
 pub(crate) fn append_named(name: &[u8], n: u64, at: usize, text: &mut [u8]) -> usize
     requires { at + length name.now + 20 ≤ length text.old }
-    ensures { Appends (named name.now n) at result text }
+    ensures { Appends (named name.now n) at result (mutable text) }
 {
     let mut digits = [0u8; 20];
     let k = io::decimal(n, &mut digits);
@@ -54,7 +55,7 @@ pub(crate) fn append_hex(name: &[u8], n: u64, count: usize, at: usize, text: &mu
     requires count_bound { count ≤ 16 }
     requires n_bound { n < 16 ^ count }
     requires count_in_bounds { at + length name.now + count ≤ length text.old }
-    ensures { Appends (name.now ++ hex_digits count n) at result text }
+    ensures { Appends (name.now ++ hex_digits count n) at result (mutable text) }
 {
     let mut digits = [0u8; 16];
     let k = io::hex(n, count, &mut digits);
@@ -65,7 +66,7 @@ pub(crate) fn append_hex(name: &[u8], n: u64, count: usize, at: usize, text: &mu
 // ---- the pieces
 // `layers N`: how many bytes it is. A text shorter than `Piece::LAYERS` stays as it is, and the answer is 0.
 pub fn show_layers(n: usize, text: &mut [u8]) -> usize
-    ensures { Shows layers_room (layers_text n) result text }
+    ensures { Shows layers_room (layers_text n) result (mutable text) }
 {
     if text.len() < Piece::LAYERS {
         return 0;
@@ -84,7 +85,7 @@ pub fn show_layer_end(
     features: usize,
     text: &mut [u8],
 ) -> usize
-    ensures { Shows layer_end_room (layer_end_text version extent keys values features) result text }
+    ensures { Shows layer_end_room (layer_end_text version extent keys values features) result (mutable text) }
 {
     if text.len() < Piece::LAYER_END {
         return 0;
@@ -99,7 +100,7 @@ pub fn show_layer_end(
 
 // `feature type N`, with its id where it has one: how many bytes it is. A text shorter than `Piece::FEATURE` stays as it is, and the answer is 0.
 pub fn show_feature(kind: u32, has_id: bool, id: u64, text: &mut [u8]) -> usize
-    ensures { Shows feature_room (feature_text kind has_id id) result text }
+    ensures { Shows feature_room (feature_text kind has_id id) result (mutable text) }
 {
     if text.len() < Piece::FEATURE {
         return 0;
@@ -114,7 +115,7 @@ pub fn show_feature(kind: u32, has_id: bool, id: u64, text: &mut [u8]) -> usize
 
 // Each number with a blank before it: how many bytes it is. A text shorter than `Piece::NUMBER` for each number stays as it is, and the answer is 0.
 pub fn show_numbers(numbers: &[u32], text: &mut [u8]) -> usize
-    ensures { Shows (numbers_room numbers.now) (numbers_text numbers.now) result text }
+    ensures { Shows (numbers_room numbers.now) (numbers_text numbers.now) result (mutable text) }
 {
     let n = numbers.len();
     if text.len() / Piece::NUMBER < n {

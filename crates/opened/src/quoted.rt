@@ -1,5 +1,6 @@
 // The bytes of a text as they stand between its quotes, laid out in lent bytes: those that a reader could mistake are escaped.
 ghost use Rattle.std.specs.Prelude.{◌≡◌, ◌+◌, ◌≤◌, length};
+ghost use Rattle.promise.specs.Lent.{mutable};
 ghost use Rattle.printed.specs.Lending.{Appends, Shows};
 ghost use Rattle.opened.specs.Quoted.{is_marked, is_plain, escaped, quoted_text, quoted_room};
 
@@ -27,7 +28,7 @@ fn is_plain(b: u8, is_text: bool) -> bool
 // Lays a byte, or what stands for it, at a place of the text: the place after it.
 fn append_escaped(b: u8, is_text: bool, at: usize, text: &mut [u8]) -> usize
     requires { at + 4 ≤ length text.old }
-    ensures { Appends (escaped is_text b) at result text }
+    ensures { Appends (escaped is_text b) at result (mutable text) }
 {
     if is_marked(b) {
         let pair = [b'\\', b];
@@ -43,7 +44,7 @@ fn append_escaped(b: u8, is_text: bool, at: usize, text: &mut [u8]) -> usize
 // A portion of a text's bytes: how many bytes it is. `is_text` says of the whole text that it is UTF-8. A text shorter than `Piece::BYTE` for each byte
 // stays as it is, and the answer is 0.
 pub fn show_quoted(bytes: &[u8], is_text: bool, text: &mut [u8]) -> usize
-    ensures { Shows (quoted_room bytes.now) (quoted_text is_text bytes.now) result text }
+    ensures { Shows (quoted_room bytes.now) (quoted_text is_text bytes.now) result (mutable text) }
 {
     let n = bytes.len();
     if text.len() / Piece::BYTE < n {

@@ -1,5 +1,6 @@
 // The line of a value that is no text, laid out in lent bytes: what kind it is, and its 64 bits as that kind says them.
 ghost use Rattle.std.specs.Prelude.{◌+◌, ◌≤◌, ◌++◌, length};
+ghost use Rattle.promise.specs.Lent.{mutable};
 ghost use Rattle.whole.specs.Twos.{signed64};
 ghost use Rattle.printed.specs.Lending.{Appends, Shows};
 ghost use Rattle.opened.specs.Values.{signed_decimal, bool_words, value_words, value_text, value_room};
@@ -26,7 +27,7 @@ const BOOL: u32 = 7;
 // A name at the front of the text, and behind it 64 bits read as two's complement, in decimal: the place after them.
 fn append_signed(name: &[u8], bits: u64, text: &mut [u8]) -> usize
     requires { length name.now + 21 ≤ length text.old }
-    ensures { Appends (name.now ++ signed_decimal (signed64 bits)) 0 result text }
+    ensures { Appends (name.now ++ signed_decimal (signed64 bits)) 0 result (mutable text) }
 {
     if bits < 9_223_372_036_854_775_808 {
         return append_named(name, bits, 0, text);
@@ -37,7 +38,7 @@ fn append_signed(name: &[u8], bits: u64, text: &mut [u8]) -> usize
 
 fn append_bool(bits: u64, text: &mut [u8]) -> usize
     requires { 16 ≤ length text.old }
-    ensures { Appends (bool_words bits) 0 result text }
+    ensures { Appends (bool_words bits) 0 result (mutable text) }
 {
     if bits == 0 {
         return append(b"value bool false", 0, text);
@@ -48,7 +49,7 @@ fn append_bool(bits: u64, text: &mut [u8]) -> usize
 // The words of the line, at the front of the text: the place after them.
 fn append_value(kind: u32, bits: u64, text: &mut [u8]) -> usize
     requires { 32 ≤ length text.old }
-    ensures { Appends (value_words kind bits) 0 result text }
+    ensures { Appends (value_words kind bits) 0 result (mutable text) }
 {
     if kind == FLOAT {
         return append_hex(b"value float 0x", bits % 4_294_967_296, 8, 0, text);
@@ -73,7 +74,7 @@ fn append_value(kind: u32, bits: u64, text: &mut [u8]) -> usize
 
 // The line of a value that is no text: how many bytes it is. A text shorter than `Piece::VALUE` stays as it is, and the answer is 0.
 pub fn show_value(kind: u32, bits: u64, text: &mut [u8]) -> usize
-    ensures { Shows value_room (value_text kind bits) result text }
+    ensures { Shows value_room (value_text kind bits) result (mutable text) }
 {
     if text.len() < Piece::VALUE {
         return 0;

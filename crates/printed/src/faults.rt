@@ -1,5 +1,6 @@
 // A refusal as a line, with its place where it has one.
 ghost use Rattle.std.specs.Prelude.{◌≡◌};
+ghost use Rattle.promise.specs.Lent.{mutable};
 ghost use Rattle.printed.specs.Lending.{Shows};
 ghost use Rattle.printed.specs.Printed.{refused_room};
 ghost use Rattle.printed.specs.Faults.{has_place, fault_text};
@@ -23,7 +24,7 @@ fn has_place(number: u32) -> bool
 
 // `refused K at I` where K has a place, else `refused K`: how many bytes it is. A text of fewer than 53 bytes stays as it is, and the answer is 0.
 pub fn show_fault(number: u32, place: usize, text: &mut [u8]) -> usize
-    ensures { Shows refused_room (fault_text number place) result text }
+    ensures { Shows refused_room (fault_text number place) result (mutable text) }
 {
     if has_place(number) {
         return show_refused(number, place, text);

@@ -7,6 +7,7 @@ pub mod losses; // the counts of what was lost
 pub mod vertices; // the vertices of words that were read
 
 ghost use Rattle.std.specs.Prelude.{◌≡◌, ◌+◌, ◌*◌, ◌<◌, ◌≤◌, length, take};
+ghost use Rattle.promise.specs.Lent.{mutable};
 ghost use Rattle.promise.specs.Laid.{lay};
 ghost use Rattle.printed.specs.Decimal.{ended};
 ghost use Rattle.printed.specs.Lending.{Appends, Shows};
@@ -64,7 +65,7 @@ pub(crate) fn append(bytes: &[u8], at: usize, text: &mut [u8])
 // Lays a number's digits and then `end` at a place of the text, and answers the place after them. A u64 has at most twenty digits.
 pub(crate) fn append_number(n: u64, end: u8, at: usize, text: &mut [u8]) -> usize
     requires { at + 21 ≤ length text.old }
-    ensures { Appends (ended n end) at result text }
+    ensures { Appends (ended n end) at result (mutable text) }
 {
     let mut digits = [0u8; 20];
     let k = io::decimal(n, &mut digits);
@@ -77,7 +78,7 @@ pub(crate) fn append_number(n: u64, end: u8, at: usize, text: &mut [u8]) -> usiz
 // Lays each word on a line of its own, from a place of the text on, and answers the place after them.
 fn append_words(words: &[u32], at: usize, text: &mut [u8]) -> usize
     requires { at + 21 * length words.now ≤ length text.old }
-    ensures { Appends (column words.now) at result text }
+    ensures { Appends (column words.now) at result (mutable text) }
 {
     let mut next = at;
     let mut i = 0;
@@ -90,7 +91,7 @@ fn append_words(words: &[u32], at: usize, text: &mut [u8]) -> usize
 
 // `words N` and then each word on its own line: how many bytes it is. A text of fewer than 27 bytes, and 21 for each word, stays as it is, and the answer is 0.
 pub fn show_words(words: &[u32], text: &mut [u8]) -> usize
-    ensures { Shows (words_room words.now) (words_text words.now) result text }
+    ensures { Shows (words_room words.now) (words_text words.now) result (mutable text) }
 {
     let n = words.len();
     if text.len() < 27 {
@@ -106,7 +107,7 @@ pub fn show_words(words: &[u32], text: &mut [u8]) -> usize
 
 // `refused R at P`: how many bytes it is. A text of fewer than 53 bytes stays as it is, and the answer is 0.
 pub fn show_refused(number: u32, points: usize, text: &mut [u8]) -> usize
-    ensures { Shows refused_room (refused_text number points) result text }
+    ensures { Shows refused_room (refused_text number points) result (mutable text) }
 {
     if text.len() < Text::REFUSED {
         return 0;
@@ -120,7 +121,7 @@ pub fn show_refused(number: u32, points: usize, text: &mut [u8]) -> usize
 // Lays two numbers on one line, a blank between them, at a place of the text: the place after them.
 fn append_pair(first: u32, second: u32, at: usize, text: &mut [u8]) -> usize
     requires { at + 42 ≤ length text.old }
-    ensures { Appends (pair_line first second) at result text }
+    ensures { Appends (pair_line first second) at result (mutable text) }
 {
     let next = append_number(long(first), b' ', at, text);
     append_number(long(second), b'\n', next, text)
@@ -129,7 +130,7 @@ fn append_pair(first: u32, second: u32, at: usize, text: &mut [u8]) -> usize
 // Lays the numbers two to a line, from a place of the text on: the place after them.
 fn append_pairs(numbers: &[u32], at: usize, text: &mut [u8]) -> usize
     requires { at + 21 * length numbers.now ≤ length text.old }
-    ensures { Appends (pair_lines numbers.now) at result text }
+    ensures { Appends (pair_lines numbers.now) at result (mutable text) }
 {
     let n = numbers.len() / 2;
     let mut next = at;
@@ -145,7 +146,7 @@ fn append_pairs(numbers: &[u32], at: usize, text: &mut [u8]) -> usize
 
 // `edges N` and then each point's two edges on a line: how many bytes it is. A text of fewer than 27 bytes, and 21 for each edge, stays as it is: 0.
 pub fn show_edges(edges: &[u32], text: &mut [u8]) -> usize
-    ensures { Shows (edges_room edges.now) (edges_text edges.now) result text }
+    ensures { Shows (edges_room edges.now) (edges_text edges.now) result (mutable text) }
 {
     let size = text.len();
     if size < 27 {
@@ -162,7 +163,7 @@ pub fn show_edges(edges: &[u32], text: &mut [u8]) -> usize
 // Lays a number in decimal, `-` before a negative one, and then `end` at a place of the text: the place after them.
 pub(crate) fn append_signed(n: i64, end: u8, at: usize, text: &mut [u8]) -> usize
     requires { at + 22 ≤ length text.old }
-    ensures { Appends (signed_ended n end) at result text }
+    ensures { Appends (signed_ended n end) at result (mutable text) }
 {
     let size = magnitude(n);
     if n < 0 {
@@ -185,7 +186,7 @@ fn separator(i: usize, n: usize) -> u8
 
 // The numbers on one line, a blank between them: how many bytes it is. A text of fewer than 22 bytes for each number stays as it is, and the answer is 0.
 pub fn show_row(numbers: &[i64], text: &mut [u8]) -> usize
-    ensures { Shows (row_room numbers.now) (row_text numbers.now) result text }
+    ensures { Shows (row_room numbers.now) (row_text numbers.now) result (mutable text) }
 {
     let n = numbers.len();
     if text.len() / 22 < n {
@@ -204,7 +205,7 @@ pub fn show_row(numbers: &[i64], text: &mut [u8]) -> usize
 // `ok` or `refused N` on a line of its own, at a place of the text: the place after it.
 fn append_outcome(n: u32, at: usize, text: &mut [u8]) -> usize
     requires { at + 29 ≤ length text.old }
-    ensures { Appends (outcome_line n) at result text }
+    ensures { Appends (outcome_line n) at result (mutable text) }
 {
     if n == 0 {
         append(b"ok\n", at, text);
@@ -217,7 +218,7 @@ fn append_outcome(n: u32, at: usize, text: &mut [u8]) -> usize
 // A line for each outcome, from a place of the text on: the place after them.
 fn append_outcomes(outcomes: &[u32], at: usize, text: &mut [u8]) -> usize
     requires { at + 29 * length outcomes.now ≤ length text.old }
-    ensures { Appends (outcome_lines outcomes.now) at result text }
+    ensures { Appends (outcome_lines outcomes.now) at result (mutable text) }
 {
     let mut next = at;
     let mut i = 0;
@@ -252,7 +253,7 @@ fn ends_line(i: usize, n: usize) -> bool
 // A byte's two digits, and the line's end where it has one, at a place of the text: the place after them.
 fn append_byte(b: u8, ends: bool, at: usize, text: &mut [u8]) -> usize
     requires { at + 3 ≤ length text.old }
-    ensures { Appends (hex_byte b ends) at result text }
+    ensures { Appends (hex_byte b ends) at result (mutable text) }
 {
     let digits = [hex_digit(b / 16), hex_digit(b % 16)];
     append(&digits, at, text);
@@ -266,7 +267,7 @@ fn append_byte(b: u8, ends: bool, at: usize, text: &mut [u8]) -> usize
 // Bytes in hexadecimal, from a place of the text on: the place after them.
 fn append_hex(bytes: &[u8], at: usize, text: &mut [u8]) -> usize
     requires { at + 3 * length bytes.now ≤ length text.old }
-    ensures { Appends (hex_lines bytes.now) at result text }
+    ensures { Appends (hex_lines bytes.now) at result (mutable text) }
 {
     let n = bytes.len();
     let mut next = at;
@@ -281,7 +282,7 @@ fn append_hex(bytes: &[u8], at: usize, text: &mut [u8]) -> usize
 
 // A line for each outcome, `bytes N`, and the bytes, 32 to a line: how long it is. In fewer than 27 bytes, 29 for each outcome and 3 for each byte: 0.
 pub fn show_tile(outcomes: &[u32], bytes: &[u8], text: &mut [u8]) -> usize
-    ensures { Shows (tile_room outcomes.now bytes.now) (tile_text outcomes.now bytes.now) result text }
+    ensures { Shows (tile_room outcomes.now bytes.now) (tile_text outcomes.now bytes.now) result (mutable text) }
 {
     let n = bytes.len();
     if text.len() < 27 {

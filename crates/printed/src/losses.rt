@@ -1,5 +1,6 @@
 // What became of a job's points, laid out in lent bytes: the four counts and the vertices, each on a line behind its name.
 ghost use Rattle.std.specs.Prelude.{◌+◌, ◌≤◌, length};
+ghost use Rattle.promise.specs.Lent.{mutable};
 ghost use Rattle.printed.specs.Lending.{Appends, Shows};
 ghost use Rattle.printed.specs.Losses.{headed, losses_text, losses_room};
 
@@ -13,7 +14,7 @@ impl Text {
 // Lays a line with a name, a blank behind it, and a number at a place of the text: the place after it.
 pub(crate) fn append_line(name: &[u8], n: u64, at: usize, text: &mut [u8]) -> usize
     requires { at + length name.now + 21 ≤ length text.old }
-    ensures { Appends (headed name.now n) at result text }
+    ensures { Appends (headed name.now n) at result (mutable text) }
 {
     append(name, at, text);
     append_number(n, b'\n', at + name.len(), text)
@@ -29,7 +30,7 @@ pub fn show_losses(
     vertices: u64,
     text: &mut [u8],
 ) -> usize
-    ensures { Shows losses_room (losses_text taken boundary skipped out vertices) result text }
+    ensures { Shows losses_room (losses_text taken boundary skipped out vertices) result (mutable text) }
 {
     if text.len() < Text::LOSSES {
         return 0;

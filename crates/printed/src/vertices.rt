@@ -1,5 +1,6 @@
 // A reading's vertices, laid out in lent bytes: how many there are, and each on a line, its id, x and y.
 ghost use Rattle.std.specs.Prelude.{◌≡◌, true, ◌+◌, ◌*◌, ◌/◌, ◌≤◌, length};
+ghost use Rattle.promise.specs.Lent.{mutable};
 ghost use Rattle.printed.specs.Lending.{Appends};
 ghost use Rattle.printed.specs.Vertices.{vertex_line, is_digit, digit_ids, AppendsLines, ShowsVertices};
 
@@ -39,7 +40,7 @@ fn digit_ids(numbers: &[i32]) -> bool
 // Lays three numbers on one line, a blank between them, at a place of the text: the place after them.
 fn append_vertex(id: i32, x: i32, y: i32, at: usize, text: &mut [u8]) -> usize
     requires { at + 66 ≤ length text.old }
-    ensures { Appends (vertex_line id x y) at result text }
+    ensures { Appends (vertex_line id x y) at result (mutable text) }
 {
     let one = append_signed(signed_long(id), b' ', at, text);
     let two = append_signed(signed_long(x), b' ', one, text);
@@ -51,7 +52,7 @@ fn append_vertex(id: i32, x: i32, y: i32, at: usize, text: &mut [u8]) -> usize
 fn append_vertices(numbers: &[i32], at: usize, text: &mut [u8]) -> usize
     requires numbers_value { digit_ids numbers.now ≡ true }
     requires numbers_in_bounds { at + 40 + 26 * (length numbers.now / 3) ≤ length text.old }
-    ensures { AppendsLines numbers.now at result text }
+    ensures { AppendsLines numbers.now at result (mutable text) }
 {
     let n = numbers.len() / 3;
     let mut next = at;
@@ -69,7 +70,7 @@ fn append_vertices(numbers: &[i32], at: usize, text: &mut [u8]) -> usize
 // `vertices N` and then the id, x and y of each of the N vertices on a line: how many bytes it is. A text of fewer than 70 bytes, and 26 for each vertex,
 // stays as it is, and the answer is 0; so it is where an id is below 0 or above 9, which no command's is.
 pub fn show_vertices(numbers: &[i32], text: &mut [u8]) -> usize
-    ensures { ShowsVertices numbers.now result text }
+    ensures { ShowsVertices numbers.now result (mutable text) }
 {
     let size = text.len();
     if size < 70 {

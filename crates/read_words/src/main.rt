@@ -2,6 +2,7 @@
 #![tactic(auto)]
 
 ghost use Rattle.std.specs.Prelude.{◌≤◌, length};
+ghost use Rattle.promise.specs.Lent.{mutable};
 ghost use Rattle.printed.specs.Lending.{Tells};
 ghost use Rattle.printed.specs.Vertices.{vertices_room};
 ghost use Rattle.read_words.specs.Program.{printed};
@@ -14,7 +15,7 @@ use printed::faults::show_fault;
 // What the program prints for a file, at the front of `text`: how many bytes it is. The lists are the program's own, and large enough.
 fn answer(file: &[u8], words: &mut [u32], out: &mut [i32], text: &mut [u8]) -> usize
     requires { vertices_room out.old ≤ length text.old }
-    ensures { Tells (printed file.now words.old out.old) result text }
+    ensures { Tells (printed file.now words.old out.old) result (mutable text) }
 {
     match number_file::read_numbers(file, words) {
         Numbers::Refused(r) => show_fault(refusal::number(r), 0, text),

@@ -4,7 +4,7 @@ use mathlib.Core.Path.{◌≡◌, refl}
 use mathlib.Core.Logic.{◌↔◌}
 use mathlib.Core.Bool.{Bool, true, false, cond}
 use mathlib.Core.List.{List, [], ◌∷◌}
-use native.Mathlib.Nat.{sub_zero, suc-sub-suc}
+use native.Mathlib.Nat.{sub-zero, suc-sub-suc}
 use native.Mathlib.Omega.{arith}
 use borrow.Author.Tests.{leb-true, leb-false}
 use lib.Dec.{leb}
@@ -27,7 +27,7 @@ use Rattle.scan.proofs.Moves.{moves}
 
 -- ---- one part inside another is one before another
 nest_in : {A B C : List ℕ → Type 0} (m n : ℕ) (q : List ℕ) → Within n q (λ x. Within m x A B) C → (m ≤ n) × Within m q A (λ r. Within (n - m) r B C)
-nest_in zero n q w = rw (sub_zero n) (omega arith, record { there = omega arith; inside = w.inside.inside; rest = record { there = w.there; inside = w.inside.rest; rest = w.rest } })
+nest_in zero n q w = rw (sub-zero n) (omega arith, record { there = omega arith; inside = w.inside.inside; rest = record { there = w.there; inside = w.inside.rest; rest = w.rest } })
 nest_in (suc m) zero q w = absurd (omega (arith, w.inside.there))
 nest_in (suc m) (suc n) [] w = absurd (omega (arith, w.there))
 nest_in (suc m) (suc n) (b ∷ q) w =
@@ -35,7 +35,7 @@ nest_in (suc m) (suc n) (b ∷ q) w =
     rw (suc-sub-suc n m) (omega (arith, r.0), within_back r.1)
 
 nest_out : {A B C : List ℕ → Type 0} (m n : ℕ) (q : List ℕ) → m ≤ n → Within m q A (λ r. Within (n - m) r B C) → Within n q (λ x. Within m x A B) C
-nest_out zero n q h v = let w = rw (sub_zero n) at v in record { there = w.rest.there; inside = record { there = omega arith; inside = w.inside; rest = w.rest.inside }; rest = w.rest.rest }
+nest_out zero n q h v = let w = rw (sub-zero n) at v in record { there = w.rest.there; inside = record { there = omega arith; inside = w.inside; rest = w.rest.inside }; rest = w.rest.rest }
 nest_out (suc m) zero q h w = absurd (omega (arith, h))
 nest_out (suc m) (suc n) [] h w = absurd (omega (arith, w.there))
 nest_out (suc m) (suc n) (b ∷ q) h w = within_back (within_in (λ x v. within_back v) (nest_out m n q (omega (arith, h)) (within_next (rw (suc-sub-suc n m) at w))))

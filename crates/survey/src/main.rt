@@ -2,6 +2,7 @@
 #![tactic(auto)]
 
 ghost use Rattle.std.specs.Prelude.{◌*◌, ◌+◌, ◌≤◌, length};
+ghost use Rattle.promise.specs.Lent.{mutable};
 ghost use Rattle.printed.specs.Lending.{Tells};
 ghost use Rattle.survey.specs.Program.{printed};
 
@@ -13,7 +14,7 @@ use printed::Text;
 fn answer(file: &[u8], numbers: &mut [u32], words: &mut [u32], text: &mut [u8]) -> usize
     requires in_bounds { 53 ≤ length text.old }
     requires words_in_bounds { 27 + 21 * length words.old ≤ length text.old }
-    ensures { Tells (printed file.now numbers.old words.old) result text }
+    ensures { Tells (printed file.now numbers.old words.old) result (mutable text) }
 {
     match number_file::read_numbers(file, numbers) {
         Numbers::Refused(r) => printed::show_refused(refusal::number(r), 0, text),

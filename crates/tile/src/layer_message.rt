@@ -22,7 +22,7 @@ const VERSION: u64 = 2;
 
 // The message's size, of the used parts.
 fn message_size(s: Layer, keys: &[u32], values: &[u32], texts: &[u8], features: &[u32]) -> usize
-    requires { Sound s (given keys values texts features) }
+    requires { Sound s (given keys.now values.now texts.now features.now) }
     ensures { result ≡ length (layer_bytes s (entered keys values texts features)) }
 {
     let extent = s.extent;
@@ -44,7 +44,7 @@ fn put_message(
     features: &[u32],
     out: &mut [u8],
 ) -> usize
-    requires { Writable (Sound s (given keys values texts features)) (layer_bytes s (given keys values texts features)) (length out.old) }
+    requires { Writable (Sound s (given keys.now values.now texts.now features.now)) (layer_bytes s (given keys.now values.now texts.now features.now)) (length out.old) }
     ensures { Gives (put (layer_bytes s (entered keys values texts features)) out.old) result out.new }
 {
     let extent = s.extent;
@@ -64,7 +64,7 @@ pub(crate) fn held_size(
     texts: &[u8],
     features: &[u32],
 ) -> usize
-    requires { valid (seen s (given keys values texts features)) ≡ true }
+    requires { valid (seen s (given keys.now values.now texts.now features.now)) ≡ true }
     ensures { result ≡ length (layer_bytes s (held_by s.used (entered keys values texts features))) }
 {
     let used = s.used;
@@ -85,7 +85,7 @@ pub(crate) fn put_layer(
     features: &[u32],
     out: &mut [u8],
 ) -> usize
-    requires { Reckoned (seen s (given keys values texts features)) size (length out.old) }
+    requires { Reckoned (seen s (given keys.now values.now texts.now features.now)) size (length out.old) }
     ensures { Gives (put (layer_field (seen s (entered keys values texts features))) out.old) result out.new }
 {
     let used = s.used;

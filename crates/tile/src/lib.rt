@@ -3,6 +3,7 @@
 #![tactic(auto)]
 
 ghost use Rattle.std.specs.Prelude.{◌≡◌, true, take};
+ghost use Rattle.promise.specs.Lent.{mutable};
 ghost use Rattle.promise.specs.Answers.{Gives};
 ghost use Rattle.layer.specs.Held.{seen};
 ghost use Rattle.layer.specs.Answers.{said_created};
@@ -141,8 +142,8 @@ impl Tile {
         names: &mut [u32],
         bytes: &mut [u8],
     ) -> Added
-        requires { Ready self (seen s (given keys values texts features)) (lists names.old bytes.old) }
-        ensures { Gives (appended self (seen s (entered keys values texts features)) (tile_entered names bytes)) (said_tile result) (tile_left names bytes) }
+        requires { Ready self (seen s (given keys.now values.now texts.now features.now)) (lists names.old bytes.old) }
+        ensures { Gives (appended self (seen s (entered keys values texts features)) (tile_entered (mutable names) (mutable bytes))) (said_tile result) (tile_left (mutable names) (mutable bytes)) }
     {
         let used = self.used;
         let layers = self.layers;
@@ -178,7 +179,7 @@ impl Tile {
         names: &mut [u32],
         bytes: &mut [u8],
     ) -> Added
-        ensures { Gives (add_layer self (seen s (entered keys values texts features)) (tile_entered names bytes)) (said_tile result) (tile_left names bytes) }
+        ensures { Gives (add_layer self (seen s (entered keys values texts features)) (tile_entered (mutable names) (mutable bytes))) (said_tile result) (tile_left (mutable names) (mutable bytes)) }
     {
         if !self.is_valid(&names[..], &bytes[..]) {
             return Added::Refused(Refusal::State, self);

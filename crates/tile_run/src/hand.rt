@@ -1,5 +1,6 @@
 // What a script has at hand: a layer, or nothing. A layer's calls work on it; where there is none they are TURN.
 ghost use Rattle.std.specs.Prelude.{◌≡◌, ◌%◌, ◌/◌};
+ghost use Rattle.promise.specs.Lent.{mutable};
 ghost use Rattle.promise.specs.Answers.{Gives};
 ghost use Rattle.layer.specs.Answers.{said_changed, said_created};
 ghost use Rattle.layer.specs.Calls.{into_feature, set_id, add_tag, into_layer, abandoned};
@@ -64,7 +65,7 @@ pub(crate) fn open(
     texts: &[u8],
     features: &mut [u32],
 ) -> Handled
-    ensures { Handles (into_feature kind words.now) h result keys values texts features }
+    ensures { Handles (into_feature kind words.now) h result keys values texts (mutable features) }
 {
     match h {
         Hand::Nothing => Handled::Refused(Refusal::Turn, h),
@@ -83,7 +84,7 @@ pub(crate) fn set_id(
     texts: &[u8],
     features: &mut [u32],
 ) -> Handled
-    ensures { Handles (set_id (id % 4294967296) (id / 4294967296)) h result keys values texts features }
+    ensures { Handles (set_id (id % 4294967296) (id / 4294967296)) h result keys values texts (mutable features) }
 {
     match h {
         Hand::Nothing => Handled::Refused(Refusal::Turn, h),
@@ -134,7 +135,7 @@ fn tag_layer(
     texts: &mut [u8],
     features: &mut [u32],
 ) -> Changed
-    ensures { Does (add_tag (tag_of bytes.now key.now v)) s result keys values texts features }
+    ensures { Does (add_tag (tag_of bytes.now key.now v)) s result (mutable keys) (mutable values) (mutable texts) (mutable features) }
 {
     match v {
         Value::Text(p) => {
@@ -161,7 +162,7 @@ pub(crate) fn tag(
     texts: &mut [u8],
     features: &mut [u32],
 ) -> Handled
-    ensures { Handles (add_tag (tag_of bytes.now key.now v)) h result keys values texts features }
+    ensures { Handles (add_tag (tag_of bytes.now key.now v)) h result (mutable keys) (mutable values) (mutable texts) (mutable features) }
 {
     match h {
         Hand::Nothing => Handled::Refused(Refusal::Turn, h),

@@ -6,6 +6,7 @@ pub mod hand; // what a script has at hand, and a layer's calls on it
 pub mod performing; // what a script works on, and one operation
 
 ghost use Rattle.std.specs.Prelude.{◌≡◌, ◌<◌, length};
+ghost use Rattle.promise.specs.Lent.{mutable};
 ghost use Rattle.tile_run.specs.Operations.{said_performed};
 ghost use Rattle.tile_run.specs.Lending.{Steps, RunsFrom, Runs};
 
@@ -60,7 +61,7 @@ pub fn advance(
     names: &mut [u32],
     out: &mut [u8],
 ) -> Step
-    ensures { Steps at w result bytes numbers keys values texts features names out }
+    ensures { Steps at w result bytes numbers (mutable keys) (mutable values) (mutable texts) (mutable features) (mutable names) (mutable out) }
 {
     match script::read_op(numbers, at) {
         Next::Bad => Step::Bad,
@@ -95,7 +96,7 @@ fn run_from(
 ) -> Ran
     requires numbers_nonzero { 0 < length numbers.now }
     requires numbers_in_bounds { length numbers.now < length outcomes.old }
-    ensures { RunsFrom start result bytes numbers outcomes keys values texts features names out }
+    ensures { RunsFrom start result bytes numbers (mutable outcomes) (mutable keys) (mutable values) (mutable texts) (mutable features) (mutable names) (mutable out) }
 {
     let mut w = start;
     let mut at = 1;
@@ -131,7 +132,7 @@ pub fn run(
     names: &mut [u32],
     out: &mut [u8],
 ) -> Ran
-    ensures { Runs result bytes numbers outcomes keys values texts features names out }
+    ensures { Runs result bytes numbers (mutable outcomes) (mutable keys) (mutable values) (mutable texts) (mutable features) (mutable names) (mutable out) }
 {
     if outcomes.len() <= numbers.len() {
         return Ran::Refused(Refusal::Room);

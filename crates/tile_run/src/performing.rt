@@ -1,6 +1,7 @@
 // A tile script, run: operation after operation on a tile and on what is at hand. The bytes are the script's file, and the numbers the same file read as
 // numbers; six lists are lent, four for the layer at hand and two for the tile.
 ghost use Rattle.std.specs.Prelude.{◌≡◌};
+ghost use Rattle.promise.specs.Lent.{mutable};
 ghost use Rattle.promise.specs.Answers.{Gives};
 ghost use Rattle.tile_run.specs.Hands.{said_handled};
 ghost use Rattle.layer.specs.Lending.{entered};
@@ -77,7 +78,7 @@ fn add(
     names: &mut [u32],
     out: &mut [u8],
 ) -> Performed
-    ensures { Gives (adding w (entered keys values texts features) (tile_entered names out)) (said_performed result) (tile_left names out) }
+    ensures { Gives (adding w (entered keys values texts features) (tile_entered (mutable names) (mutable out))) (said_performed result) (tile_left (mutable names) (mutable out)) }
 {
     let tile = w.tile;
     let hand = w.hand;
@@ -103,7 +104,7 @@ pub(crate) fn perform(
     names: &mut [u32],
     out: &mut [u8],
 ) -> Performed
-    ensures { Performs op w result bytes numbers keys values texts features names out }
+    ensures { Performs op w result bytes numbers (mutable keys) (mutable values) (mutable texts) (mutable features) (mutable names) (mutable out) }
 {
     let tile = w.tile;
     let h = w.hand;

@@ -2,6 +2,7 @@
 #![tactic(auto)]
 
 ghost use Rattle.std.specs.Prelude.{[], ◌∷◌, ◌≤◌, length, take};
+ghost use Rattle.promise.specs.Lent.{mutable};
 ghost use Rattle.refusal.specs.Refusals.{number_of};
 ghost use Rattle.printed.specs.Lending.{Shows, Tells};
 ghost use Rattle.printed.specs.Tiles.{tile_text, tile_room};
@@ -14,7 +15,7 @@ use tile_run::Ran;
 
 // A refusal of the whole script, shown: one outcome and no bytes.
 fn show_refusal(r: Refusal, text: &mut [u8]) -> usize
-    ensures { Shows (tile_room (number_of r ∷ []) []) (tile_text (number_of r ∷ []) []) result text }
+    ensures { Shows (tile_room (number_of r ∷ []) []) (tile_text (number_of r ∷ []) []) result (mutable text) }
 {
     let outcomes = [refusal::number(r)];
     printed::show_tile(&outcomes, b"", text)
@@ -23,7 +24,7 @@ fn show_refusal(r: Refusal, text: &mut [u8]) -> usize
 // So many outcomes and bytes, shown; ROOM where the text is too short for them.
 fn show(outcomes: &[u32], n: usize, out: &[u8], used: usize, text: &mut [u8]) -> usize
     requires { 56 ≤ length text.old }
-    ensures { Tells (tile_shown (length text.old) (take n outcomes.now) (take used out.now)) result text }
+    ensures { Tells (tile_shown (length text.old) (take n outcomes.now) (take used out.now)) result (mutable text) }
 {
     let os = first_words(outcomes, n);
     let bs = first_bytes(out, used);
@@ -48,7 +49,7 @@ fn answer(
     text: &mut [u8],
 ) -> usize
     requires { 56 ≤ length text.old }
-    ensures { Answers result file numbers outcomes keys values texts features names out text }
+    ensures { Answers result file (mutable numbers) (mutable outcomes) (mutable keys) (mutable values) (mutable texts) (mutable features) (mutable names) (mutable out) (mutable text) }
 {
     match number_file::read_numbers(file, numbers) {
         Numbers::Refused(r) => show_refusal(r, text),

@@ -1,0 +1,11 @@
+-- The loop's invariant: the tags from i on make of the figures so far what all make of those given.
+use Prim.Native.Nat.{◌-◌}
+use lib.ListN.{length}
+use Rattle.layer.proofs.Knowing.{Reckons}
+use Rattle.layer.proofs.need.is_need_met.Given as goal
+
+abbrev pub invariant-loop-i : goal.invariant-loop-i
+invariant-loop-i l = Reckons l.keys l.values l.texts l.bytes l.tags l.initial.u l.i l.u
+
+abbrev pub decreases-loop-i : goal.decreases-loop-i
+decreases-loop-i l = length l.tags - l.i
