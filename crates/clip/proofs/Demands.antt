@@ -64,8 +64,8 @@ module _ (b : BBox) (h : Proper b) where
         let r2 : State high b s2.p0 s2.p1 = begin m1 (fate b h s1.p0 s1.p1 high) c2 in
         let l3 : State low b s3.p0 s3.p1 = carry l2 c3 in
         let r3 : State high b s3.p0 s3.p1 = carry r2 c3 in
-        let u3 = at_y low h m2 (λ s. elim s [ low ↦ l2 | high ↦ r2 ]) (fate (swap_box b) (swap_proper h) (swap s2.p0) (swap s2.p1) low) in
-        let v4 = at_y high h m3 (λ s. elim s [ low ↦ l3 | high ↦ r3 ]) (fate (swap_box b) (swap_proper h) (swap s3.p0) (swap s3.p1) high) in
+        let u3 = at_y low h m2 (λ s. elim s as (λ k. State k b s2.p0 s2.p1) [ low ↦ l2 | high ↦ r2 ]) (fate (swap_box b) (swap_proper h) (swap s2.p0) (swap s2.p1) low) in
+        let v4 = at_y high h m3 (λ s. elim s as (λ k. State k b s3.p0 s3.p1) [ low ↦ l3 | high ↦ r3 ]) (fate (swap_box b) (swap_proper h) (swap s3.p0) (swap s3.p1) high) in
         finish (carry l3 c4) (carry r3 c4) (keep u3 c4) v4
 
 reversed_meets : {b : BBox} {t : Seg} → Meets b t → Meets b (reversed t)

@@ -27,7 +27,7 @@ within_fits c e = let (a, b) = both (in_i32 c.x) (in_i32 c.y) e in (in_i32_lem c
 
 -- a sum along one axis, read back from its bits
 sum_back : (place : ℤ) (word : ℕ) (z : ℤ) → mag place < 2 ^ 31 → mag z < 2 ^ 63 → z ≡ to_z w32 (of_z w32 place) +ℤ unparam word → to_z w64 (of_z w64 z) ≡ place +ℤ unparam word
-sum_back place word z f m e = let b : Back w64 z = back (record { sfits = m }) in b ∙ (rw (i32_back place f) at e)
+sum_back place word z f m e = let b : Back w64 z = back {w = w64} (record { sfits = m }) in b ∙ (rw (i32_back place f) at e)
 
 module _ (pen : Pen) (ws : List ℕ) (fx : mag pen.x < 2 ^ 31) (fy : mag pen.y < 2 ^ 31) (x y : ℤ) (mx : mag x < 2 ^ 63) (my : mag y < 2 ^ 63)
     (ex : x ≡ to_z w32 (of_z w32 pen.x) +ℤ unparam (get_or ws pen.at 0)) (ey : y ≡ to_z w32 (of_z w32 pen.y) +ℤ unparam (get_or ws (pen.at + 1) 0))

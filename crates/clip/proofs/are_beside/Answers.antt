@@ -8,38 +8,38 @@ use Rattle.clip.specs.Facts.{beside}
 use Rattle.clip.specs.Cutting.{least, most}
 use Rattle.clip.proofs.are_beside.Goals as goal
 use Rattle.clip.proofs.are_beside.Tie as tie
-use Rattle.clip.proofs.are_beside.Reads as reads
-use Rattle.clip.proofs.are_beside.Lts as lts
+use Rattle.clip.proofs.are_beside.Reads as contract
+use Rattle.clip.proofs.are_beside.Lts as places
 
 -- the places on the way that the lemmas below speak of
 abbrev Start : Type 0
-Start = lts.Start tie.the-claims reads.Pre reads.Post
+Start = places.Start tie.the-claims contract.Pre contract.Post
 
 abbrev After-most_of : Type 0
-After-most_of = lts.After-most_of tie.the-claims reads.Pre reads.Post
+After-most_of = places.After-most_of tie.the-claims contract.Pre contract.Post
 
 abbrev After-least_of : Type 0
-After-least_of = lts.After-least_of tie.the-claims reads.Pre reads.Post
+After-least_of = places.After-least_of tie.the-claims contract.Pre contract.Post
 
 -- what the machine reads back from the bits of each value
 module _ (s : Start) where
   m : Back w32 s.args.m
-  m = back s.ranges.m
+  m = back {w = w32} s.ranges.m
 
   n : Back w32 s.args.n
-  n = back s.ranges.n
+  n = back {w = w32} s.ranges.n
 
   low : Back w32 s.args.low
-  low = back s.ranges.low
+  low = back {w = w32} s.ranges.low
 
   high : Back w32 s.args.high
-  high = back s.ranges.high
+  high = back {w = w32} s.ranges.high
 
 larger : (c : After-most_of) → Back w32 c.most_of.result
-larger c = back (record { sfits = c.most_of.type-inv })
+larger c = back {w = w32} (record { sfits = c.most_of.type_inv })
 
 smaller : (c : After-least_of) → Back w32 c.least_of.result
-smaller c = back (record { sfits = c.least_of.type-inv })
+smaller c = back {w = w32} (record { sfits = c.least_of.type_inv })
 
 ruleset read = (m, n, low, high, larger, smaller)
 

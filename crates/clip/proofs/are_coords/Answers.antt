@@ -6,26 +6,26 @@ use Rattle.clip.specs.Domain.{within, is_coord}
 use Rattle.clip.proofs.Tests.{by_ends}
 use Rattle.clip.proofs.are_coords.Goals as goal
 use Rattle.clip.proofs.are_coords.Tie as tie
-use Rattle.clip.proofs.are_coords.Reads as reads
-use Rattle.clip.proofs.are_coords.Lts as lts
+use Rattle.clip.proofs.are_coords.Reads as contract
+use Rattle.clip.proofs.are_coords.Lts as places
 
 -- the places on the way that the lemmas below speak of
 abbrev Start : Type 0
-Start = lts.Start tie.the-claims reads.Pre reads.Post
+Start = places.Start tie.the-claims contract.Pre contract.Post
 
 -- what the machine reads back from the bits of each value
 module _ (s : Start) where
   x0 : Back w32 s.args.s.p0.x
-  x0 = back (search rules depth 12)
+  x0 = back {w = w32} (search rules depth 12)
 
   y0 : Back w32 s.args.s.p0.y
-  y0 = back (search rules depth 12)
+  y0 = back {w = w32} (search rules depth 12)
 
   x1 : Back w32 s.args.s.p1.x
-  x1 = back (search rules depth 12)
+  x1 = back {w = w32} (search rules depth 12)
 
   y1 : Back w32 s.args.s.p1.y
-  y1 = back (search rules depth 12)
+  y1 = back {w = w32} (search rules depth 12)
 
 ruleset read = (x0, y0, x1, y1)
 

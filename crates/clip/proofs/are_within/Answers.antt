@@ -6,32 +6,32 @@ use Rattle.clip.specs.Cutting.{least, most}
 use Rattle.clip.proofs.Tests.{both_within}
 use Rattle.clip.proofs.are_within.Goals as goal
 use Rattle.clip.proofs.are_within.Tie as tie
-use Rattle.clip.proofs.are_within.Reads as reads
-use Rattle.clip.proofs.are_within.Lts as lts
+use Rattle.clip.proofs.are_within.Reads as contract
+use Rattle.clip.proofs.are_within.Lts as places
 
 -- the places on the way that the lemmas below speak of
 abbrev Start : Type 0
-Start = lts.Start tie.the-claims reads.Pre reads.Post
+Start = places.Start tie.the-claims contract.Pre contract.Post
 
 abbrev After-least_of : Type 0
-After-least_of = lts.After-least_of tie.the-claims reads.Pre reads.Post
+After-least_of = places.After-least_of tie.the-claims contract.Pre contract.Post
 
 abbrev After-most_of : Type 0
-After-most_of = lts.After-most_of tie.the-claims reads.Pre reads.Post
+After-most_of = places.After-most_of tie.the-claims contract.Pre contract.Post
 
 -- what the machine reads back from the bits of each value
 module _ (s : Start) where
   m : Back w32 s.args.m
-  m = back s.ranges.m
+  m = back {w = w32} s.ranges.m
 
   n : Back w32 s.args.n
-  n = back s.ranges.n
+  n = back {w = w32} s.ranges.n
 
 smaller : (c : After-least_of) → Back w32 c.least_of.result
-smaller c = back (record { sfits = c.least_of.type-inv })
+smaller c = back {w = w32} (record { sfits = c.least_of.type_inv })
 
 larger : (c : After-most_of) → Back w32 c.most_of.result
-larger c = back (record { sfits = c.most_of.type-inv })
+larger c = back {w = w32} (record { sfits = c.most_of.type_inv })
 
 ruleset read = (m, n, smaller, larger)
 

@@ -2,12 +2,12 @@
 use Rattle.whole.proofs.Machine.{back}
 use Rattle.clip.proofs.Tests.{least_first, least_second}
 use Rattle.clip.proofs.least_of.Goals as goal
-use Rattle.clip.proofs.least_of.Reads as reads
-use Rattle.clip.proofs.least_of.Lts as lts
+use Rattle.clip.proofs.least_of.Reads as contract
+use Rattle.clip.proofs.least_of.Lts as places
 
 -- the places on the way that the lemmas below speak of
 abbrev Start : Type 0
-Start = lts.Start reads.Pre reads.Post
+Start = places.Start contract.Pre contract.Post
 
 pub returns-then-m-n : goal.returns-then-m-n
 returns-then-m-n c = let s : Start = c.before in least_first (back s.ranges.m) (back s.ranges.n) c.if-m-n.true

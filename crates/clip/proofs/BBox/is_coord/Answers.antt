@@ -6,22 +6,22 @@ use Rattle.whole.proofs.Machine.{Back, back}
 use Rattle.clip.specs.Domain.{is_coord}
 use Rattle.clip.proofs.BBox.is_coord.Goals as goal
 use Rattle.clip.proofs.BBox.is_coord.Tie as tie
-use Rattle.clip.proofs.BBox.is_coord.Reads as reads
-use Rattle.clip.proofs.BBox.is_coord.Lts as lts
+use Rattle.clip.proofs.BBox.is_coord.Reads as contract
+use Rattle.clip.proofs.BBox.is_coord.Lts as places
 
 -- the places on the way that the lemmas below speak of
 abbrev Start : Type 0
-Start = lts.Start tie.the-claims reads.Pre reads.Post
+Start = places.Start tie.the-claims contract.Pre contract.Post
 
 module _ (s : Start) where
   x : Back w32 s.args.p.x
-  x = back (search rules depth 12)
+  x = back {w = w32} (search rules depth 12)
 
   y : Back w32 s.args.p.y
-  y = back (search rules depth 12)
+  y = back {w = w32} (search rules depth 12)
 
 ruleset read = (x, y)
 
 pub returns : goal.returns
 unfolding is_coord
-returns c = rw (simp read at c.is_Within.ensures, simp read at c.is_within-2.ensures) refl
+returns c = rw (simp read at c.is_within.ensures, simp read at c.is_within-2.ensures) refl

@@ -3,38 +3,39 @@ use borrow.Author.Rules.{rules}
 use Rattle.whole.proofs.Machine.{back}
 use Rattle.clip.proofs.Ends.{low}
 use Rattle.clip.proofs.Cuts.{Reads, both_out, none_out, asked_0, asked_1, stays_0, goes_0, stays_1, goes_1}
+use mir.Syntax.{w32}
 use Rattle.clip.proofs.cutting.cut_low.Goals as goal
 use Rattle.clip.proofs.cutting.cut_low.Tie as tie
-use Rattle.clip.proofs.cutting.cut_low.Reads as reads
-use Rattle.clip.proofs.cutting.cut_low.Lts as lts
+use Rattle.clip.proofs.cutting.cut_low.Reads as contract
+use Rattle.clip.proofs.cutting.cut_low.Lts as places
 
 -- the places on the way that the lemmas below speak of
 abbrev Start : Type 0
-Start = lts.Start tie.the-claims reads.Pre reads.Post
+Start = places.Start tie.the-claims contract.Pre contract.Post tie.handed_clauses
 
 reads : (s : Start) → Reads s.args.c.seg s.args.x s.args.a s.args.b
-reads s = record { x0 = back (search rules depth 12); y0 = back (search rules depth 12); x1 = back (search rules depth 12); y1 = back (search rules depth 12); at = back s.ranges.x; from = back s.ranges.a; to = back s.ranges.b }
+reads s = record { x0 = back {w = w32} (search rules depth 12); y0 = back {w = w32} (search rules depth 12); x1 = back {w = w32} (search rules depth 12); y1 = back {w = w32} (search rules depth 12); at = back s.ranges.x; from = back s.ranges.a; to = back s.ranges.b }
 
 pub returns-then-p1-x : goal.returns-then-p1-x
-returns-then-p1-x c = let k = c.before.before in let s = k.before.before in both_out low s.args.lower s.args.c s.args.x s.args.a s.args.b (reads s) k.if1.taken c.if-p1-x.true
+returns-then-p1-x c = both_out low c.args.lower c.args.c c.args.x c.args.a c.args.b (reads c.before.before.before.before.before.before.before.before.before) c.if-p0-x.true c.if-p1-x.true
 
 pub intersect_at_x-requires : goal.intersect_at_x-requires
-intersect_at_x-requires c = let k = c.before.before.before in let s = k.before.before in asked_0 low s.args.lower s.args.c s.args.x s.args.a s.args.b (reads s) s.pre.0 s.pre.1 k.if1.taken c.if-p1-x.false
+intersect_at_x-requires c = asked_0 low c.args.lower c.args.c c.args.x c.args.a c.args.b (reads c.before.before.before.before.before.before.before.before.before.before) c.requires.coord c.requires.coord_2 c.if-p0-x.true c.if-p1-x.false
 
 pub returns-in-At : goal.returns-in-At
-returns-in-At c = let o = c.before.before.before.before.before.before.before in let s = o.before.before in let v = c.y-1.given in goes_0 low s.args.lower s.args.c s.args.x s.args.a s.args.b (reads s) c.intersect_at_x.result c.intersect_at_x.ensures o.if1.taken v.0.0 (back (search rules depth 12)) v.1
+returns-in-At c = goes_0 low c.args.lower c.args.c c.args.x c.args.a c.args.b (reads c.before.before.before.before.before.before.before.before.before.before.before.before) c.intersect_at_x.result c.intersect_at_x.ensures c.if-p0-x.true c.in-At.y (back {w = w32} (search rules depth 12)) c.in-At.is
 
 pub returns-in-Nowhere : goal.returns-in-Nowhere
-returns-in-Nowhere c = let s = start c.before.before.before.before.before.before.before in stays_0 low s.args.lower s.args.c s.args.x s.args.a s.args.b (reads s) c.intersect_at_x.result c.intersect_at_x.ensures c.in-Nowhere.is
+returns-in-Nowhere c = stays_0 low c.args.lower c.args.c c.args.x c.args.a c.args.b (reads c.before.before.before.before.before.before.before.before.before.before.before) c.intersect_at_x.result c.intersect_at_x.ensures c.in-Nowhere.is
 
 pub intersect_at_x-requires-then-p1-x-2 : goal.intersect_at_x-requires-then-p1-x-2
-intersect_at_x-requires-then-p1-x-2 c = let k = c.before.before.before in let s = k.before.before in asked_1 low s.args.lower s.args.c s.args.x s.args.a s.args.b (reads s) s.pre.0 s.pre.1 k.if1.left c.if-p1-x-2.true
+intersect_at_x-requires-then-p1-x-2 c = asked_1 low c.args.lower c.args.c c.args.x c.args.a c.args.b (reads c.before.before.before.before.before.before.before.before.before.before) c.requires.coord c.requires.coord_2 c.if-p0-x.false c.if-p1-x-2.true
 
 pub returns-in-At-intersect_at_x : goal.returns-in-At-intersect_at_x
-returns-in-At-intersect_at_x c = let l = c.before.before.before.before.before.before.before in let s = l.before.before in let v = c.y-in-At-intersect_at_x-2-1.given in goes_1 low s.args.lower s.args.c s.args.x s.args.a s.args.b (reads s) c.intersect_at_x-then-p1-x-2.result c.intersect_at_x-then-p1-x-2.ensures l.if1.left c.if-p1-x-2.true v.0.0 (back (search rules depth 12)) v.1
+returns-in-At-intersect_at_x c = goes_1 low c.args.lower c.args.c c.args.x c.args.a c.args.b (reads c.before.before.before.before.before.before.before.before.before.before.before.before) c.intersect_at_x-then-p1-x-2.result c.intersect_at_x-then-p1-x-2.ensures c.if-p0-x.false c.if-p1-x-2.true c.in-At-intersect_at_x.y (back {w = w32} (search rules depth 12)) c.in-At-intersect_at_x.is
 
 pub returns-in-Nowhere-intersect_at_x : goal.returns-in-Nowhere-intersect_at_x
-returns-in-Nowhere-intersect_at_x c = let s = start c.before.before.before.before.before.before.before in stays_1 low s.args.lower s.args.c s.args.x s.args.a s.args.b (reads s) c.intersect_at_x-then-p1-x-2.result c.intersect_at_x-then-p1-x-2.ensures c.in-Nowhere-intersect_at_x.is
+returns-in-Nowhere-intersect_at_x c = stays_1 low c.args.lower c.args.c c.args.x c.args.a c.args.b (reads c.before.before.before.before.before.before.before.before.before.before.before) c.intersect_at_x-then-p1-x-2.result c.intersect_at_x-then-p1-x-2.ensures c.in-Nowhere-intersect_at_x.is
 
 pub returns : goal.returns
-returns c = let k = c.before.before in let s = k.before.before in none_out low s.args.lower s.args.c s.args.x s.args.a s.args.b (reads s) k.if1.left c.if-p1-x-2.false
+returns c = none_out low c.args.lower c.args.c c.args.x c.args.a c.args.b (reads c.before.before.before.before.before.before.before.before.before) c.if-p0-x.false c.if-p1-x-2.false

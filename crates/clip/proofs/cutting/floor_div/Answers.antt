@@ -9,32 +9,32 @@ use Rattle.whole.specs.Floor.{floor}
 use Rattle.whole.proofs.Machine.{Back, back, bits_pos}
 use Rattle.whole.proofs.Floors.{floor_is, floor_fits, quot_fits, rem_fits}
 use Rattle.clip.proofs.cutting.floor_div.Goals as goal
-use Rattle.clip.proofs.cutting.floor_div.Reads as reads
-use Rattle.clip.proofs.cutting.floor_div.Lts as lts
+use Rattle.clip.proofs.cutting.floor_div.Reads as contract
+use Rattle.clip.proofs.cutting.floor_div.Lts as places
 
 -- the places on the way that the lemmas below speak of
 abbrev Start : Type 0
-Start = lts.Start reads.Pre reads.Post
+Start = places.Start contract.Pre contract.Post
 
 abbrev Then-r-lt0 : Type 0
-Then-r-lt0 = lts.Then1 reads.Pre reads.Post
+Then-r-lt0 = places.Then1 contract.Pre contract.Post
 
 -- what the machine reads back from the bits of each value on the way
 module _ (s : Start) where
   n : Back w64 s.args.n
-  n = back s.ranges.n
+  n = back {w = w64} s.ranges.n
 
   d : Back w64 s.args.d
-  d = back s.ranges.d
+  d = back {w = w64} s.ranges.d
 
   q : Back w64 (quot_z s.args.n s.args.d)
-  q = back (quot_fits s.pre s.ranges.n)
+  q = back {w = w64} (quot_fits s.requires s.ranges.n)
 
   r : Back w64 (rem_z s.args.n s.args.d)
-  r = back (rem_fits s.args.d s.ranges.n)
+  r = back {w = w64} (rem_fits s.args.d s.ranges.n)
 
   f_floor : SFits w64 (floor s.args.n s.args.d)
-  f_floor = floor_fits s.pre (floor_is s.args.n s.args.d s.pre) s.ranges.n
+  f_floor = floor_fits s.requires (floor_is s.args.n s.args.d s.requires) s.ranges.n
 
 ruleset read = (n, d, q, r)
 
@@ -56,7 +56,7 @@ module _ (c : Then-r-lt0) where
   f_less = subst (SFits w64) (sym one_less) (f_floor c.before)
 
   less : Back w64 (quot_z c.args.n c.args.d -ℤ pos 1)
-  less = back f_less
+  less = back {w = w64} f_less
 
 ruleset last = (read, less)
 

@@ -7,68 +7,68 @@ use Rattle.clip.specs.Cutting.{height}
 use Rattle.clip.proofs.Heights.{f_dy, f_den, f_at, f_num, f_2num, f_sum, f_2den, den_pos, size_height}
 use Rattle.clip.proofs.cutting.height_at.Goals as goal
 use Rattle.clip.proofs.cutting.height_at.Tie as tie
-use Rattle.clip.proofs.cutting.height_at.Reads as reads
-use Rattle.clip.proofs.cutting.height_at.Lts as lts
+use Rattle.clip.proofs.cutting.height_at.Reads as contract
+use Rattle.clip.proofs.cutting.height_at.Lts as places
 
 -- the places on the way that the lemmas below speak of
 abbrev Start : Type 0
-Start = lts.Start tie.the-claims reads.Pre reads.Post
+Start = places.Start tie.the-claims contract.Pre contract.Post
 
 abbrev After-floor_div-q : Type 0
-After-floor_div-q = lts.After-floor_div tie.the-claims reads.Pre reads.Post
+After-floor_div-q = places.After-floor_div tie.the-claims contract.Pre contract.Post
 
 -- what the machine reads back from the bits of each value on the way
 module _ (s : Start) where
   y1 : Back w32 s.args.y1
-  y1 = back s.ranges.y1
+  y1 = back {w = w32} s.ranges.y1
 
   y2 : Back w32 s.args.y2
-  y2 = back s.ranges.y2
+  y2 = back {w = w32} s.ranges.y2
 
   x1 : Back w32 s.args.x1
-  x1 = back s.ranges.x1
+  x1 = back {w = w32} s.ranges.x1
 
   x2 : Back w32 s.args.x2
-  x2 = back s.ranges.x2
+  x2 = back {w = w32} s.ranges.x2
 
   x : Back w32 s.args.x
-  x = back s.ranges.x
+  x = back {w = w32} s.ranges.x
 
   y1w : Back w64 s.args.y1
-  y1w = back (widened s.ranges.y1)
+  y1w = back {w = w64} (widened s.ranges.y1)
 
   y2w : Back w64 s.args.y2
-  y2w = back (widened s.ranges.y2)
+  y2w = back {w = w64} (widened s.ranges.y2)
 
   x1w : Back w64 s.args.x1
-  x1w = back (widened s.ranges.x1)
+  x1w = back {w = w64} (widened s.ranges.x1)
 
   x2w : Back w64 s.args.x2
-  x2w = back (widened s.ranges.x2)
+  x2w = back {w = w64} (widened s.ranges.x2)
 
   xw : Back w64 s.args.x
-  xw = back (widened s.ranges.x)
+  xw = back {w = w64} (widened s.ranges.x)
 
   dy : Back w64 (s.args.y2 -ℤ s.args.y1)
-  dy = back (f_dy s.pre)
+  dy = back {w = w64} (f_dy s.requires)
 
   den : Back w64 (s.args.x2 -ℤ s.args.x1)
-  den = back (f_den s.pre)
+  den = back {w = w64} (f_den s.requires)
 
   at : Back w64 (s.args.x -ℤ s.args.x1)
-  at = back (f_at s.pre)
+  at = back {w = w64} (f_at s.requires)
 
   num : Back w64 ((s.args.y2 -ℤ s.args.y1) *ℤ (s.args.x -ℤ s.args.x1))
-  num = back (f_num s.pre)
+  num = back {w = w64} (f_num s.requires)
 
   num2 : Back w64 (pos 2 *ℤ ((s.args.y2 -ℤ s.args.y1) *ℤ (s.args.x -ℤ s.args.x1)))
-  num2 = back (f_2num s.pre)
+  num2 = back {w = w64} (f_2num s.requires)
 
   sum : Back w64 (pos 2 *ℤ ((s.args.y2 -ℤ s.args.y1) *ℤ (s.args.x -ℤ s.args.x1)) +ℤ (s.args.x2 -ℤ s.args.x1))
-  sum = back (f_sum s.pre)
+  sum = back {w = w64} (f_sum s.requires)
 
   den2 : Back w64 (pos 2 *ℤ (s.args.x2 -ℤ s.args.x1))
-  den2 = back (f_2den s.pre)
+  den2 = back {w = w64} (f_2den s.requires)
 
   abbrev result : ℤ
   result = height s.args.x1 s.args.y1 s.args.x2 s.args.y2 s.args.x
@@ -123,13 +123,13 @@ module _ (c : After-floor_div-q) where
   made = ap (λ (z : ℤ). c.args.y1 +ℤ z) (simp read at c.floor_div-q.ensures)
 
   q : Back w64 c.floor_div-q.result
-  q = back (record { sfits = c.floor_div-q.type-inv })
+  q = back {w = w64} (record { sfits = c.floor_div-q.type_inv })
 
   r64 : Back w64 (result c.before)
-  r64 = back (fit_size (size_height c.requires) tt)
+  r64 = back {w = w64} (fit_size (size_height c.requires) tt)
 
   r32 : Back w32 (result c.before)
-  r32 = back (fit_size (size_height c.requires) tt)
+  r32 = back {w = w32} (fit_size (size_height c.requires) tt)
 
 ruleset last = (read, q)
 

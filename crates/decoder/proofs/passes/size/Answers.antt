@@ -24,10 +24,8 @@ returns-in_default c = search (rules, count_out)
 
 pub overflow_add-n-in-Draw : goal.overflow_add-n-in-Draw
 overflow_add-n-in-Draw c =
-    let o = c.before.before in
-    let a = o.before in
-    let s = count_small _ _ _ a.before.before.before.loop.inv a.before.if1.taken _ a.ask.ensures _ _ o.before.before.before.id.given.1 _ o.before.begun.ensures in
-    record { fits = omega (arith, s, a.before.before.before.before.before.before.good) }
+    let s = count_small _ _ _ c.loop-pen.invariant c.loop-pen-test.true _ c.ask.ensures _ _ c.in-Draw.is _ c.begun-first.ensures in
+    record { fits = omega (arith, s, c.well_formed) }
 
 pub loop-pen-smaller : goal.loop-pen-smaller
 loop-pen-smaller c = search (rules, draw_nearer)

@@ -5,12 +5,12 @@ use borrow.Author.Rules.{rules}
 use Rattle.decoder.proofs.Standing.{laid_start, laid_end, laid_never, laid_known, laid_room, laid_close, laid_past, laid_id, laid_stands, laid_fits, laid_draw, laid_sum, laid_nearer}
 use Rattle.decoder.proofs.passes.write.Goals as goal
 use Rattle.decoder.proofs.passes.write.Tie as tie
-use Rattle.decoder.proofs.passes.write.Reads as reads
-use Rattle.decoder.proofs.passes.write.Lts as lts
+use Rattle.decoder.proofs.passes.write.Reads as contract
+use Rattle.decoder.proofs.passes.write.Lts as places
 
 -- the places on the way that the lemmas below speak of
 abbrev After-out-in-Draw-1 : Type 0
-After-out-in-Draw-1 = lts.After-out2 tie.the-claims reads.Pre reads.Post goal.the-invariant-loop-pen goal.the-decreases-loop-pen
+After-out-in-Draw-1 = places.After-out2 tie.the-claims contract.Pre contract.Post goal.the-invariant-loop-pen goal.the-decreases-loop-pen
 
 pub loop-pen-init : goal.loop-pen-init
 loop-pen-init c = search (rules, laid_start)
@@ -31,19 +31,17 @@ pub fill-pen-requires : goal.fill-pen-requires
 fill-pen-requires c = search (rules, laid_id, laid_stands, laid_fits)
 
 -- the numbers of all pairs have room behind those that are laid
-room_for_pairs : (c : After-out-in-Draw-1 goal.the-invariant-loop-pen goal.the-decreases-loop-pen) →
-    c.loop-pen.n + 3 * c.in-Draw.pairs ≤ length (start_of c.before.before.before.before.before.before.before).args.out.now
+room_for_pairs : (c : After-out-in-Draw-1) →
+    c.loop-pen.n + 3 * c.in-Draw.pairs ≤ length c.args.out.now
 room_for_pairs c =
-    let f = c.before in
-    let a = f.before in
-    laid_sum _ _ _ _ _ a.before.before.before.loop.inv a.before.pre a.before.if1.taken _ a.ask.ensures _ _
-    f.before.before.before.before.id.given.1 _ f.before.before.begun.ensures _ _ f.fill.ensures
+    laid_sum _ _ _ _ _ c.loop-pen.invariant c.requires c.loop-pen-test.true _ c.ask.ensures _ _
+    c.in-Draw.is _ c.begun-first.ensures _ _ c.fill-pen.ensures
 
 pub overflow_mul-n : goal.overflow_mul-n
-overflow_mul-n c = record { fits = omega (arith, room_for_pairs c.before, (start_of c.before.before.before.before.before.before.before.before).good) }
+overflow_mul-n c = record { fits = omega (arith, room_for_pairs c.before, c.well_formed) }
 
 pub overflow_add-n-in-Draw : goal.overflow_add-n-in-Draw
-overflow_add-n-in-Draw c = record { fits = omega (arith, room_for_pairs c.before, (start_of c.before.before.before.before.before.before.before.before).good) }
+overflow_add-n-in-Draw c = record { fits = omega (arith, room_for_pairs c.before, c.well_formed) }
 
 pub loop-pen-smaller : goal.loop-pen-smaller
 loop-pen-smaller c = search (rules, laid_nearer)

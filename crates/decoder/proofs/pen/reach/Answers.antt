@@ -7,12 +7,12 @@ use Rattle.whole.proofs.Machine.{Back, back, widened, i32_sum}
 use Rattle.words.proofs.Params.{unparam_fits}
 use Rattle.decoder.proofs.pen.reach.Goals as goal
 use Rattle.decoder.proofs.pen.reach.Tie as tie
-use Rattle.decoder.proofs.pen.reach.Reads as reads
-use Rattle.decoder.proofs.pen.reach.Lts as lts
+use Rattle.decoder.proofs.pen.reach.Reads as contract
+use Rattle.decoder.proofs.pen.reach.Lts as places
 
 -- the places on the way that the lemmas below speak of
 abbrev After-decode-step : Type 0
-After-decode-step = lts.After-decode tie.the-claims reads.Pre reads.Post
+After-decode-step = places.After-decode tie.the-claims contract.Pre contract.Post
 
 -- what the machine reads back from the bits of each number on the way
 module _ (c : After-decode-step) where
@@ -20,19 +20,19 @@ module _ (c : After-decode-step) where
   fit = rw c.decode-step.ensures (unparam_fits c.args.word (omega arith))
 
   place : Back w32 c.args.place
-  place = back c.ranges.place
+  place = back {w = w32} c.ranges.place
 
   place_wide : Back w64 c.args.place
-  place_wide = back (widened c.ranges.place)
+  place_wide = back {w = w64} (widened c.ranges.place)
 
   step : Back w32 c.decode-step.result.value
-  step = back fit
+  step = back {w = w32} fit
 
   step_wide : Back w64 c.decode-step.result.value
-  step_wide = back (widened fit)
+  step_wide = back {w = w64} (widened fit)
 
   sum : Back w64 (c.args.place +ℤ c.decode-step.result.value)
-  sum = back (i32_sum c.ranges.place fit)
+  sum = back {w = w64} (i32_sum c.ranges.place fit)
 
 ruleset read = (place, place_wide, step, step_wide, sum)
 

@@ -1,0 +1,127 @@
+use Rattle.std.proofs.Common.{◌≡◌, ◌+◌, ◌-◌, ◌*◌, ◌≤◌, length, ap, ◌∙◌, arith, length-set, w32, to_z, of_z, rules}
+use lib.Ieee.{nan}
+use Rattle.whole.proofs.Machine.{back}
+use Rattle.clip.specs.declared.Pt.{Pt}
+use Rattle.affine.specs.Facts.{MapsPlain}
+use Rattle.affine.proofs.Turns.{maps_none, maps_one, maps_long, maps_more, maps_all, fits_points, fits_out}
+use Rattle.affine.proofs.Affine.map_points.Goals as goal
+use Rattle.affine.proofs.Affine.map_points.Tie as tie
+use Rattle.affine.proofs.Affine.map_points.Reads as contract
+use Rattle.affine.proofs.Affine.map_points.Lts as places
+
+-- the places on the way that the lemmas below speak of
+abbrev After-smaller-n : Type 0
+After-smaller-n = places.After-smaller tie.the-claims contract.Pre contract.Post tie.handed_clauses goal.the-invariant-loop-i goal.the-decreases-loop-i
+
+abbrev At-loop-i : Type 0
+At-loop-i = places.At-loop tie.the-claims contract.Pre contract.Post tie.handed_clauses goal.the-invariant-loop-i goal.the-decreases-loop-i
+
+abbrev After-out-1 : Type 0
+After-out-1 = places.After-out tie.the-claims contract.Pre contract.Post tie.handed_clauses goal.the-invariant-loop-i goal.the-decreases-loop-i
+
+abbrev Then-i-end : Type 0
+Then-i-end = places.Then1 tie.the-claims contract.Pre contract.Post tie.handed_clauses goal.the-invariant-loop-i goal.the-decreases-loop-i
+
+abbrev After-struct_told-then-i-end-1 : Type 0
+After-struct_told-then-i-end-1 = places.After-struct_told2 tie.the-claims contract.Pre contract.Post tie.handed_clauses goal.the-invariant-loop-i goal.the-decreases-loop-i
+
+-- both lists hold n points
+inside : (c : After-smaller-n) → 2 * c.smaller-n.result ≤ length c.args.points.now
+inside c = omega (arith, fits_points c.args.points.now c.args.out.now c.smaller-n.result c.smaller-n.ensures)
+
+room : (c : After-smaller-n) → 2 * c.smaller-n.result ≤ length c.args.out.now
+room c = omega (arith, fits_out c.args.points.now c.args.out.now c.smaller-n.result c.smaller-n.ensures)
+
+pub overflow_mul-end : goal.overflow_mul-end
+overflow_mul-end c = let h = inside c.before in search rules
+
+pub loop-i-init : goal.loop-i-init
+loop-i-init c = maps_none (inside c.before) (room c.before) (omega arith)
+
+-- the list that is laid in keeps its length
+long : (c : At-loop-i) → length c.loop-i.out ≡ length c.args.out.now
+long c = maps_long (inside c.before) (room c.before) c.loop-i.invariant
+
+pub map_plain-i-requires : goal.map_plain-i-requires
+map_plain-i-requires c =
+    let v = c.loop-i.invariant in record { from_le_to = v.upto; from_value = omega (arith, v.upto, v.whole); to_in_bounds = inside c.before.before.before.before; to_in_bounds_2 = omega (arith, long c.before.before.before, room c.before.before.before.before) }
+
+-- behind a run of plain points
+after : (c : After-out-1) →
+    MapsPlain c.args.self c.args.points.now 0 (2 * c.smaller-n.result) c.args.out.now c.map_plain-i.result c.map_plain-i.new.out
+after c =
+    maps_more (inside c.before.before.before.before.before) (room c.before.before.before.before.before) c.loop-i.invariant c.map_plain-i.ensures
+
+after_long : (c : After-out-1) → length c.map_plain-i.new.out ≡ length c.args.out.now
+after_long c = maps_long (inside c.before.before.before.before.before) (room c.before.before.before.before.before) (after c)
+
+-- a whole point is left, inside both lists
+left : (c : Then-i-end) → c.map_plain-i.result + 2 ≤ 2 * c.smaller-n.result
+left c = omega (arith, (after c.before).whole, c.if-i-end.true)
+
+in_points : (c : Then-i-end) → c.map_plain-i.result + 2 ≤ length c.args.points.now
+in_points c = omega (arith, inside c.before.before.before.before.before.before, left c)
+
+in_out : (c : Then-i-end) → c.map_plain-i.result + 2 ≤ length c.map_plain-i.new.out
+in_out c = omega (arith, room c.before.before.before.before.before.before, left c, after_long c.before)
+
+-- its numbers, read back from the machine's bits
+x_back : (c : After-struct_told-then-i-end-1) → to_z w32 (of_z w32 c.grid_point-p.result.x) ≡ c.grid_point-p.result.x
+x_back c = back {w = w32} (search rules)
+
+y_back : (c : After-struct_told-then-i-end-1) → to_z w32 (of_z w32 c.grid_point-p.result.y) ≡ c.grid_point-p.result.y
+y_back c = back {w = w32} (search rules)
+
+pub offset_bounds-points-i : goal.offset_bounds-points-i
+offset_bounds-points-i c = let h = in_points c.before in search rules
+
+pub bounds-points-i : goal.bounds-points-i
+bounds-points-i c = let h = in_points c.before.before in search rules
+
+pub overflow_add-i : goal.overflow_add-i
+overflow_add-i c = let h = in_points c.before.before in search rules
+
+pub offset_bounds-points-i-then-i-end : goal.offset_bounds-points-i-then-i-end
+offset_bounds-points-i-then-i-end c = let h = in_points c.before.before in search rules
+
+pub bounds-points-i-then-i-end : goal.bounds-points-i-then-i-end
+bounds-points-i-then-i-end c = let h = in_points c.before.before.before in search rules
+
+pub offset_bounds-out-i : goal.offset_bounds-out-i
+offset_bounds-out-i c = let h = in_points c.before.before.before.before.before.before in search rules
+
+pub bounds-out-i : goal.bounds-out-i
+bounds-out-i c = omega (arith, in_out c.before.before.before.before.before.before)
+
+pub overflow_add-y : goal.overflow_add-y
+overflow_add-y c = let h = in_points c.before.before.before.before.before.before in search rules
+
+pub offset_bounds-out-i-then-i-end : goal.offset_bounds-out-i-then-i-end
+offset_bounds-out-i-then-i-end c = let h = in_points c.before.before.before.before.before.before in search rules
+
+pub bounds-out-i-then-i-end : goal.bounds-out-i-then-i-end
+bounds-out-i-then-i-end c = simp length-set (omega (arith, in_out c.before.before.before.before.before.before))
+
+pub overflow_add-i-then-i-end : goal.overflow_add-i-then-i-end
+overflow_add-i-then-i-end c = let h = in_points c.before.before.before.before.before.before in search rules
+
+pub loop-i-smaller-then-i-end : goal.loop-i-smaller-then-i-end
+loop-i-smaller-then-i-end c = omega (arith, c.if-i-end.true, c.map_plain-i.ensures.ahead, c.loop-i-test.true)
+
+pub loop-i-preserved-then-i-end : goal.loop-i-preserved-then-i-end
+loop-i-preserved-then-i-end c =
+    let p = c.grid_point-p in
+    maps_more (inside c.before.before.before.before.before.before.before.before.before.before.before.before) (room c.before.before.before.before.before.before.before.before.before.before.before.before) (after c.before.before.before.before.before.before.before)
+    (maps_one (inside c.before.before.before.before.before.before.before.before.before.before.before.before) (omega (arith, room c.before.before.before.before.before.before.before.before.before.before.before.before, after_long c.before.before.before.before.before.before.before)) nan (left c.before.before.before.before.before.before) (x_back c.before ∙ ap (λ (q : Pt). q.x) p.ensures) (y_back c.before ∙ ap (λ (q : Pt). q.y) p.ensures))
+
+pub loop-i-smaller : goal.loop-i-smaller
+loop-i-smaller c = omega (arith, c.if-i-end.false, c.loop-i-test.true)
+
+pub loop-i-preserved : goal.loop-i-preserved
+loop-i-preserved c = after c.before.before
+
+pub shape_of-out : goal.shape_of-out
+shape_of-out c = long c.before.before
+
+pub returns : goal.returns
+returns c = maps_all c.smaller-n.ensures c.loop-i-test.false c.loop-i.invariant

@@ -1,0 +1,113 @@
+use Rattle.std.proofs.Common.{◌≡◌, ◌+◌, ◌-◌, ◌≤◌, length, get_or, arith, length-set, rules}
+use lib.Ieee.{nan}
+use Rattle.affine.proofs.Plain.{Tested, cast_across, cast_upward, is_x, is_y}
+use Rattle.affine.proofs.Turns.{maps_none, maps_one, maps_long, maps_more}
+use Rattle.affine.proofs.map_plain.Goals as goal
+use Rattle.affine.proofs.map_plain.Tie as tie
+use Rattle.affine.proofs.map_plain.Reads as contract
+use Rattle.affine.proofs.map_plain.Lts as places
+
+-- the places on the way that the lemmas below speak of
+abbrev At-loop-i : Type 0
+At-loop-i = places.At-loop tie.the-claims contract.Pre contract.Post tie.handed_clauses goal.the-invariant-loop-i goal.the-decreases-loop-i
+
+abbrev In-loop-i : Type 0
+In-loop-i = places.In-loop tie.the-claims contract.Pre contract.Post tie.handed_clauses goal.the-invariant-loop-i goal.the-decreases-loop-i
+
+abbrev Else-not-on_grid-near : Type 0
+Else-not-on_grid-near = places.Else1 tie.the-claims contract.Pre contract.Post tie.handed_clauses goal.the-invariant-loop-i goal.the-decreases-loop-i
+
+pub loop-i-init : goal.loop-i-init
+loop-i-init c = maps_none c.requires.to_in_bounds c.requires.to_in_bounds_2 c.requires.from_le_to
+
+-- the list that is laid in keeps its length
+long : (c : At-loop-i) → length c.loop-i.out ≡ length c.args.out.now
+long c = maps_long c.requires.to_in_bounds c.requires.to_in_bounds_2 c.loop-i.invariant
+
+-- a whole point is left
+left : (c : In-loop-i) → c.loop-i.i + 2 ≤ c.args.to
+left c =
+    omega (arith, c.loop-i.invariant.ahead, c.loop-i.invariant.whole, c.requires.from_le_to, c.requires.from_value, c.loop-i-test.true)
+
+in_points : (c : In-loop-i) → c.loop-i.i + 2 ≤ length c.args.points.now
+in_points c = omega (arith, left c, c.requires.to_in_bounds)
+
+in_out : (c : In-loop-i) → c.loop-i.i + 2 ≤ length c.loop-i.out
+in_out c = omega (arith, left c, long c.before, c.requires.to_in_bounds_2)
+
+-- what is known of the point at i where its tests have passed
+abbrev Passed : Else-not-on_grid-near → Type 0
+Passed c =
+    Tested c.args.t (get_or c.args.points.now c.loop-i.i nan) (get_or c.args.points.now (c.loop-i.i + 1) nan)
+    c.along-u.result c.along-v.result c.stepped-s.result c.stepped-w.result
+    c.is_on_grid.result c.is_on_grid-in-loop-i.result c.is_near.result c.is_near-in-loop-i.result
+
+tested : (c : Else-not-on_grid-near) → Passed c
+tested c =
+    record {
+      across = c.along-u.ensures;
+      upward = c.along-v.ensures;
+      step_across = c.stepped-s.ensures;
+      step_upward = c.stepped-w.ensures;
+      on_across = c.is_on_grid.ensures;
+      on_upward = c.is_on_grid-in-loop-i.ensures;
+      near_across = c.is_near.ensures;
+      near_upward = c.is_near-in-loop-i.ensures;
+      passed = c.if-not-on_grid-near.false-raw;
+    }
+
+pub offset_bounds-points-i : goal.offset_bounds-points-i
+offset_bounds-points-i c = let h = in_points c.before in search rules
+
+pub bounds-points-i : goal.bounds-points-i
+bounds-points-i c = let h = in_points c.before.before in search rules
+
+pub overflow_add-y : goal.overflow_add-y
+overflow_add-y c = let h = in_points c.before.before in search rules
+
+pub offset_bounds-points-i-in-loop-i : goal.offset_bounds-points-i-in-loop-i
+offset_bounds-points-i-in-loop-i c = let h = in_points c.before.before in search rules
+
+pub bounds-points-i-in-loop-i : goal.bounds-points-i-in-loop-i
+bounds-points-i-in-loop-i c = let h = in_points c.before.before.before in search rules
+
+pub shape_of-out-then-not-on_grid-near : goal.shape_of-out-then-not-on_grid-near
+shape_of-out-then-not-on_grid-near c = long c.before.before.before.before.before.before.before.before.before.before.before.before.before
+
+pub returns-then-not-on_grid-near : goal.returns-then-not-on_grid-near
+returns-then-not-on_grid-near c = c.loop-i.invariant
+
+pub float_to_int-out : goal.float_to_int-out
+float_to_int-out c = cast_across (tested c.before.before)
+
+pub offset_bounds-out-i : goal.offset_bounds-out-i
+offset_bounds-out-i c = let h = in_points c.before.before.before.before.before.before.before.before.before.before.before.before.before in search rules
+
+pub bounds-out-i : goal.bounds-out-i
+bounds-out-i c = omega (arith, in_out c.before.before.before.before.before.before.before.before.before.before.before.before.before)
+
+pub float_to_int-out-in-loop-i : goal.float_to_int-out-in-loop-i
+float_to_int-out-in-loop-i c = cast_upward (tested c.before.before.before)
+
+pub overflow_add-i : goal.overflow_add-i
+overflow_add-i c = let h = in_points c.before.before.before.before.before.before.before.before.before.before.before.before.before.before in search rules
+
+pub offset_bounds-out-i-in-loop-i : goal.offset_bounds-out-i-in-loop-i
+offset_bounds-out-i-in-loop-i c = let h = in_points c.before.before.before.before.before.before.before.before.before.before.before.before.before.before in search rules
+
+pub bounds-out-i-in-loop-i : goal.bounds-out-i-in-loop-i
+bounds-out-i-in-loop-i c = simp length-set (omega (arith, in_out c.before.before.before.before.before.before.before.before.before.before.before.before.before.before))
+
+pub overflow_add-i-in-loop-i : goal.overflow_add-i-in-loop-i
+overflow_add-i-in-loop-i c = let h = in_points c.before.before.before.before.before.before.before.before.before.before.before.before.before.before in search rules
+
+pub loop-i-preserved : goal.loop-i-preserved
+loop-i-preserved c =
+    maps_more c.requires.to_in_bounds c.requires.to_in_bounds_2 c.loop-i.invariant
+    (maps_one c.requires.to_in_bounds (omega (arith, long c.before.before.before.before.before.before.before.before.before.before.before.before.before.before.before, c.requires.to_in_bounds_2)) nan (left c.before.before.before.before.before.before.before.before.before.before.before.before.before.before) (is_x (tested c.before.before.before)) (is_y (tested c.before.before.before)))
+
+pub shape_of-out : goal.shape_of-out
+shape_of-out c = long c.before.before
+
+pub returns : goal.returns
+returns c = c.loop-i.invariant

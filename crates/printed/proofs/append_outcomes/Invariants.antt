@@ -1,0 +1,12 @@
+-- Each turn lays the next outcome's line behind those that are laid.
+use Prim.Native.Nat.{◌-◌}
+use lib.ListN.{length, drop}
+use Rattle.printed.specs.Tiles.{outcome_lines}
+use Rattle.printed.proofs.Pieces.{Pieces}
+use Rattle.printed.proofs.append_outcomes.Given as goal
+
+abbrev pub invariant-loop-i : goal.invariant-loop-i
+invariant-loop-i l = Pieces 29 (length l.outcomes) l.at (outcome_lines l.outcomes) l.initial.text l.text l.next l.i (outcome_lines (drop l.i l.outcomes))
+
+abbrev pub decreases-loop-i : goal.decreases-loop-i
+decreases-loop-i l = length l.outcomes - l.i

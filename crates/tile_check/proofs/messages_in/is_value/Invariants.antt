@@ -1,0 +1,12 @@
+-- What stands from the start on is a value where what stands from the reached place on is: a field of it holds nothing that could be wrong.
+use Prim.Native.Nat.{◌-◌}
+use lib.ListN.{length}
+use Rattle.messages.specs.declared.key.Kind.TheVariants.{Value}
+use Rattle.tile_check.proofs.Rest.{Rest}
+use Rattle.tile_check.proofs.messages_in.is_value.Given as goal
+
+abbrev pub invariant-loop-at : goal.invariant-loop-at
+invariant-loop-at l = Rest 0 Value l.src l.start l.at
+
+abbrev pub decreases-loop-at : goal.decreases-loop-at
+decreases-loop-at l = length l.src - l.at
