@@ -14,10 +14,9 @@ returns-in_default c = search (rules, chain)
 pub overflow_add-o : goal.overflow_add-o
 overflow_add-o c =
     let g = c.args in
-    let h = c.is_valid.ensures in
     let l = c.if-not-is_valid.false-raw in
     let o = c.in-Since.is in
-    omega (arith, fitting g.s g.keys.now g.values.now g.texts.now g.features.now _ h l _ o, id_there g.s g.keys.now g.values.now g.texts.now g.features.now _ h l _ o)
+    omega (arith, fitting g.s g.keys.now g.values.now g.texts.now g.features.now _ c.is_valid.ensures l _ o, id_there g.s g.keys.now g.values.now g.texts.now g.features.now _ c.is_valid.ensures l _ o)
 
 pub returns : goal.returns
 returns c = search (rules, id_set)

@@ -78,7 +78,7 @@ pub slice_bounds-find_value-end-3 : goal.slice_bounds-find_value-end-3
 slice_bounds-find_value-end-3 c = (at_fit c.before.before.before.before.before.before.before.before.before.before.before.before.before).in_texts
 
 pub slice_bounds-find_value-end-4 : goal.slice_bounds-find_value-end-4
-slice_bounds-find_value-end-4 c = sym (length-take-le _ _ (at_fit (place_at_before_u (c.before.before.before.before.before.before.before))).in_texts)
+slice_bounds-find_value-end-4 c = sym (length-take-le _ _ (at_fit c.before.before.before.before.before.before.before.before.before.before.before.before.before).in_texts)
 
 pub grown-after-requires : goal.grown-after-requires
 grown-after-requires c =
@@ -88,10 +88,9 @@ grown-after-requires c =
 
 pub put_tag-requires : goal.put_tag-requires
 put_tag-requires c =
-    let at = place_at_before_u (u_before_find_key_arg (c.before)) in
-    let g = at.before.before.before.before.before.before.before.before.before.args in
-    let p = at.place_at.result in
-    may_room g.s g.o (part g.bytes.now p.key) p.value (part g.bytes.now p.text) g.keys.now g.values.now g.texts.now g.features.now g.ki.now g.vi.now (may at) _ (c.before).room-room.ensures _ _ (c.before).hash_text-kh.ensures (c.before).hash_value-vh.ensures _ _ c.find_key-kf.ensures c.find_value-vf.ensures
+    let g = c.args in
+    let p = c.place_at-p.result in
+    may_room g.s g.o (part g.bytes.now p.key) p.value (part g.bytes.now p.text) g.keys.now g.values.now g.texts.now g.features.now g.ki.now g.vi.now (may c.before.before.before.before.before.before.before.before.before.before.before.before.before.before.before.before.before.before.before) _ c.room-room.ensures _ _ c.hash_text-kh.ensures c.hash_value-vh.ensures _ _ c.find_key-kf.ensures c.find_value-vf.ensures
 
 pub returns : goal.returns
 returns c =

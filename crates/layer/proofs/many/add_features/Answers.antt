@@ -29,7 +29,7 @@ pub bounds-heads-i : goal.bounds-heads-i
 bounds-heads-i c = let k = head_there _ _ _ _ _ _ _ _ _ _ _ _ _ _ _ c.loop-i.invariant c.loop-i-test.true in search rules
 
 pub overflow_add-a : goal.overflow_add-a
-overflow_add-a c = record { fits = omega (arith, (shared_slice_known3_before_slice_known5 (c.before.before.before.before.before.before.before.before.before)).before, words_there _ _ _ _ _ _ _ _ _ _ _ _ _ _ _ c.loop-i.invariant c.loop-i-test.true _ c.wide.ensures.same) }
+overflow_add-a c = record { fits = omega (arith, c.before.before.before.before.before.before.before.before, words_there _ _ _ _ _ _ _ _ _ _ _ _ _ _ _ c.loop-i.invariant c.loop-i-test.true _ c.wide.ensures.same) }
 
 pub overflow_add-i-in-loop-i : goal.overflow_add-i-in-loop-i
 overflow_add-i-in-loop-i c = let k = head_there _ _ _ _ _ _ _ _ _ _ _ _ _ _ _ c.loop-i.invariant c.loop-i-test.true in search rules
@@ -74,10 +74,10 @@ pub shape_of-features-in-Refused : goal.shape_of-features-in-Refused
 shape_of-features-in-Refused c = let h = c.loop-i.invariant.long.features in omega (arith, c.before.before.before.before.before.before.before, h)
 
 pub shape_of-ki-in-Refused : goal.shape_of-ki-in-Refused
-shape_of-ki-in-Refused c = let h = c.loop-i.invariant.kept.keys_long in omega (arith, c.before.before.before.before.before.before.before, h)
+shape_of-ki-in-Refused c = let h = c.loop-i.invariant.kept.keys_long in omega (arith, c.before.before.before.before.before, h)
 
 pub shape_of-vi-in-Refused : goal.shape_of-vi-in-Refused
-shape_of-vi-in-Refused c = let h = c.loop-i.invariant.kept.values_long in omega (arith, c.before.before.before.before.before, h)
+shape_of-vi-in-Refused c = let h = c.loop-i.invariant.kept.values_long in omega (arith, c.before.before.before, h)
 
 pub returns-in-Refused : goal.returns-in-Refused
 returns-in-Refused c =

@@ -7,7 +7,7 @@ use Rattle.layer.proofs.Walking.{Looks}
 use Rattle.layer.proofs.need.key_given.Given as goal
 
 abbrev pub invariant-loop-i : goal.invariant-loop-i
-invariant-loop-i l = Looks (λ (l : List ℕ). key_given l.bytes l l.key) l.tags l.i
+invariant-loop-i l = Looks (λ (ls : List ℕ). key_given l.bytes ls l.key) l.tags l.i
 
 abbrev pub decreases-loop-i : goal.decreases-loop-i
 decreases-loop-i l = length l.tags - l.i

@@ -7,7 +7,7 @@ use Rattle.layer.proofs.Walking.{Looks}
 use Rattle.layer.proofs.need.value_among.Given as goal
 
 abbrev pub invariant-loop-i : goal.invariant-loop-i
-invariant-loop-i l = Looks (λ (l : List ℕ). value_among l.bytes l l.v l.text) l.tags l.i
+invariant-loop-i l = Looks (λ (ls : List ℕ). value_among l.bytes ls l.v l.text) l.tags l.i
 
 abbrev pub decreases-loop-i : goal.decreases-loop-i
 decreases-loop-i l = length l.tags - l.i

@@ -7,7 +7,7 @@ use Rattle.layer.proofs.Walking.{Looks}
 use Rattle.layer.proofs.once.has_key.Given as goal
 
 abbrev pub invariant-loop-i : goal.invariant-loop-i
-invariant-loop-i l = Looks (λ (l : List ℕ). has_key l.keys l.texts l l.key) l.tags l.i
+invariant-loop-i l = Looks (λ (ls : List ℕ). has_key l.keys l.texts ls l.key) l.tags l.i
 
 abbrev pub decreases-loop-i : goal.decreases-loop-i
 decreases-loop-i l = length l.tags - l.i

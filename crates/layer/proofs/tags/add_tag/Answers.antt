@@ -14,7 +14,7 @@ use Rattle.layer.proofs.tags.add_tag.Lts as places
 
 -- the places on the way that the lemmas below speak of
 abbrev In-Since : Type 0
-In-Since = places.After-known_told tie.the-claims contract.Pre contract.Post
+In-Since = places.Past-After-known_told tie.the-claims contract.Pre contract.Post
 
 at_asked : (c : In-Since) → let g = c.args in (o : Figures) → g.s.feature ≡ Since o → TagAsked (record { key = g.key.now; value = g.v; text = g.text.now }) g.s (mem g.keys.now g.values.now g.texts.now g.features.now) o
 at_asked c o f =

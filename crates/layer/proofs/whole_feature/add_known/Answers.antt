@@ -14,7 +14,7 @@ use Rattle.layer.proofs.whole_feature.add_known.Lts as places
 
 -- the places on the way that the lemmas below speak of
 abbrev In-Fine : Type 0
-In-Fine = places.After-enum_told tie.the-claims contract.Pre contract.Post
+In-Fine = places.Past-After-enum_told tie.the-claims contract.Pre contract.Post
 
 welcome : (c : In-Fine) → let g = c.args in Given g.s g.built g.f g.words.now g.tags.now g.bytes.now (mem g.keys.now g.values.now g.texts.now g.features.now) (idx g.ki.now g.vi.now)
 welcome c =

@@ -8,10 +8,7 @@ use Rattle.layer.proofs.whole_feature.put_feature.Goals as goal
 pub lay_record-requires : goal.lay_record-requires
 lay_record-requires c =
     let g = c.args in
-    let x = idx g.ki.now g.vi.now in (
-      few_words g.s g.f g.words.now g.tags.now g.bytes.now g.keys.now g.values.now g.texts.now g.features.now x c.requires,
-      record_fits g.s g.f g.words.now g.tags.now g.bytes.now g.keys.now g.values.now g.texts.now g.features.now x c.requires,
-    )
+    let x = idx g.ki.now g.vi.now in record { words_len_bound = few_words g.s g.f g.words.now g.tags.now g.bytes.now g.keys.now g.values.now g.texts.now g.features.now x c.requires; words_in_bounds = record_fits g.s g.f g.words.now g.tags.now g.bytes.now g.keys.now g.values.now g.texts.now g.features.now x c.requires }
 
 pub overflow_add-used-2 : goal.overflow_add-used-2
 overflow_add-used-2 c =
