@@ -81,7 +81,7 @@ module _ {t : Affine} {x y u v s w : Float} {p q m n : Bool} (h : Tested t x y u
   cast_upward = second.0
 
   pub is_x : to_z w32 (of_z w32 (to_signed 31 s)) ≡ (surveyed t x y).x
-  is_x = back (record { sfits = to_signed_in 31 s }) ∙ first.1 ∙ ap grid_of h.across
+  is_x = back {w = w32} (record { sfits = to_signed_in 31 s }) ∙ first.1 ∙ ap grid_of h.across
 
   pub is_y : to_z w32 (of_z w32 (to_signed 31 w)) ≡ (surveyed t x y).y
-  is_y = back (record { sfits = to_signed_in 31 w }) ∙ second.1 ∙ ap grid_of h.upward
+  is_y = back {w = w32} (record { sfits = to_signed_in 31 w }) ∙ second.1 ∙ ap grid_of h.upward

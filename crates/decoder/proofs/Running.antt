@@ -63,7 +63,7 @@ module _ (start : Pen) (ws : List ℕ) (pen : Pen) (R : Running start ws pen) (n
       rw l
       (record {
         stands = behind_stands pen ws n R.stands;
-        same = rw h at tested ∙ ran_onto pen (behind pen ws) _ (pairs_of (behind pen ws) ws) (behind_same pen ws n R.stands) refl;
+        same = rw h at tested ∙ ran_onto pen (behind pen ws) (vertex pen.id (led_to pen ws) ∷ []) (pairs_of (behind pen ws) ws) (behind_same pen ws n R.stands) refl;
       })
 
 -- ---- follow

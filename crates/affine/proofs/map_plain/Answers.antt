@@ -9,13 +9,13 @@ use Rattle.affine.proofs.map_plain.Lts as places
 
 -- the places on the way that the lemmas below speak of
 abbrev At-loop-i : Type 0
-At-loop-i = places.At-loop tie.the-claims contract.Pre contract.Post tie.handed_clauses goal.the-invariant-loop-i goal.the-decreases-loop-i
+At-loop-i = places.At-loop tie.the-claims contract.Pre contract.Post goal.the-invariant-loop-i goal.the-decreases-loop-i tie.handed_clauses
 
 abbrev In-loop-i : Type 0
-In-loop-i = places.In-loop tie.the-claims contract.Pre contract.Post tie.handed_clauses goal.the-invariant-loop-i goal.the-decreases-loop-i
+In-loop-i = places.In-loop tie.the-claims contract.Pre contract.Post goal.the-invariant-loop-i goal.the-decreases-loop-i tie.handed_clauses
 
 abbrev Else-not-on_grid-near : Type 0
-Else-not-on_grid-near = places.Else1 tie.the-claims contract.Pre contract.Post tie.handed_clauses goal.the-invariant-loop-i goal.the-decreases-loop-i
+Else-not-on_grid-near = places.Else1 tie.the-claims contract.Pre contract.Post goal.the-invariant-loop-i goal.the-decreases-loop-i tie.handed_clauses
 
 pub loop-i-init : goal.loop-i-init
 loop-i-init c = maps_none c.requires.to_in_bounds c.requires.to_in_bounds_2 c.requires.from_le_to

@@ -45,7 +45,7 @@ pub returns-then-not-ends : goal.returns-then-not-ends
 returns-then-not-ends c =
     let names = edges_drafted c.args.s _ c.requires.words_value c.args.p c.requires.p_value c.draft_of-d.result c.draft_of-d.ensures _ c.add_boundary_points-cut.ensures.names in
     let g = c.draw_alone.ensures in
-    let out = c.args.words.now in record { answer = g.0; edges = passed_nothing (roomy c.args.s out (drawn c.args.s c.args.p out)).answer _ _ g.1 (none_named _ _ c.ends_of-ends.ensures (not-true _ c.if-not-ends.true-raw) _ names) }
+    let out = c.args.words.now in record { answer = g.answer; edges = passed_nothing (roomy c.args.s out (drawn c.args.s c.args.p out)).answer _ _ g.edges (none_named _ _ c.ends_of-ends.ensures (not-true _ c.if-not-ends.true-raw) _ names) }
 
 pub plan_point-plan-requires : goal.plan_point-plan-requires
 plan_point-plan-requires c = let whole = plan_asked c.args.s _ c.requires.words_value c.args.p c.requires.p_value c.draft_of-d.result c.draft_of-d.ensures (small c.before.before.before.before.before.before.before.before.before.before) c.ends_of-ends.result (brought c.before.before.before.before.before) _ c.make_point-q.ensures c.take_point-t.result c.take_point-t.ensures in record { ready = whole.0; few = whole.1.0; near = whole.1.1 }

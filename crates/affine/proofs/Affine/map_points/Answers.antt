@@ -11,19 +11,19 @@ use Rattle.affine.proofs.Affine.map_points.Lts as places
 
 -- the places on the way that the lemmas below speak of
 abbrev After-smaller-n : Type 0
-After-smaller-n = places.After-smaller tie.the-claims contract.Pre contract.Post tie.handed_clauses goal.the-invariant-loop-i goal.the-decreases-loop-i
+After-smaller-n = places.After-smaller tie.the-claims contract.Pre contract.Post goal.the-invariant-loop-i goal.the-decreases-loop-i tie.handed_clauses
 
 abbrev At-loop-i : Type 0
-At-loop-i = places.At-loop tie.the-claims contract.Pre contract.Post tie.handed_clauses goal.the-invariant-loop-i goal.the-decreases-loop-i
+At-loop-i = places.At-loop tie.the-claims contract.Pre contract.Post goal.the-invariant-loop-i goal.the-decreases-loop-i tie.handed_clauses
 
 abbrev After-out-1 : Type 0
-After-out-1 = places.After-out tie.the-claims contract.Pre contract.Post tie.handed_clauses goal.the-invariant-loop-i goal.the-decreases-loop-i
+After-out-1 = places.After-out tie.the-claims contract.Pre contract.Post goal.the-invariant-loop-i goal.the-decreases-loop-i tie.handed_clauses
 
 abbrev Then-i-end : Type 0
-Then-i-end = places.Then1 tie.the-claims contract.Pre contract.Post tie.handed_clauses goal.the-invariant-loop-i goal.the-decreases-loop-i
+Then-i-end = places.Then1 tie.the-claims contract.Pre contract.Post goal.the-invariant-loop-i goal.the-decreases-loop-i tie.handed_clauses
 
 abbrev After-struct_told-then-i-end-1 : Type 0
-After-struct_told-then-i-end-1 = places.After-struct_told2 tie.the-claims contract.Pre contract.Post tie.handed_clauses goal.the-invariant-loop-i goal.the-decreases-loop-i
+After-struct_told-then-i-end-1 = places.After-struct_told2 tie.the-claims contract.Pre contract.Post goal.the-invariant-loop-i goal.the-decreases-loop-i tie.handed_clauses
 
 -- both lists hold n points
 inside : (c : After-smaller-n) → 2 * c.smaller-n.result ≤ length c.args.points.now

@@ -10,13 +10,13 @@ use Rattle.encoder.proofs.whole_job.add_part.Lts as places
 
 -- the places on the way that the lemmas below speak of
 abbrev In-On : Type 0
-In-On = places.After-known_told2 tie.the-claims contract.Pre contract.Post tie.handed_clauses
+In-On = places.Past-After-known_told2 tie.the-claims contract.Pre contract.Post tie.handed_clauses
 
 -- all points are added
 added : (c : In-On) →
     Adding c.args.points.now c.args.from c.args.to c.args.words.now c.args.s c.add_run.new.words c.in-On.q c.args.to
 added c =
-    whole_part_on _ _ _ c.requires.from_le_to _ _ c.requires.sound c.add_run.result _ c.add_run.ensures _ c.in-On.is (omega (arith, c.add_run.kept))
+    whole_part_on _ _ _ c.requires.from_le_to _ _ c.requires.sound c.add_run.result _ c.add_run.ensures _ c.in-On.is (omega (arith, c.add_run.auto))
 
 pub complete_valid-requires : goal.complete_valid-requires
 complete_valid-requires c = valid_is _ _ (added c.before).sound.valid
