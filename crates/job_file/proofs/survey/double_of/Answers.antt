@@ -1,5 +1,4 @@
 -- The patterns above that of infinity, the sign left out, are the NaNs.
-use borrow.Author.Rules.{rules}
 use Prim.Native.Nat.{ℕ, ◌<◌, ◌≤◌, ◌%◌}
 use mathlib.Core.Path.{◌≡◌, refl, sym, ◌∙◌, subst}
 use mathlib.Core.Bool.{Bool, not}
@@ -8,8 +7,7 @@ use lib.Arith.{lt→nleb}
 use lib.Dec.{T, ltb, lt→ltb}
 use lib.Ieee.{Float, nan, inf, fin, binary64, div, of_bits, is_nan, nan_bits}
 use lib.Ieee.Bits.{nan_bits_is, nan_bits_above}
-use Rattle.job_file.proofs.survey.double_of.Statement.{statement}
-use Rattle.job_file.proofs.survey.double_of.Tie as tie
+use Rattle.job_file.proofs.survey.double_of.Goals as goal
 
 -- there is one NaN
 one_nan : (x : Float) → T (is_nan x) → nan ≡ x
@@ -29,14 +27,8 @@ tested n = nan_bits_above binary64 n
 next : (n : ℕ) → n ≤ 9218868437227405312 → n < 9218868437227405313
 next n h = omega arith
 
-returns : tie.Need-returns
-returns c = let n = c.before.args.bits in nan_is ∙ one_nan (of_bits binary64 n) (subst T (sym (tested n) ∙ nan_bits_is binary64 n) (lt→ltb _ _ c.if1.true))
+pub returns-then-bits-gt9218868437227405312 : goal.returns-then-bits-gt9218868437227405312
+returns-then-bits-gt9218868437227405312 c = let n = c.args.bits in nan_is ∙ one_nan (of_bits binary64 n) (subst T (sym (tested n) ∙ nan_bits_is binary64 n) (lt→ltb _ _ c.if-bits-gt9218868437227405312.true))
 
-float-from-bits-result : tie.Need-float-from-bits-result
-float-from-bits-result c = let n = c.before.args.bits in subst (λ (b : Bool). T (not b)) (sym (tested n)) (lt→nleb 9218868437227405313 _ (next _ c.if1.false))
-
-returns_2 : tie.Need-returns-2
-returns_2 c = search rules
-
-pub double_of_spec : {M : Type 1} → statement M
-double_of_spec = tie.close (tie.spec returns float-from-bits-result returns_2)
+pub float_from_bits-result : goal.float_from_bits-result
+float_from_bits-result c = let n = c.args.bits in subst (λ (b : Bool). T (not b)) (sym (tested n)) (lt→nleb 9218868437227405313 _ (next _ c.if-bits-gt9218868437227405312.false))
