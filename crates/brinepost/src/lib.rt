@@ -1,4 +1,4 @@
-// The C interface: `rt staticlib brinepost` makes the archive, include/brinepost.h says in C what stands here. Each exported function takes any numbers and
+// The C interface: `rt lib brinepost` makes the archive, include/brinepost.h says in C what stands here. Each exported function takes any numbers and
 // lists, calls one proved function, and answers a struct whose first number is the refusal, 0 where the call is accepted. A module holds one idea; layers
 // and tiles are crate `brinepost_tiles`, an archive of its own.
 #![tactic(auto)]
@@ -11,4 +11,4 @@ pub mod vertices; // words to vertices
 pub mod state; // an encoder's state as C carries it
 pub mod calls; // the encoder call by call
 pub mod surveyed; // surveyed points: doubles, mapped and put on the grid
-pub mod number; // the number of the interface
+pub mod interface; // the number of the interface

@@ -1,0 +1,8 @@
+-- What the job said, with the box as it was given, and both lists as it left them.
+use mir.Facts.{to_z-of_z}
+use Rattle.telling.proofs.Tellings.{told_gives}
+use Rattle.brinepost.proofs.edged.bp_encode_job_edges.Goals as goal
+
+pub returns : goal.returns
+returns c =
+    told_gives _ _ _ _ _ (rw (to_z-of_z c.ranges.left, to_z-of_z c.ranges.right, to_z-of_z c.ranges.bottom, to_z-of_z c.ranges.top) at c.encode-r.ensures) c.answered.ensures
