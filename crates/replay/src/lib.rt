@@ -10,32 +10,43 @@ ghost use Rattle.refusal.specs.Refusals.{number_of};
 ghost use Rattle.printed.specs.Printed.{refused_text, refused_room};
 ghost use Rattle.printed.specs.Row.{row_text, row_room};
 ghost use Rattle.io.specs.Counts.{IsPrefixLen};
+ghost use Rattle.std.specs.Io.{ReadsAtMost};
 
 use number_file::Numbers;
 use printed::{Text, first_bytes, first_words};
 use refusal::Refusal;
+use std::io::Write;
+use std::rt::Files;
+use std::{fs, io};
+
+// The bytes of a file that can be opened and read.
+fn bytes_of<R: Files>(rt: &R, path: &str, bytes: &mut [u8]) -> io::Result<usize>
+    ensures { ReadsAtMost result bytes.new }
+{
+    let mut file = fs::open(rt, path)?;
+    console::fill(&mut file, bytes)
+}
 
 // The bytes of a file; none, and a line on standard error, where it cannot be read. No contract can say what a file holds, so this one says only
 // how many bytes there are at most.
-pub fn read_file(path: &[u8], bytes: &mut [u8]) -> usize
+pub fn read_file<R: Files + Eprint>(rt: &R, path: &str, bytes: &mut [u8]) -> usize
     ensures { IsPrefixLen result bytes.new }
 {
-    let file = os::open_read(path);
-    if file < 0 {
-        os::fail(path);
-        return 0;
+    match bytes_of(rt, path, bytes) {
+        Ok(n) => n,
+        Err(e) => {
+            let _ = eprintln!(rt; "{path}: {e}");
+            return 0;
+        }
     }
-    let n = io::read_full(file, bytes);
-    libc::close(file);
-    n
 }
 
 // The numbers of a file, none where it does not consist of numbers: no more than the list has room for.
-pub fn load(path: &[u8], out: &mut [u32]) -> usize
+pub fn load<R: Files + Eprint>(rt: &R, path: &str, out: &mut [u32]) -> usize
     ensures { IsPrefixLen result out.new }
 {
-    let mut bytes = io::large_buffer();
-    let n = read_file(path, &mut bytes);
+    let mut bytes = [0u8; 65536];
+    let n = read_file(rt, path, &mut bytes);
     match number_file::read_numbers(&bytes[..n], out) {
         Numbers::Read(k) => k,
         Numbers::Refused(_) => 0,
@@ -96,37 +107,42 @@ pub fn size(count: usize) -> i64
     -1
 }
 
+// Bytes go to standard output. Where it takes none nothing is told: what a replay printed is compared with what was kept.
+fn print<R: Print>(rt: &R, bytes: &[u8]) {
+    let _ = io::writer(rt).write_all(bytes);
+}
+
 // Each of these prints an answer and says how many bytes it is; no contract can say what is printed. What is too long for the text is not printed, and 0.
-pub fn print_row(row: &[i64]) -> usize
+pub fn print_row<R: Print>(rt: &R, row: &[i64]) -> usize
     ensures { result ≡ printed (row_room row.now) (row_text row.now) 374 }
 {
     let mut text = [0u8; 374];
     let n = printed::show_row(row, &mut text);
-    io::write_all(libc::STDOUT_FILENO, first_bytes(&text, n));
+    print(rt, first_bytes(&text, n));
     n
 }
 
-pub fn print_refused(r: Refusal, accepted: usize) -> usize
+pub fn print_refused<R: Print>(rt: &R, r: Refusal, accepted: usize) -> usize
     ensures { result ≡ printed refused_room (refused_text (number_of r) accepted) 53 }
 {
     let mut text = [0u8; 53];
     let n = printed::show_refused(refusal::number(r), accepted, &mut text);
-    io::write_all(libc::STDOUT_FILENO, first_bytes(&text, n));
+    print(rt, first_bytes(&text, n));
     n
 }
 
 // The first n words of a list.
-pub fn print_words(words: &[u32], n: usize) -> usize
+pub fn print_words<R: Print>(rt: &R, words: &[u32], n: usize) -> usize
     ensures { result ≡ words_printed (take n words.now) }
 {
     let mut text = [0u8; Text::WORDS];
     let k = printed::show_words(first_words(words, n), &mut text);
-    io::write_all(libc::STDOUT_FILENO, first_bytes(&text, k));
+    print(rt, first_bytes(&text, k));
     k
 }
 
 // The first n outcomes and the first used bytes of a tile.
-pub fn print_tile(outcomes: &[u32], n: usize, bytes: &[u8], used: usize) -> usize
+pub fn print_tile<R: Print>(rt: &R, outcomes: &[u32], n: usize, bytes: &[u8], used: usize) -> usize
     ensures { result ≡ tile_printed (take n outcomes.now) (take used bytes.now) }
 {
     let mut text = [0u8; Text::TILE];
@@ -135,6 +151,6 @@ pub fn print_tile(outcomes: &[u32], n: usize, bytes: &[u8], used: usize) -> usiz
         first_bytes(bytes, used),
         &mut text,
     );
-    io::write_all(libc::STDOUT_FILENO, first_bytes(&text, k));
+    print(rt, first_bytes(&text, k));
     k
 }

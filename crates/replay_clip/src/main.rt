@@ -29,7 +29,7 @@ fn box_of(case: &[u32]) -> BBox {
     }
 }
 
-fn print_segment(s: Seg) {
+fn print_segment<R: Print>(rt: &R, s: Seg) {
     let p0 = s.p0;
     let p1 = s.p1;
     let row = [
@@ -38,28 +38,28 @@ fn print_segment(s: Seg) {
         signed_long(p1.x),
         signed_long(p1.y),
     ];
-    replay::print_row(&row);
+    replay::print_row(rt, &row);
 }
 
-fn print_case(case: &[u32]) {
+fn print_case<R: Print>(rt: &R, case: &[u32]) {
     match clip::clip(segment(case), box_of(case)) {
         Clipped::Refused(r) => {
-            replay::print_refused(r, 0);
+            replay::print_refused(rt, r, 0);
         }
-        Clipped::Done(c) => print_segment(c.seg),
+        Clipped::Done(c) => print_segment(rt, c.seg),
     }
 }
 
-fn print_all(cases: &[u32]) {
+fn print_all<R: Print>(rt: &R, cases: &[u32]) {
     let mut at = 0;
     while at < cases.len() {
-        print_case(replay::body(cases, at));
+        print_case(rt, replay::body(cases, at));
         at = replay::past(cases, at);
     }
 }
 
-fn main() {
+fn main(rt: HostRuntime) {
     let mut cases = [0u32; 16384];
-    let n = replay::load(b"clips-1.bin", &mut cases);
-    print_all(&cases[..n]);
+    let n = replay::load(&rt, "clips-1.bin", &mut cases);
+    print_all(&rt, &cases[..n]);
 }

@@ -6,7 +6,7 @@ use decoder::Reading;
 use number::signed_long;
 
 // So many vertices, three numbers each, as far as the list goes.
-fn print_vertices(numbers: &[i32], vertices: usize) {
+fn print_vertices<R: Print>(rt: &R, numbers: &[i32], vertices: usize) {
     let mut at = 0;
     let mut i = 0;
     while i < vertices {
@@ -18,29 +18,29 @@ fn print_vertices(numbers: &[i32], vertices: usize) {
             signed_long(numbers[at + 1]),
             signed_long(numbers[at + 2]),
         ];
-        replay::print_row(&row);
+        replay::print_row(rt, &row);
         at += 3;
         i += 1;
     }
 }
 
-fn print_reading(words: &[u32], out: &mut [i32]) {
+fn print_reading<R: Print>(rt: &R, words: &[u32], out: &mut [i32]) {
     match decoder::decode(words, out) {
         Reading::Refused(f) => {
             let r = f.refusal;
             let place = f.place;
-            replay::print_refused(r, place);
+            replay::print_refused(rt, r, place);
         }
         Reading::Read(vertices) => {
             let row = [replay::size(vertices)];
-            replay::print_row(&row);
-            print_vertices(out, vertices);
+            replay::print_row(rt, &row);
+            print_vertices(rt, out, vertices);
         }
     }
 }
 
 // A case: the lent list's length, the words.
-fn print_case(case: &[u32], out: &mut [i32]) {
+fn print_case<R: Print>(rt: &R, case: &[u32], out: &mut [i32]) {
     let room = replay::number(case, 0) as usize;
     if case.len() == 0 {
         return;
@@ -48,20 +48,20 @@ fn print_case(case: &[u32], out: &mut [i32]) {
     if out.len() < room {
         return;
     }
-    print_reading(&case[1..], &mut out[..room]);
+    print_reading(rt, &case[1..], &mut out[..room]);
 }
 
-fn print_all(cases: &[u32], out: &mut [i32]) {
+fn print_all<R: Print>(rt: &R, cases: &[u32], out: &mut [i32]) {
     let mut at = 0;
     while at < cases.len() {
-        print_case(replay::body(cases, at), out);
+        print_case(rt, replay::body(cases, at), out);
         at = replay::past(cases, at);
     }
 }
 
-fn main() {
+fn main(rt: HostRuntime) {
     let mut cases = [0u32; 16384];
-    let n = replay::load(b"readings-1.bin", &mut cases);
+    let n = replay::load(&rt, "readings-1.bin", &mut cases);
     let mut out = [0i32; 1024];
-    print_all(&cases[..n], &mut out);
+    print_all(&rt, &cases[..n], &mut out);
 }
