@@ -1,4 +1,4 @@
-// Layers and tiles in the C interface: `rt staticlib brinepost_tiles` makes the archive, include/brinepost.h says in C what stands here. Each exported
+// Layers and tiles in the C interface: `rt lib brinepost_tiles` makes the archive, include/brinepost.h says in C what stands here. Each exported
 // function takes any numbers and lists, calls one proved function, and answers a struct whose first number is the refusal, 0 where the call is accepted.
 #![tactic(auto)]
 
@@ -8,4 +8,4 @@ pub mod layers; // the calls that change a layer
 pub mod tag_calls; // a tag of each kind of value
 pub mod asking; // what a layer can be asked
 pub mod tiles; // the calls on a tile
-pub mod number; // the number of the interface
+pub mod interface; // the number of the interface
