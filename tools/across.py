@@ -8,8 +8,8 @@ held to its definition in its own crate, and here it is the definitions that are
 
 import re
 import shutil
-from pathlib import Path
 
+import checker
 from crates import HEAD, TOP, functions, read_edit
 
 BY_ITSELF = re.compile(r"^(\S+?):\d+:\d+: error: `([^`]+)`(?!.*was not admitted)", re.M)
@@ -23,7 +23,7 @@ def across(name):
 def without_functions(name, crates):
     """A copy of a crate with its types, definitions and laws, and no function."""
     folder = crates / name
-    shutil.copytree(TOP / "crates" / name, folder)
+    checker.copied(name, folder)
     for file in {f.file for f in functions(name)}:
         text = (folder / file).read_text()
         plain = re.sub(r"//[^\n]*", lambda m: " " * len(m.group()), text)
@@ -31,46 +31,48 @@ def without_functions(name, crates):
         for head in reversed(list(HEAD.finditer(plain))):
             text = text[:head.start()] + text[min(e for e in ends if e > head.end()):]
         (folder / file).write_text(IMPORTED_FUNCTION.sub("", text))
-    for proof in (folder / "proofs").rglob("Proof.antt"):
-        proof.unlink()
+    for proof in (folder / "proofs").rglob("*.antt"):
+        if proof.stem in ("Answers", "Invariants", "Proof"):
+            proof.unlink()
 
 
-def above(edited, name, uses):
+def above(edited, name):
     """The crates under NAME that are edited, or use such a one: those that go in as source."""
     found = set(edited)
-    while more := {c for c in under(name, uses) if c not in found and found & set(uses.get(c, []))}:
+    while more := {c for c in checker.under(name) if c not in found and found & set(checker.USES.get(c, []))}:
         found |= more
-    return [c for c in uses if c in found]
+    return [c for c in checker.USES if c in found]
 
 
-def under(name, uses):
-    """The crates that NAME uses, at first hand or through others."""
-    found, new = set(), list(uses.get(name, []))
-    while new:
-        crate = new.pop()
-        if crate not in found:
-            found.add(crate)
-            new += uses.get(crate, [])
-    return found
+def check(name, tree, source, log):
+    """The checker on a crate in a tree of crates, of which some go in as source, over what earlier checks beside the tree kept; what it said is written too."""
+    words = ["--crate-name", name, f"{name}/src/lib.rt", *checker.extern("std")]
+    for other in sorted(checker.under(name)):
+        as_source = ["--lib", f"{other}:std,{','.join(checker.USES.get(other, []))}={other}/src/lib.rt"]
+        words += as_source if other in source else checker.extern(other)
+    words += checker.folders(checker.under(name) - set(source)) + checker.of_logic()
+    status, said = checker.said([*words, "--incremental", tree.parent / "modules"], tree)
+    log.write_text(said)
+    return status, said
 
 
-def tried(name, room, uses, check):
-    """(edit, why it fails or None, how it was tried) for each edit of crates/NAME/across. `check` runs the checker on a tree of crates."""
+def tried(name, room, logs):
+    """(edit, why it fails or None, how it was tried) for each edit of crates/NAME/across."""
     some = across(name)
     if not some:
         return []
-    source = above({file.split("/")[0] for edit in some for file, _, _ in edit.pairs}, name, uses)
-    plain = Path(room) / "plain"
+    source = above({file.split("/")[0] for edit in some for file, _, _ in edit.pairs}, name)
+    plain = room / "plain"
     for crate in source:
         without_functions(crate, plain)
-    shutil.copytree(TOP / "crates" / name, plain / name)
-    status, said = check(plain, source, "as-it-is")
+    checker.copied(name, plain / name)
+    status, said = check(name, plain, source, logs / "across-as-it-is.log")
     if status != 0:
         return [(edit, "the crates as they are are not proved without their functions: " + first_error(said), "not tried") for edit in some]
-    return [(edit, *judged(edit, plain, Path(room) / edit.label, source, check)) for edit in some]
+    return [(edit, *judged(edit, plain, room / edit.label, source, logs)) for edit in some]
 
 
-def judged(edit, plain, tree, source, check):
+def judged(edit, plain, tree, source, logs):
     """Why an edit fails, or None; and what else is to be told."""
     shutil.copytree(plain, tree)
     for file, old, new in edit.pairs:
@@ -78,11 +80,11 @@ def judged(edit, plain, tree, source, check):
         if not path.is_file() or old not in path.read_text():
             return f"BAD EDIT: '{old[:60]}' does not stand in {file}", "not tried"
         path.write_text(path.read_text().replace(old, new))
-    status, said = check(tree, source, edit.label)
-    refused = [(Path(file).relative_to(tree), law) for file, law in BY_ITSELF.findall(said)]
-    here = {law for file, law in refused if file.parts[0] == edit.crate}
-    others = [(file, law) for file, law in refused if file.parts[0] != edit.crate]
-    definitions = [f"{law} in {file}" for file, law in others if file.parts[1] == "specs"]
+    status, said = check(edit.crate, tree, source, logs / f"across-{edit.label}.log")
+    refused = [(file.removeprefix("./").split("/"), law) for file, law in BY_ITSELF.findall(said)]
+    here = {law for file, law in refused if file[0] == edit.crate}
+    others = [(file, law) for file, law in refused if file[0] != edit.crate]
+    definitions = [f"{law} in {'/'.join(file)}" for file, law in others if file[1] == "specs"]
     told = f"across crates; {len(others)} laws of other crates refuse it too" if others else "across crates; no other crate refuses it"
     if status != 1 or "\nlogic=not-proved" not in said:
         return "NOT REFUSED: it is proved, or did not reach the prover: " + first_error(said), told

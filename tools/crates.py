@@ -5,10 +5,11 @@ from dataclasses import dataclass
 from pathlib import Path
 
 TOP = Path(__file__).resolve().parent.parent
-CLAUSE = re.compile(r"\s*(requires|ensures|ghost)\b\s*\w*\s*\{")
-HEAD = re.compile(r'^[ \t]*(?P<pub>pub\s+)?(?:pub\([^)]*\)\s+)?(?:extern\s+"C"\s+)?fn\s+(?P<name>\w+)', re.M)
+# a clause may have a label, or a star: `requires small {`, `ensures* {`, `ghost n: {`
+CLAUSE = re.compile(r"\s*(requires|ensures|ghost)\b\*?\s*\w*\s*:?\s*\{")
+HEAD = re.compile(r'^[ \t]*(?P<pub>pub\s+)?(?:pub\([^)]*\)\s+)?(?:unsafe\s+)?(?:extern\s+"C"\s+)?fn\s+(?P<name>\w+)(?P<types><(?:[^<>]|->|<[^<>]*>)*>)?', re.M)
 ARROW = re.compile(r"\s*->\s*[^{]*?(?=\s*(?:requires|ensures|ghost)\b|\s*\{)", re.S)
-FOLDERS = ["must-fail", "more-edits"]  # tried by rt ci, and over the seed
+FOLDERS = ["must-fail", "more-edits"]  # both tried by tools/try-edits, and must-fail by rt ci too
 
 
 @dataclass
@@ -38,8 +39,13 @@ def uses():
     for line in (TOP / "crates.txt").read_text().splitlines():
         name, colon, rest = line.split("#")[0].partition(":")
         if colon:
-            found[name.strip()] = rest.split()
+            found[name.split()[0]] = rest.split()
     return found
+
+
+def static_libraries():
+    """The crates that crates.txt lists as static libraries."""
+    return re.findall(r"^(\w+) +staticlib\b", (TOP / "crates.txt").read_text(), re.M)
 
 
 def closing(text, at, pair):
@@ -59,8 +65,9 @@ def functions(crate, top=TOP):
         inside = "" if inside in ("lib", "main") else inside + "::"
         # comments blanked out, so that a brace in one does not count and every place stays
         text = re.sub(r"//[^\n]*", lambda m: " " * len(m.group()), path.read_text())
-        holders = [(m.end() - 1, closing(text, m.end() - 1, "{}"), m.group(1))
-                   for m in re.finditer(r"\bimpl\s+(\w+)[^{]*\{", text)]
+        # an impl of a trait is named after the type and the trait, as the checker has it
+        holders = [(m.end() - 1, closing(text, m.end() - 1, "{}"), (m[2] or "") + m[1])
+                   for m in re.finditer(r"^\s*impl(?:<[^{]*?>)?\s+(\w+)(?:<[^{]*?>)?(?:\s+for\s+(\w+))?[^{]*\{", text, re.M)]
         for m in HEAD.finditer(text):
             at = closing(text, text.index("(", m.end()), "()") + 1
             arrow = ARROW.match(text, at)
