@@ -11,6 +11,8 @@ use decoder::Reading;
 use number_file::Numbers;
 use printed::Text;
 use printed::faults::show_fault;
+use std::io;
+use std::io::Write;
 
 // What the program prints for a file, at the front of `text`: how many bytes it is. The lists are the program's own, and large enough.
 fn answer(file: &[u8], words: &mut [u32], out: &mut [i32], text: &mut [u8]) -> usize
@@ -30,12 +32,12 @@ fn answer(file: &[u8], words: &mut [u32], out: &mut [i32], text: &mut [u8]) -> u
 }
 
 // A file may have 65,536 bytes; one more is read, so that a longer file is seen. A word gives one vertex at most, of three numbers.
-fn main() {
+fn main(rt: HostRuntime) -> io::Result<()> {
     let mut file = [0u8; 65537];
-    let n = io::read_full(libc::STDIN_FILENO, &mut file);
+    let n = console::fill(&mut rt.stdin(), &mut file)?;
     let mut words = [0u32; 16384];
     let mut out = [0i32; 49152];
     let mut text = [0u8; Text::VERTICES];
     let k = answer(&file[..n], &mut words, &mut out, &mut text);
-    io::write_all(libc::STDOUT_FILENO, &text[..k]);
+    io::writer(&rt).write_all(&text[..k])
 }
