@@ -15,34 +15,51 @@ ghost use Rattle.std.specs.Io.{ReadsAtMost};
 use number_file::Numbers;
 use printed::{Text, first_bytes, first_words};
 use refusal::Refusal;
-use std::io::Write;
+use std::io::{ErrorKind, Write};
 use std::rt::Files;
 use std::{fs, io};
 
-// The bytes of a file that can be opened and read.
-fn bytes_of<R: Files>(rt: &R, path: &str, bytes: &mut [u8]) -> io::Result<usize>
+// The bytes of a file that can be opened and read. std takes a file's name as text.
+fn bytes_of<R: Files>(rt: &R, path: &[u8], bytes: &mut [u8]) -> io::Result<usize>
     ensures { ReadsAtMost result bytes.new }
 {
-    let mut file = fs::open(rt, path)?;
-    console::fill(&mut file, bytes)
+    match str::from_utf8(path) {
+        Ok(name) => {
+            let mut file = fs::open(rt, name)?;
+            console::fill(&mut file, bytes)
+        }
+        Err(_) => Err(io::Error::from(ErrorKind::InvalidInput)),
+    }
+}
+
+// A line on standard error of a file that cannot be read.
+fn fail<R: Eprint>(rt: &R, path: &[u8], e: io::Error) {
+    match str::from_utf8(path) {
+        Ok(name) => {
+            let _ = eprintln!(rt; "{name}: {e}");
+        }
+        Err(_) => {
+            let _ = eprintln!(rt; "{e}");
+        }
+    }
 }
 
 // The bytes of a file; none, and a line on standard error, where it cannot be read. No contract can say what a file holds, so this one says only
 // how many bytes there are at most.
-pub fn read_file<R: Files + Eprint>(rt: &R, path: &str, bytes: &mut [u8]) -> usize
+pub fn read_file<R: Files + Eprint>(rt: &R, path: &[u8], bytes: &mut [u8]) -> usize
     ensures { IsPrefixLen result bytes.new }
 {
     match bytes_of(rt, path, bytes) {
         Ok(n) => n,
         Err(e) => {
-            let _ = eprintln!(rt; "{path}: {e}");
+            fail(rt, path, e);
             return 0;
         }
     }
 }
 
 // The numbers of a file, none where it does not consist of numbers: no more than the list has room for.
-pub fn load<R: Files + Eprint>(rt: &R, path: &str, out: &mut [u32]) -> usize
+pub fn load<R: Files + Eprint>(rt: &R, path: &[u8], out: &mut [u32]) -> usize
     ensures { IsPrefixLen result out.new }
 {
     let mut bytes = [0u8; 65536];

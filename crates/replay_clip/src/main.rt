@@ -60,6 +60,6 @@ fn print_all<R: Print>(rt: &R, cases: &[u32]) {
 
 fn main(rt: HostRuntime) {
     let mut cases = [0u32; 16384];
-    let n = replay::load(&rt, "clips-1.bin", &mut cases);
+    let n = replay::load(&rt, b"clips-1.bin", &mut cases);
     print_all(&rt, &cases[..n]);
 }

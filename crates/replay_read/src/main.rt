@@ -61,7 +61,7 @@ fn print_all<R: Print>(rt: &R, cases: &[u32], out: &mut [i32]) {
 
 fn main(rt: HostRuntime) {
     let mut cases = [0u32; 16384];
-    let n = replay::load(&rt, "readings-1.bin", &mut cases);
+    let n = replay::load(&rt, b"readings-1.bin", &mut cases);
     let mut out = [0i32; 1024];
     print_all(&rt, &cases[..n], &mut out);
 }

@@ -66,13 +66,13 @@ fn print_all<R: Print>(rt: &R, cases: &[u32]) {
     }
 }
 
-fn replay_file<R: Files + Print + Eprint>(rt: &R, path: &str) {
+fn replay_file<R: Files + Print + Eprint>(rt: &R, path: &[u8]) {
     let mut cases = [0u32; 16384];
     let n = replay::load(rt, path, &mut cases);
     print_all(rt, &cases[..n]);
 }
 
 fn main(rt: HostRuntime) {
-    replay_file(&rt, "params-1.bin");
-    replay_file(&rt, "commands-1.bin");
+    replay_file(&rt, b"params-1.bin");
+    replay_file(&rt, b"commands-1.bin");
 }
