@@ -2,35 +2,36 @@
 #![tactic(auto)]
 
 use encoder::whole_job::Encoded;
+use std::rt::Files;
 
-fn print_job(job: &[u32], words: &mut [u32]) {
+fn print_job<R: Print>(rt: &R, job: &[u32], words: &mut [u32]) {
     match job_file::encode_file(job, words) {
         Encoded::Refused(r, accepted) => {
-            replay::print_refused(r, accepted);
+            replay::print_refused(rt, r, accepted);
         }
         Encoded::Words(used) => {
-            replay::print_words(words, used);
+            replay::print_words(rt, words, used);
         }
     }
 }
 
-fn print_all(cases: &[u32], words: &mut [u32]) {
+fn print_all<R: Print>(rt: &R, cases: &[u32], words: &mut [u32]) {
     let mut at = 0;
     while at < cases.len() {
-        print_job(replay::body(cases, at), words);
+        print_job(rt, replay::body(cases, at), words);
         at = replay::past(cases, at);
     }
 }
 
 // The list is as long as the program's.
-fn replay_file(path: &[u8]) {
+fn replay_file<R: Files + Print + Eprint>(rt: &R, path: &[u8]) {
     let mut cases = [0u32; 16384];
-    let n = replay::load(path, &mut cases);
+    let n = replay::load(rt, path, &mut cases);
     let mut words = [0u32; 16384];
-    print_all(&cases[..n], &mut words);
+    print_all(rt, &cases[..n], &mut words);
 }
 
-fn main() {
-    replay_file(b"jobs-1.bin");
-    replay_file(b"jobs-2.bin");
+fn main(rt: HostRuntime) {
+    replay_file(&rt, b"jobs-1.bin");
+    replay_file(&rt, b"jobs-2.bin");
 }

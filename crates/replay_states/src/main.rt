@@ -19,14 +19,14 @@ fn stored(case: &[u32], there: usize, x: usize, y: usize) -> MaybePt {
     })
 }
 
-fn print_point(p: MaybePt) {
+fn print_point<R: Print>(rt: &R, p: MaybePt) {
     match p {
         MaybePt::Nowhere => {
-            replay::print_row(&[0, 0, 0]);
+            replay::print_row(rt, &[0, 0, 0]);
         }
         MaybePt::At(q) => {
             let row = [1, signed_long(q.x), signed_long(q.y)];
-            replay::print_row(&row);
+            replay::print_row(rt, &row);
         }
     }
 }
@@ -56,7 +56,7 @@ fn carried(case: &[u32]) -> GeomEncoder {
 }
 
 // A state in five rows: kind and box; the raw end; the point before last; the last point; the last command's place, the count and the used words.
-fn print_state(q: GeomEncoder) {
+fn print_state<R: Print>(rt: &R, q: GeomEncoder) {
     let b = q.bbox;
     let xy_end = q.xy_end;
     let pt0 = q.pt0;
@@ -68,78 +68,81 @@ fn print_state(q: GeomEncoder) {
         signed_long(b.y_min),
         signed_long(b.y_max),
     ];
-    replay::print_row(&head);
-    print_point(xy_end);
-    print_point(pt0);
-    print_point(pt1);
+    replay::print_row(rt, &head);
+    print_point(rt, xy_end);
+    print_point(rt, pt0);
+    print_point(rt, pt1);
     let figures = [
         replay::size(q.cmd_offset),
         q.count as i64,
         replay::size(q.used),
     ];
-    replay::print_row(&figures);
+    replay::print_row(rt, &figures);
 }
 
 // The encoder that is made; a state of zeros where none is.
-fn started(case: &[u32]) -> GeomEncoder {
+fn started<R: Print>(rt: &R, case: &[u32]) -> GeomEncoder {
     match GeomEncoder::new(number(case, 2), box_of(case)) {
         Started::Fresh(q) => q,
         Started::Refused(r) => {
-            replay::print_refused(r, 0);
+            replay::print_refused(rt, r, 0);
             carried(&case[..0])
         }
     }
 }
 
 // The state that a call leaves.
-fn drawn(d: Drawn) -> GeomEncoder {
+fn drawn<R: Print>(rt: &R, d: Drawn) -> GeomEncoder {
     match d {
         Drawn::Done(q, _) => q,
         Drawn::Refused(r, q) => {
-            replay::print_refused(r, 0);
+            replay::print_refused(rt, r, 0);
             q
         }
     }
 }
 
 // A case: 0 make an encoder, 1 add a point, 2 complete, 3 carry a state; the lent list's length; what the call is given.
-fn call(case: &[u32], q: GeomEncoder, words: &mut [u32]) -> GeomEncoder {
+fn call<R: Print>(rt: &R, case: &[u32], q: GeomEncoder, words: &mut [u32]) -> GeomEncoder {
     let op = number(case, 0);
     if op == 0 {
-        return started(case);
+        return started(rt, case);
     }
     if op == 1 {
-        return drawn(q.add_point(signed_at(case, 2), signed_at(case, 3), words));
+        return drawn(
+            rt,
+            q.add_point(signed_at(case, 2), signed_at(case, 3), words),
+        );
     }
     if op == 2 {
-        return drawn(q.complete_geom(words));
+        return drawn(rt, q.complete_geom(words));
     }
     carried(case)
 }
 
-fn print_call(case: &[u32], q: GeomEncoder, words: &mut [u32]) -> GeomEncoder {
+fn print_call<R: Print>(rt: &R, case: &[u32], q: GeomEncoder, words: &mut [u32]) -> GeomEncoder {
     let room = number(case, 1) as usize;
     if words.len() < room {
         return q;
     }
-    let next = call(case, q, &mut words[..room]);
-    print_state(next);
-    replay::print_words(&words[..room], next.used);
+    let next = call(rt, case, q, &mut words[..room]);
+    print_state(rt, next);
+    replay::print_words(rt, &words[..room], next.used);
     next
 }
 
-fn print_all(cases: &[u32], words: &mut [u32]) {
+fn print_all<R: Print>(rt: &R, cases: &[u32], words: &mut [u32]) {
     let mut q = carried(&cases[..0]);
     let mut at = 0;
     while at < cases.len() {
-        q = print_call(replay::body(cases, at), q, words);
+        q = print_call(rt, replay::body(cases, at), q, words);
         at = replay::past(cases, at);
     }
 }
 
-fn main() {
+fn main(rt: HostRuntime) {
     let mut cases = [0u32; 16384];
-    let n = replay::load(b"states-1.bin", &mut cases);
+    let n = replay::load(&rt, b"states-1.bin", &mut cases);
     let mut words = [0u32; 1024];
-    print_all(&cases[..n], &mut words);
+    print_all(&rt, &cases[..n], &mut words);
 }

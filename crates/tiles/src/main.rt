@@ -11,6 +11,8 @@ ghost use Rattle.tiles.specs.Program.{tile_shown, Answers};
 use number_file::Numbers;
 use printed::{Text, first_bytes, first_words};
 use refusal::Refusal;
+use std::io;
+use std::io::Write;
 use tile_run::Ran;
 
 // A refusal of the whole script, shown: one outcome and no bytes.
@@ -71,9 +73,9 @@ fn answer(
 // it (opening takes three and the geometry, a record six and the geometry; a tag adds two), and a tile's bytes at most twice the script's (a geometry
 // word takes four bytes there and at most five here). An outcome is given 29 bytes of text and a tile's byte 3: the text holds the answer of every script
 // but those of more than about 15,000 operations, nearly all of one number, which are answered ROOM.
-fn main() {
+fn main(rt: HostRuntime) -> io::Result<()> {
     let mut file = [0u8; 65537];
-    let n = io::read_full(libc::STDIN_FILENO, &mut file);
+    let n = console::fill(&mut rt.stdin(), &mut file)?;
     let mut numbers = [0u32; 16384];
     let mut outcomes = [0u32; 16385];
     let mut keys = [0u32; 8192];
@@ -95,5 +97,5 @@ fn main() {
         &mut out,
         &mut text,
     );
-    io::write_all(libc::STDOUT_FILENO, &text[..k]);
+    io::writer(&rt).write_all(&text[..k])
 }
