@@ -9,6 +9,8 @@ ghost use Rattle.edges.specs.Program.{printed};
 use encoder::whole_job::Encoded;
 use number_file::Numbers;
 use printed::Text;
+use std::io;
+use std::io::Write;
 
 // What the program prints for a file, at the front of `text`: how many bytes it is. The lists are the program's own, and large enough: a file has
 // fewer edges than numbers.
@@ -41,13 +43,13 @@ fn answer(
 }
 
 // A file may have 65,536 bytes; one more is read, so that a longer file is seen.
-fn main() {
+fn main(rt: HostRuntime) -> io::Result<()> {
     let mut file = [0u8; 65537];
-    let n = io::read_full(libc::STDIN_FILENO, &mut file);
+    let n = console::fill(&mut rt.stdin(), &mut file)?;
     let mut numbers = [0u32; 16384];
     let mut words = [0u32; 16384];
     let mut edges = [0u32; 16384];
     let mut text = [0u8; Text::WORDS];
     let k = answer(&file[..n], &mut numbers, &mut words, &mut edges, &mut text);
-    io::write_all(libc::STDOUT_FILENO, &text[..k]);
+    io::writer(&rt).write_all(&text[..k])
 }

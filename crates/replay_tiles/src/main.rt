@@ -4,13 +4,14 @@
 
 use replay::number;
 use script::{Op, Part};
+use std::rt::Files;
 use tile::Tile;
 use tile_run::hand::Hand;
 use tile_run::performing::Work;
 use tile_run::{Ran, Step};
 
 // The last two feature words of the layer at hand: those that a tag has added.
-fn print_tag(h: Hand, features: &[u32]) {
+fn print_tag<R: Print>(rt: &R, h: Hand, features: &[u32]) {
     match h {
         Hand::Nothing => (),
         Hand::Holds(s) => {
@@ -23,21 +24,21 @@ fn print_tag(h: Hand, features: &[u32]) {
                 number(features, end - 2) as i64,
                 number(features, end - 1) as i64,
             ];
-            replay::print_row(&row);
+            replay::print_row(rt, &row);
         }
     }
 }
 
 // An accepted tag's indices.
-fn print_step(op: u32, outcome: u32, w: Work, features: &[u32]) {
+fn print_step<R: Print>(rt: &R, op: u32, outcome: u32, w: Work, features: &[u32]) {
     if (op == Op::TAG) & (outcome == 0) {
         let hand = w.hand;
-        print_tag(hand, features);
+        print_tag(rt, hand, features);
     }
 }
 
 // A script, run; the lists are as long as the program's.
-fn print_outcomes(bytes: &[u8], numbers: &[u32]) {
+fn print_outcomes<R: Print>(rt: &R, bytes: &[u8], numbers: &[u32]) {
     let mut outcomes = [0u32; 16385];
     let mut keys = [0u32; 8192];
     let mut values = [0u32; 12288];
@@ -57,16 +58,16 @@ fn print_outcomes(bytes: &[u8], numbers: &[u32]) {
         &mut out,
     ) {
         Ran::Refused(r) => {
-            replay::print_refused(r, 0);
+            replay::print_refused(rt, r, 0);
         }
         Ran::Done(n, used) => {
-            replay::print_tile(&outcomes, n, &out, used);
+            replay::print_tile(rt, &outcomes, n, &out, used);
         }
     }
 }
 
 // Its operations once more, one by one, since a tag's indices are seen only behind it.
-fn print_tags(bytes: &[u8], numbers: &[u32]) {
+fn print_tags<R: Print>(rt: &R, bytes: &[u8], numbers: &[u32]) {
     let mut keys = [0u32; 8192];
     let mut values = [0u32; 12288];
     let mut texts = [0u8; 65536];
@@ -93,7 +94,7 @@ fn print_tags(bytes: &[u8], numbers: &[u32]) {
         ) {
             Step::Bad => return,
             Step::Is(outcome, next, place) => {
-                print_step(number(numbers, at), outcome, next, &features);
+                print_step(rt, number(numbers, at), outcome, next, &features);
                 w = next;
                 at = place;
             }
@@ -102,7 +103,7 @@ fn print_tags(bytes: &[u8], numbers: &[u32]) {
 }
 
 // The file's bytes are those of its numbers, four to each.
-fn print_all(bytes: &[u8], cases: &[u32]) {
+fn print_all<R: Print>(rt: &R, bytes: &[u8], cases: &[u32]) {
     let mut at = 0;
     while at < cases.len() {
         let numbers = replay::body(cases, at);
@@ -111,22 +112,22 @@ fn print_all(bytes: &[u8], cases: &[u32]) {
             len: 4 * numbers.len(),
         };
         let file = script::text(bytes, part);
-        print_outcomes(file, numbers);
-        print_tags(file, numbers);
+        print_outcomes(rt, file, numbers);
+        print_tags(rt, file, numbers);
         at = replay::past(cases, at);
     }
 }
 
-fn replay_file(path: &[u8]) {
+fn replay_file<R: Files + Print + Eprint>(rt: &R, path: &[u8]) {
     let mut bytes = io::large_buffer();
     let mut cases = [0u32; 16384];
-    let n = replay::read_file(path, &mut bytes);
-    let m = replay::load(path, &mut cases);
-    print_all(&bytes[..n], &cases[..m]);
+    let n = replay::read_file(rt, path, &mut bytes);
+    let m = replay::load(rt, path, &mut cases);
+    print_all(rt, &bytes[..n], &cases[..m]);
 }
 
 // The scripts that the Rust can be asked, and their neighbours; then those with strict layers, which it does not know.
-fn main() {
-    replay_file(b"tiles-1.bin");
-    replay_file(b"tiles-2.bin");
+fn main(rt: HostRuntime) {
+    replay_file(&rt, b"tiles-1.bin");
+    replay_file(&rt, b"tiles-2.bin");
 }
