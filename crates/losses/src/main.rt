@@ -11,6 +11,8 @@ use encoder::tally::Tally;
 use encoder::whole_job::Course;
 use number_file::Numbers;
 use printed::Text;
+use std::io;
+use std::io::Write;
 
 // The four counts and the vertices as lines, at the front of `text`. No more points are lost than were given, so the vertices are no less than zero.
 fn show_tally(t: Tally, text: &mut [u8]) -> usize
@@ -41,12 +43,12 @@ fn answer(file: &[u8], numbers: &mut [u32], words: &mut [u32], text: &mut [u8]) 
 
 // A file may have 65,536 bytes; one more is read, so that a longer file is seen. Words are lent as `job` lends them, so both refuse alike
 // (`file_finished` of job_file).
-fn main() {
+fn main(rt: HostRuntime) -> io::Result<()> {
     let mut file = [0u8; 65537];
-    let n = io::read_full(libc::STDIN_FILENO, &mut file);
+    let n = console::fill(&mut rt.stdin(), &mut file)?;
     let mut numbers = [0u32; 16384];
     let mut words = [0u32; 16384];
     let mut text = [0u8; Text::LOSSES];
     let k = answer(&file[..n], &mut numbers, &mut words, &mut text);
-    io::write_all(libc::STDOUT_FILENO, &text[..k]);
+    io::writer(&rt).write_all(&text[..k])
 }
