@@ -13,7 +13,7 @@ import checker
 from crates import HEAD, TOP, functions, read_edit
 
 BY_ITSELF = re.compile(r"^(\S+?):\d+:\d+: error: `([^`]+)`(?!.*was not admitted)", re.M)
-IMPORTED_FUNCTION = re.compile(r"^use [\w:]+::[a-z]\w*;\n", re.M)
+IMPORTED = re.compile(r"^((?:pub )?use [\w:]+::)(?:\{([^{}]*)\}|([a-z]\w*));\n", re.M)
 
 
 def across(name):
@@ -30,10 +30,16 @@ def without_functions(name, crates):
         ends = [f.end + 1 for f in functions(name) if f.file == file]
         for head in reversed(list(HEAD.finditer(plain))):
             text = text[:head.start()] + text[min(e for e in ends if e > head.end()):]
-        (folder / file).write_text(IMPORTED_FUNCTION.sub("", text))
+        (folder / file).write_text(IMPORTED.sub(types_alone, text))
     for proof in (folder / "proofs").rglob("*.antt"):
         if proof.stem in ("Answers", "Invariants", "Proof"):
             proof.unlink()
+
+
+def types_alone(found):
+    """An import without the functions that it brings."""
+    kept = [name for name in re.split(r"[\s,]+", found[2] or "") if name[:1].isupper()]
+    return f"{found[1]}{{{', '.join(kept)}}};\n" if kept else ""
 
 
 def above(edited, name):

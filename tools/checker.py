@@ -93,7 +93,23 @@ def linked(kept, to):
 
 def made(crate):
     """Has rt prove a crate in its folder, which makes what the crates above it need and keeps what it proved in out/: the status, and what rt said."""
-    verb = "check" if (TOP / "crates" / crate / "src/main.rt").exists() or crate in static_libraries() else "lib"
+    verb = "lib" if is_library(crate) else "check"
     done = subprocess.run([RT, verb, "--jobs", "1"], cwd=TOP / "crates" / crate, stdin=subprocess.DEVNULL, stdout=subprocess.PIPE, stderr=subprocess.STDOUT, text=True,
                           errors="replace")
     return done.returncode, done.stdout
+
+
+def is_library(crate):
+    return not (TOP / "crates" / crate / "src/main.rt").exists() and crate not in static_libraries()
+
+
+def has_stamp(crate):
+    """Whether the library in a crate's out/ is of `rt lib` or `rt check`, and not of `rt ci`."""
+    return (out(crate) / "rlib/stamp").exists()
+
+
+def left_by_ci(crate):
+    """Whether `rt ci` has left what the crates above a library need, as `made` tells it."""
+    if not is_library(crate) or (out(crate) / f"rlib/{crate}.rlib/format").exists():
+        return 0, ""
+    return 1, "rt ci has left no library of this crate, so it did not prove it"
