@@ -19,7 +19,7 @@ use Rattle.brinepost_reader.specs.declared.layers.BpNextLayer.{BpNextLayer}
 use Rattle.brinepost_reader.specs.declared.features.BpNextFeature.{BpNextFeature}
 use Rattle.brinepost_reader.specs.declared.entries.BpNextKey.{BpNextKey}
 use Rattle.brinepost_reader.specs.declared.entries.BpNextValue.{BpNextValue}
-use Rattle.brinepost_reader.specs.declared.words.BpWordsRead.{BpWordsRead}
+use Rattle.brinepost_reader.specs.declared.feature_words.BpWordsRead.{BpWordsRead}
 
 -- an answer that goes by the tile's verdict, as C is told it
 abbrev pub as_told : {A B : Type 0} → (A → B) → (Verdict → A) → Verdict → B

@@ -7,5 +7,5 @@ pub mod opened; // whether a tile is good
 pub mod layers; // the next layer of a tile
 pub mod features; // the next feature of a layer
 pub mod entries; // the next key and the next value of a layer
-pub mod words; // a feature's tags and geometry
+pub mod feature_words; // a feature's tags and geometry
 pub mod interface; // the number of the interface

@@ -1,7 +1,7 @@
 -- By the two cases of the answer.
 use Rattle.brinepost_reader.proofs.Structs.{words_are, words_not}
 use borrow.Author.Rules.{rules}
-use Rattle.brinepost_reader.proofs.words.answered.Goals as goal
+use Rattle.brinepost_reader.proofs.feature_words.answered.Goals as goal
 
 pub returns-in-Words : goal.returns-in-Words
 returns-in-Words c = search (rules, words_are)
