@@ -36,6 +36,13 @@ pub struct Fault {
     pub place: usize,
 }
 
+// A refusal, and what the call leaves with its caller: the state as it was given, or what the accepted calls of a whole job made.
+#[derive(Clone, Copy)]
+pub struct Refused<T> {
+    pub refusal: Refusal,
+    pub kept: T,
+}
+
 // The number that the table gives a refusal. Nobody has 9: it was CUT, before request (iii) told the two cuts apart.
 pub fn number(r: Refusal) -> u32
     ensures { result ≡ number_of r }
