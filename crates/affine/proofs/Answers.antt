@@ -7,8 +7,8 @@ use Rattle.refusal.proofs.Laws.{one_refusal, never_both}
 use Rattle.clip.specs.declared.Pt.{Pt}
 use Rattle.clip.specs.Domain.{within, is_coord}
 use Rattle.affine.specs.declared.Affine.{Affine}
-use Rattle.affine.specs.declared.Mapped.{Mapped}
-use Rattle.affine.specs.declared.Mapped.TheVariants.{At, Refused}
+use Rattle.std.specs.Prelude.{Result, Ok, Err}
+use Rattle.refusal.specs.declared.Refusal.{Refusal}
 use Rattle.affine.specs.Grid.{beyond, whole_of, grid_of}
 use Rattle.affine.specs.Mapping.{along, surveyed, said_mapped, mapped}
 
@@ -16,11 +16,11 @@ use Rattle.affine.specs.Mapping.{along, surveyed, said_mapped, mapped}
 one_point : (p q : Pt) → p ∷ [] ≡ q ∷ [] → p ≡ q
 one_point p q e = cc
 
-pub one_mapped : (r r' : Mapped) → said_mapped r ≡ said_mapped r' → r ≡ r'
-one_mapped (At p) (At q) e = ap At (one_point p q (ap (λ (s : Said (List Pt)). s.values) e))
-one_mapped (At p) (Refused r) e = absurd (never_both r e)
-one_mapped (Refused r) (At q) e = absurd (never_both r (sym e))
-one_mapped (Refused r) (Refused r') e = ap Refused (one_refusal r r' e)
+pub one_mapped : (r r' : Result Pt Refusal) → said_mapped r ≡ said_mapped r' → r ≡ r'
+one_mapped (Ok p) (Ok q) e = ap Ok (one_point p q (ap (λ (s : Said (List Pt)). s.values) e))
+one_mapped (Ok p) (Err r) e = absurd (never_both r e)
+one_mapped (Err r) (Ok q) e = absurd (never_both r (sym e))
+one_mapped (Err r) (Err r') e = ap Err (one_refusal r r' e)
 
 -- ---- one number: its nearest whole number where that lies within the limit
 pub on_grid : (x : Float) → within (whole_of x) ≡ true → whole_of x ≡ grid_of x

@@ -11,8 +11,8 @@ use Rattle.refusal.specs.Said.{Said, accepted, refused}
 use Rattle.clip.specs.declared.Pt.{Pt}
 use Rattle.clip.specs.Domain.{is_coord}
 use Rattle.affine.specs.declared.Affine.{Affine}
-use Rattle.affine.specs.declared.Mapped.{Mapped}
-use Rattle.affine.specs.declared.Mapped.TheVariants.{At, Refused}
+use Rattle.std.specs.Prelude.{Result, Ok, Err}
+use Rattle.refusal.specs.declared.Refusal.{Refusal}
 use Rattle.affine.specs.Grid.{beyond, grid_of}
 
 -- (a·x + b·y) + c: two products, their sum, then c
@@ -24,9 +24,9 @@ abbrev pub surveyed : Affine → Float → Float → Pt
 surveyed t x y = record { x = grid_of (along t.a t.b t.c x y); y = grid_of (along t.d t.e t.f x y) }
 
 -- ---- one point: COORD, else the grid point
-abbrev pub said_mapped : Mapped → Said (List Pt)
-said_mapped (At p) = accepted (p ∷ [])
-said_mapped (Refused r) = refused r []
+abbrev pub said_mapped : Result Pt Refusal → Said (List Pt)
+said_mapped (Ok p) = accepted (p ∷ [])
+said_mapped (Err r) = refused r []
 
 unfoldable pub mapped : Affine → Float → Float → Said (List Pt)
 mapped t x y = cond (is_coord (surveyed t x y)) (accepted (surveyed t x y ∷ [])) (refused Coord [])

@@ -24,12 +24,6 @@ pub struct Affine {
     pub f: f64,
 }
 
-#[derive(Clone, Copy)]
-pub enum Mapped {
-    At(Pt),
-    Refused(Refusal),
-}
-
 // a·x + b·y + c: each product rounded, then the sums, from the left.
 fn along(a: f64, b: f64, c: f64, x: f64, y: f64) -> f64
     ensures { result ≡ along a b c x y }
@@ -110,18 +104,13 @@ fn map_plain(t: Affine, points: &[f64], from: usize, to: usize, out: &mut [i32])
     requires to_in_bounds_2 { to ≤ length out.old }
     ensures { MapsPlain t points.now from to out.old result out.new }
 {
-    let a = t.a;
-    let b = t.b;
-    let c = t.c;
-    let d = t.d;
-    let e = t.e;
-    let f = t.f;
+    // A `while`: a point takes two numbers of each list, and where it ends is the answer.
     let mut i = from;
     while i < to {
         let x = points[i];
         let y = points[i + 1];
-        let u = along(a, b, c, x, y);
-        let v = along(d, e, f, x, y);
+        let u = along(t.a, t.b, t.c, x, y);
+        let v = along(t.d, t.e, t.f, x, y);
         let s = stepped(u);
         let w = stepped(v);
         let on_grid = is_on_grid(u) & is_on_grid(v);
@@ -150,14 +139,14 @@ impl Affine {
     }
 
     // The same, or COORD where a coordinate is not finite or its whole number lies beyond the limit.
-    pub fn map_point(self, x: f64, y: f64) -> Mapped
+    pub fn map_point(self, x: f64, y: f64) -> Result<Pt, Refusal>
         ensures { said_mapped result ≡ mapped self x y }
     {
         let p = self.grid_point(x, y);
         if BBox::is_coord(p) {
-            return Mapped::At(p);
+            return Ok(p);
         }
-        Mapped::Refused(Refusal::Coord)
+        Err(Refusal::Coord)
     }
 
     // Lays the grid points of a list at the front of `out`, as many as both hold, and answers how many.
@@ -166,15 +155,14 @@ impl Affine {
     {
         let n = smaller(points.len() / 2, out.len() / 2);
         let end = 2 * n;
+        // A `while`: each turn goes on from where a run ended.
         let mut i = 0;
         while i < end {
             i = map_plain(self, points, i, end, out);
             if i < end {
                 let p = self.grid_point(points[i], points[i + 1]);
-                let x = p.x;
-                let y = p.y;
-                out[i] = x;
-                out[i + 1] = y;
+                out[i] = p.x;
+                out[i + 1] = p.y;
                 i += 2;
             }
         }

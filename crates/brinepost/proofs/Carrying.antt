@@ -1,18 +1,17 @@
 -- A state as C carries it, put together from its parts.
 use mathlib.Core.Path.{◌≡◌}
 use Rattle.clip.specs.declared.Pt.{Pt}
-use Rattle.encoder.specs.declared.points.MaybePt.{MaybePt}
-use Rattle.encoder.specs.declared.points.MaybePt.TheVariants.{At}
+use Rattle.std.specs.Prelude.{Option, Some}
 use Rattle.encoder.specs.declared.GeomEncoder.{GeomEncoder}
 use Rattle.brinepost.specs.declared.state.BpPoint.{BpPoint}
 use Rattle.brinepost.specs.declared.state.BpEncoder.{BpEncoder}
 use Rattle.brinepost.specs.Carried.{point_of, point_to, state_of, state_to}
 
-pub to_point : (m : MaybePt) (p : Pt) → m ≡ At p → ◌≡◌ {A = BpPoint} (record { is_set = 1; x = p.x; y = p.y }) (point_to m)
+pub to_point : (m : Option Pt) (p : Pt) → m ≡ Some p → ◌≡◌ {A = BpPoint} (record { is_set = 1; x = p.x; y = p.y }) (point_to m)
 unfolding point_to
 to_point m p e = rw e
 
-module _ (s : BpEncoder) (a b c : MaybePt) where
+module _ (s : BpEncoder) (a b c : Option Pt) where
   pub state_read : a ≡ point_of s.xy_end → b ≡ point_of s.pt0 → c ≡ point_of s.pt1 →
       ◌≡◌ {A = GeomEncoder}
       (record { tally = record { taken = s.taken; boundary = s.boundary; skipped = s.skipped; taken_out = s.taken_out }; kind = s.kind; bbox = record { x_min = s.x_min; x_max = s.x_max; y_min = s.y_min; y_max = s.y_max }; xy_end = a; pt0 = b; pt1 = c; cmd_offset = s.cmd_offset; count = s.count; used = s.used })

@@ -20,8 +20,6 @@ use Rattle.clip.specs.declared.Pt.{Pt}
 use Rattle.clip.specs.declared.Seg.{Seg}
 use Rattle.clip.specs.declared.BBox.{BBox}
 use Rattle.clip.specs.declared.ClippedSeg.{ClippedSeg}
-use Rattle.clip.specs.declared.Clipped.{Clipped}
-use Rattle.clip.specs.declared.Clipped.TheVariants.{Done as Cut, Refused as NotCut}
 use Rattle.clip.specs.Domain.{is_coord, is_good, is_inside}
 use Rattle.clip.specs.Answer.{said_clipped, are_coords, clipped}
 use Rattle.clip.specs.Numbers.{seg_at, box_at}
@@ -30,11 +28,10 @@ use Rattle.clip.specs.declared.Edge.{Edge}
 use Rattle.promise.proofs.Joined.{both}
 use Rattle.clip.proofs.Callers.{box_refused, coord_refused, kept_inside, kept_apart}
 use Rattle.affine.specs.declared.Affine.{Affine}
-use Rattle.affine.specs.declared.Mapped.{Mapped}
 use Rattle.affine.specs.Mapping.{said_mapped, mapped}
 use Rattle.encoder.specs.declared.GeomEncoder.{GeomEncoder}
-use Rattle.encoder.specs.declared.Started.{Started}
-use Rattle.encoder.specs.declared.Drawn.{Drawn}
+use Rattle.refusal.specs.declared.Refused.{Refused}
+use Rattle.std.specs.Prelude.{Result, Ok, Err}
 use Rattle.encoder.specs.declared.Edges.{Edges}
 use Rattle.encoder.specs.Answers.{Counted, said_started, started, said_drawn, none, edges_of, passed}
 use Rattle.encoder.specs.Adding.{added, edges}
@@ -93,19 +90,19 @@ module _ (s : Seg) (b : BBox) (g : Bool) (eg : g ≡ is_good b) (r : BpClipped) 
       clip_apart i o eo h t = as_given s t b r (kept_apart s b (sym eg ∙ not-false g n) (sym told ∙ not-false (u && v) i) (sym eo ∙ not-true o h))
 
 -- what the clip said, by its two cases
-module _ (a : Clipped) (s : Seg) (b : BBox) (e : said_clipped a ≡ clipped s b) (r : BpClipped) where
-  pub clip_done : (c : ClippedSeg) → a ≡ Cut c → r ≡ ends 0 (c ∷ []) → r ≡ flat_clip (clipped s b)
+module _ (a : Result ClippedSeg Refusal) (s : Seg) (b : BBox) (e : said_clipped a ≡ clipped s b) (r : BpClipped) where
+  pub clip_done : (c : ClippedSeg) → a ≡ Ok c → r ≡ ends 0 (c ∷ []) → r ≡ flat_clip (clipped s b)
   unfolding flat_clip
   clip_done c f h = h ∙ ap flat_clip (sym (ap said_clipped f) ∙ e)
 
-  pub clip_not : (k : Refusal) → a ≡ NotCut k → r ≡ ends (number_of k) [] → r ≡ flat_clip (clipped s b)
+  pub clip_not : (k : Refusal) → a ≡ Err k → r ≡ ends (number_of k) [] → r ≡ flat_clip (clipped s b)
   unfolding flat_clip
   clip_not k f h = h ∙ ap flat_clip (sym (ap said_clipped f) ∙ e)
 
-pub start_told : (a : Started) (kind : ℕ) (b : BBox) (r : BpStarted) → said_started a ≡ started kind b → r ≡ flat_started (said_started a) → r ≡ flat_started (started kind b)
+pub start_told : (a : Result GeomEncoder Refusal) (kind : ℕ) (b : BBox) (r : BpStarted) → said_started a ≡ started kind b → r ≡ flat_started (said_started a) → r ≡ flat_started (started kind b)
 start_told a kind b r e h = h ∙ ap flat_started e
 
-pub map_told : (a : Mapped) (t u : Affine) (x y : Float) (r : BpMapped) → t ≡ u → said_mapped a ≡ mapped t x y → r ≡ flat_mapped (said_mapped a) → r ≡ flat_mapped (mapped u x y)
+pub map_told : (a : Result Pt Refusal) (t u : Affine) (x y : Float) (r : BpMapped) → t ≡ u → said_mapped a ≡ mapped t x y → r ≡ flat_mapped (said_mapped a) → r ≡ flat_mapped (mapped u x y)
 map_told a t u x y r f e h = h ∙ ap flat_mapped (e ∙ ap (λ (z : Affine). mapped z x y) f)
 
 -- ---- the edges: a refused call names none, so what was passed on once is told as it is
@@ -127,7 +124,7 @@ module _ (given : BpEncoder) (out : List ℕ) (t : Bool) (f : t ≡ are_flags gi
   unfolding unless_flagged
   flags_no e w r h k = rw (sym f ∙ not-true t h) (record { answer = k; memory = refl })
 
-  flags_yes : (e : Edges) (w : Written (Said Counted) (List ℕ)) (a : Drawn) (r : BpDrawn) (m : List ℕ) → not t ≡ false → Gives w (said_drawn a) m → edges_of a ≡ passed w.answer e → r ≡ flat_drawn given (edges_of a) (said_drawn a) → Gives (unless_flagged given out e w) r m
+  flags_yes : (e : Edges) (w : Written (Said Counted) (List ℕ)) (a : Result (GeomEncoder × Edges) (Refused GeomEncoder)) (r : BpDrawn) (m : List ℕ) → not t ≡ false → Gives w (said_drawn a) m → edges_of a ≡ passed w.answer e → r ≡ flat_drawn given (edges_of a) (said_drawn a) → Gives (unless_flagged given out e w) r m
   unfolding unless_flagged
   flags_yes e w a r m h g n k =
       let p : edges_of a ≡ passed (said_drawn a) e = n ∙ ap (λ (x : Said Counted). passed x e) (sym g.answer) in
@@ -140,7 +137,7 @@ module _ (given : BpEncoder) (out : List ℕ) (t : Bool) (f : t ≡ are_flags gi
   pub complete_flagged : (r : BpDrawn) → not t ≡ true → r ≡ flagged given State → Gives (completed_from given out) r out
   complete_flagged r h k = flags_no none (completed (state_of given) out) r h k
 
-  module _ (h : not t ≡ false) (s : GeomEncoder) (k : s ≡ state_of given) (a : Drawn) (r : BpDrawn) (m : List ℕ) (q : r ≡ flat_drawn given (edges_of a) (said_drawn a)) where
+  module _ (h : not t ≡ false) (s : GeomEncoder) (k : s ≡ state_of given) (a : Result (GeomEncoder × Edges) (Refused GeomEncoder)) (r : BpDrawn) (m : List ℕ) (q : r ≡ flat_drawn given (edges_of a) (said_drawn a)) where
     pub add_told : (p : Pt) → Gives (added s p out) (said_drawn a) m → edges_of a ≡ passed (added s p out).answer (edges s p) → Gives (added_at given p out) r m
     add_told p g n = rw (← k) (flags_yes (edges s p) (added s p out) a r m h g n q)
 

@@ -1,18 +1,17 @@
 -- An encoder's state as C carries it, and the state that it stands for. A point that may be missing is a flag, x and y: 0 for a missing one, 1 for a point.
-use Rattle.std.specs.Prelude.{Bool, cond, ◌&&◌, leb, eqb, pos}
-use Rattle.encoder.specs.declared.points.MaybePt.{MaybePt}
-use Rattle.encoder.specs.declared.points.MaybePt.TheVariants.{Nowhere, At}
+use Rattle.std.specs.Prelude.{Bool, cond, ◌&&◌, leb, eqb, pos, Option, Some, None}
+use Rattle.clip.specs.declared.Pt.{Pt}
 use Rattle.encoder.specs.declared.GeomEncoder.{GeomEncoder}
 use Rattle.brinepost.specs.declared.state.BpPoint.{BpPoint}
 use Rattle.brinepost.specs.declared.state.BpEncoder.{BpEncoder}
 
 -- the point that C's three numbers stand for, where the flag is 0 or 1; what lies behind a 0 means nothing
-unfoldable pub point_of : BpPoint → MaybePt
-point_of p = cond (eqb p.is_set 0) Nowhere (At (record { x = p.x; y = p.y }))
+unfoldable pub point_of : BpPoint → Option Pt
+point_of p = cond (eqb p.is_set 0) None (Some (record { x = p.x; y = p.y }))
 
-unfoldable pub point_to : MaybePt → BpPoint
-point_to Nowhere = record { is_set = 0; x = pos 0; y = pos 0 }
-point_to (At p) = record { is_set = 1; x = p.x; y = p.y }
+unfoldable pub point_to : Option Pt → BpPoint
+point_to None = record { is_set = 0; x = pos 0; y = pos 0 }
+point_to (Some p) = record { is_set = 1; x = p.x; y = p.y }
 
 -- each flag is 0 or 1
 unfoldable pub are_flags : BpEncoder → Bool
@@ -64,9 +63,9 @@ nothing =
       x_max = pos 0;
       y_min = pos 0;
       y_max = pos 0;
-      xy_end = point_to Nowhere;
-      pt0 = point_to Nowhere;
-      pt1 = point_to Nowhere;
+      xy_end = point_to None;
+      pt0 = point_to None;
+      pt1 = point_to None;
       taken = 0;
       boundary = 0;
       skipped = 0;

@@ -7,7 +7,7 @@ ghost use Rattle.brinepost.specs.Drawing.{flat_started, flat_drawn, flagged, add
 
 use crate::state::BpEncoder;
 use clip::BBox;
-use encoder::{Drawn, GeomEncoder, Started};
+use encoder::{Drawn, GeomEncoder};
 use refusal::Refusal;
 
 #[repr(C)]
@@ -27,15 +27,15 @@ pub struct BpDrawn {
     pub edge1: u32,
 }
 
-fn begun(r: Started) -> BpStarted
+fn begun(r: Result<GeomEncoder, Refusal>) -> BpStarted
     ensures { result ≡ flat_started (said_started r) }
 {
     match r {
-        Started::Fresh(s) => BpStarted {
+        Ok(s) => BpStarted {
             refusal: 0,
             state: crate::state::state_to(s),
         },
-        Started::Refused(k) => BpStarted {
+        Err(k) => BpStarted {
             refusal: refusal::number(k),
             state: crate::state::no_state(),
         },
@@ -47,18 +47,14 @@ pub(crate) fn answered(given: BpEncoder, r: Drawn) -> BpDrawn
     ensures { result ≡ flat_drawn given (edges_of r) (said_drawn r) }
 {
     match r {
-        Drawn::Done(s, edges) => {
-            let first = edges.first;
-            let second = edges.second;
-            BpDrawn {
-                refusal: 0,
-                words: s.used,
-                state: crate::state::state_to(s),
-                edge0: first.number(),
-                edge1: second.number(),
-            }
-        }
-        Drawn::Refused(k, _) => refused(given, k),
+        Ok((s, edges)) => BpDrawn {
+            refusal: 0,
+            words: s.used,
+            state: crate::state::state_to(s),
+            edge0: edges.first.number(),
+            edge1: edges.second.number(),
+        },
+        Err(e) => refused(given, e.refusal),
     }
 }
 

@@ -21,14 +21,14 @@ fn answered(r: Course, points: usize) -> BpFinished
     ensures { result ≡ flat_finished points (outcome_of points r) }
 {
     match r {
-        Course::On(s) => BpFinished {
+        Ok(s) => BpFinished {
             refusal: 0,
             points: points,
             state: crate::state::state_to(s),
         },
-        Course::Off(k, n) => BpFinished {
-            refusal: refusal::number(k),
-            points: n,
+        Err(e) => BpFinished {
+            refusal: refusal::number(e.refusal),
+            points: e.kept,
             state: crate::state::no_state(),
         },
     }

@@ -6,7 +6,7 @@ ghost use Rattle.clip.specs.Cutting.{given};
 ghost use Rattle.clip.specs.Numbers.{seg_at, box_at};
 ghost use Rattle.brinepost.specs.Segments.{ends, flat_clip};
 
-use clip::{BBox, Clipped, Edge, Pt, Seg};
+use clip::{BBox, Edge, Pt, Seg};
 use refusal::Refusal;
 
 #[repr(C)]
@@ -110,7 +110,7 @@ pub extern "C" fn bp_clip(
         return kept(x0, y0, x1, y1);
     }
     match clip::clip(seg, bbox) {
-        Clipped::Done(c) => {
+        Ok(c) => {
             let cut = c.seg;
             let end0 = cut.p0;
             let end1 = cut.p1;
@@ -118,7 +118,7 @@ pub extern "C" fn bp_clip(
             let second = c.second;
             return accepted(end0.x, end0.y, end1.x, end1.y, first, second);
         }
-        Clipped::Refused(k) => {
+        Err(k) => {
             return refused(k);
         }
     }

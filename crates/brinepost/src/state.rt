@@ -5,7 +5,6 @@ ghost use Rattle.brinepost.specs.Carried.{point_of, point_to, are_flags, state_o
 
 use clip::{BBox, Pt};
 use encoder::GeomEncoder;
-use encoder::points::MaybePt;
 use encoder::tally::Tally;
 
 #[repr(C)]
@@ -36,35 +35,29 @@ pub struct BpEncoder {
     pub taken_out: u32,
 }
 
-fn point_of(p: BpPoint) -> MaybePt
+fn point_of(p: BpPoint) -> Option<Pt>
     ensures { result ≡ point_of p }
 {
-    let x = p.x;
-    let y = p.y;
     if p.is_set == 0 {
-        return MaybePt::Nowhere;
+        return None;
     }
-    MaybePt::At(Pt { x: x, y: y })
+    Some(Pt { x: p.x, y: p.y })
 }
 
-fn point_to(m: MaybePt) -> BpPoint
+fn point_to(m: Option<Pt>) -> BpPoint
     ensures { result ≡ point_to m }
 {
     match m {
-        MaybePt::Nowhere => BpPoint {
+        None => BpPoint {
             is_set: 0,
             x: 0,
             y: 0,
         },
-        MaybePt::At(p) => {
-            let x = p.x;
-            let y = p.y;
-            BpPoint {
-                is_set: 1,
-                x: x,
-                y: y,
-            }
-        }
+        Some(p) => BpPoint {
+            is_set: 1,
+            x: p.x,
+            y: p.y,
+        },
     }
 }
 

@@ -8,8 +8,8 @@ ghost use Rattle.brinepost.specs.Surveyed.{map_of, flat_mapped, surveyed_from, s
 use crate::calls::BpDrawn;
 use crate::state::BpEncoder;
 use crate::work::BpJob;
-use affine::{Affine, Mapped};
-use clip::BBox;
+use affine::Affine;
+use clip::{BBox, Pt};
 use refusal::Refusal;
 
 // The grid's x is a·x + b·y + c, its y is d·x + e·y + f.
@@ -46,20 +46,16 @@ fn map_of(m: BpAffine) -> Affine
     }
 }
 
-fn answered(r: Mapped) -> BpMapped
+fn answered(r: Result<Pt, Refusal>) -> BpMapped
     ensures { result ≡ flat_mapped (said_mapped r) }
 {
     match r {
-        Mapped::At(p) => {
-            let x = p.x;
-            let y = p.y;
-            BpMapped {
-                refusal: 0,
-                x: x,
-                y: y,
-            }
-        }
-        Mapped::Refused(k) => BpMapped {
+        Ok(p) => BpMapped {
+            refusal: 0,
+            x: p.x,
+            y: p.y,
+        },
+        Err(k) => BpMapped {
             refusal: refusal::number(k),
             x: 0,
             y: 0,

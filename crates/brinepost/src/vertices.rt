@@ -5,7 +5,7 @@ ghost use Rattle.decoder.specs.ReadingWords.{reading, said_reading};
 ghost use Rattle.telling.specs.Telling.{told};
 ghost use Rattle.brinepost.specs.Readings.{flat_reading};
 
-use decoder::Reading;
+use refusal::Fault;
 
 #[repr(C)]
 #[derive(Clone, Copy)]
@@ -15,23 +15,20 @@ pub struct BpReading {
     pub place: usize,
 }
 
-fn answered(r: Reading) -> BpReading
+fn answered(r: Result<usize, Fault>) -> BpReading
     ensures { result ≡ flat_reading (said_reading r) }
 {
     match r {
-        Reading::Read(n) => BpReading {
+        Ok(n) => BpReading {
             refusal: 0,
             vertices: n,
             place: 0,
         },
-        Reading::Refused(f) => {
-            let k = f.refusal;
-            BpReading {
-                refusal: refusal::number(k),
-                vertices: 0,
-                place: f.place,
-            }
-        }
+        Err(f) => BpReading {
+            refusal: refusal::number(f.refusal),
+            vertices: 0,
+            place: f.place,
+        },
     }
 }
 

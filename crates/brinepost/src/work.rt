@@ -20,14 +20,14 @@ pub(crate) fn answered(r: Encoded, points: usize) -> BpJob
     ensures { result ≡ flat_job points (said_encoded r) }
 {
     match r {
-        Encoded::Words(n) => BpJob {
+        Ok(n) => BpJob {
             refusal: 0,
             points: points,
             words: n,
         },
-        Encoded::Refused(k, n) => BpJob {
-            refusal: refusal::number(k),
-            points: n,
+        Err(e) => BpJob {
+            refusal: refusal::number(e.refusal),
+            points: e.kept,
             words: 0,
         },
     }

@@ -2,27 +2,17 @@
 use Prim.Native.Nat.{ℕ}
 use mathlib.Core.Path.{◌≡◌, refl, sym, ap, ◌∙◌}
 use mathlib.Core.List.{List}
+use Rattle.std.specs.Prelude.{Some, None, Result, Ok, Err, is_some, unwrap_or}
 use Rattle.promise.specs.Answers.{Written}
 use Rattle.refusal.specs.declared.Fault.{Fault}
 use Rattle.refusal.specs.Refusals.{number_of}
 use Rattle.telling.specs.Telling.{told}
 use Rattle.messages.specs.Tiles.{Verdict, Answers}
-use Rattle.tile_check.specs.declared.Checked.{Checked}
-use Rattle.tile_check.specs.declared.Checked.TheVariants.{Good, Refused}
 use Rattle.reader.specs.declared.layers.Part.{Part}
 use Rattle.reader.specs.declared.layers.LayerHead.{LayerHead}
-use Rattle.reader.specs.declared.layers.NextLayer.{NextLayer}
-use Rattle.reader.specs.declared.layers.NextLayer.TheVariants.{Is as LayerIs, End as NoLayer, Refused as LayerRefused}
 use Rattle.reader.specs.declared.features.FeatureHead.{FeatureHead}
-use Rattle.reader.specs.declared.features.NextFeature.{NextFeature}
-use Rattle.reader.specs.declared.features.NextFeature.TheVariants.{Is as FeatureIs, End as NoFeature, Refused as FeatureRefused}
-use Rattle.reader.specs.declared.entries.NextKey.{NextKey}
-use Rattle.reader.specs.declared.entries.NextKey.TheVariants.{Is as KeyIs, End as NoKey, Refused as KeyRefused}
 use Rattle.reader.specs.declared.entries.ValueAt.{ValueAt}
-use Rattle.reader.specs.declared.entries.NextValue.{NextValue}
-use Rattle.reader.specs.declared.entries.NextValue.TheVariants.{Is as ValueIs, End as NoValue, Refused as ValueRefused}
-use Rattle.reader.specs.declared.into.Laid.{Laid}
-use Rattle.reader.specs.declared.into.Laid.TheVariants.{Words, Refused as NotLaid}
+use Rattle.reader.specs.Answers.{NextLayer, NextFeature, NextKey, NextValue, Laid}
 use Rattle.brinepost_reader.specs.declared.layers.BpNextLayer.{BpNextLayer}
 use Rattle.brinepost_reader.specs.declared.features.BpNextFeature.{BpNextFeature}
 use Rattle.brinepost_reader.specs.declared.entries.BpNextKey.{BpNextKey}
@@ -40,71 +30,71 @@ told_written {B = B} src flat answer a b m h e =
     record { verdict = h.verdict; judged = h.judged; is = ap (λ (x : B). record { answer = x; memory = m }) e ∙ ap (told flat) h.is }
 
 -- ---- a tile
-pub opened_good : {r : Checked} {n : ℕ} → r ≡ Good n → record { refusal = 0; place = 0; layers = n } ≡ flat_opened r
+pub opened_good : {r : Result ℕ Fault} {n : ℕ} → r ≡ Ok n → record { refusal = 0; place = 0; layers = n } ≡ flat_opened r
 unfolding flat_opened
 opened_good e = rw e refl
 
-pub opened_not : {r : Checked} {f : Fault} {n : ℕ} → r ≡ Refused f → n ≡ number_of f.refusal → record { refusal = n; place = f.place; layers = 0 } ≡ flat_opened r
+pub opened_not : {r : Result ℕ Fault} {f : Fault} {n : ℕ} → r ≡ Err f → n ≡ number_of f.refusal → record { refusal = n; place = f.place; layers = 0 } ≡ flat_opened r
 unfolding flat_opened
 opened_not e h = rw (e, h) refl
 
 -- ---- a layer
-pub layer_is : {r : NextLayer} {h : LayerHead} → r ≡ LayerIs h → record { refusal = 0; is_there = 1; place = 0; version = h.version; extent = h.extent; name_start = h.name.start; name_len = h.name.len; keys = h.keys; values = h.values; features = h.features; start = h.start; end = h.end } ≡ flat_layer r
+pub layer_is : {r : NextLayer} {h : LayerHead} → r ≡ Ok (Some h) → record { refusal = 0; is_there = 1; place = 0; version = h.version; extent = h.extent; name_start = h.name.start; name_len = h.name.len; keys = h.keys; values = h.values; features = h.features; start = h.start; end = h.end } ≡ flat_layer r
 unfolding flat_layer
 layer_is e = rw (e) refl
 
-pub layer_end : {r : NextLayer} {a : BpNextLayer} → r ≡ NoLayer → a ≡ no_layer 0 0 → a ≡ flat_layer r
+pub layer_end : {r : NextLayer} {a : BpNextLayer} → r ≡ Ok None → a ≡ no_layer 0 0 → a ≡ flat_layer r
 unfolding flat_layer
 layer_end e d = rw e d
 
-pub layer_not : {r : NextLayer} {f : Fault} {n : ℕ} {a : BpNextLayer} → r ≡ LayerRefused f → n ≡ number_of f.refusal → a ≡ no_layer n f.place → a ≡ flat_layer r
+pub layer_not : {r : NextLayer} {f : Fault} {n : ℕ} {a : BpNextLayer} → r ≡ Err f → n ≡ number_of f.refusal → a ≡ no_layer n f.place → a ≡ flat_layer r
 unfolding flat_layer
 layer_not {f = f} e h d = rw e (d ∙ ap (λ (m : ℕ). no_layer m f.place) h)
 
 -- ---- a feature
-pub feature_is : {r : NextFeature} {h : FeatureHead} {b : ℕ} → r ≡ FeatureIs h → b ≡ bit_of h.has_id → record { refusal = 0; is_there = 1; place = 0; has_id = b; kind = h.kind; id = h.id; tags = h.tags; words = h.words; start = h.start; end = h.end } ≡ flat_feature r
+pub feature_is : {r : NextFeature} {h : FeatureHead} {b i : ℕ} → r ≡ Ok (Some h) → b ≡ bit_of (is_some h.id) → i ≡ unwrap_or h.id 0 → record { refusal = 0; is_there = 1; place = 0; has_id = b; kind = h.kind; id = i; tags = h.tags; words = h.words; start = h.start; end = h.end } ≡ flat_feature r
 unfolding flat_feature
-feature_is e d = rw (e, d) refl
+feature_is e d g = rw (e, d, g) refl
 
-pub feature_end : {r : NextFeature} {a : BpNextFeature} → r ≡ NoFeature → a ≡ no_feature 0 0 → a ≡ flat_feature r
+pub feature_end : {r : NextFeature} {a : BpNextFeature} → r ≡ Ok None → a ≡ no_feature 0 0 → a ≡ flat_feature r
 unfolding flat_feature
 feature_end e d = rw e d
 
-pub feature_not : {r : NextFeature} {f : Fault} {n : ℕ} {a : BpNextFeature} → r ≡ FeatureRefused f → n ≡ number_of f.refusal → a ≡ no_feature n f.place → a ≡ flat_feature r
+pub feature_not : {r : NextFeature} {f : Fault} {n : ℕ} {a : BpNextFeature} → r ≡ Err f → n ≡ number_of f.refusal → a ≡ no_feature n f.place → a ≡ flat_feature r
 unfolding flat_feature
 feature_not {f = f} e h d = rw e (d ∙ ap (λ (m : ℕ). no_feature m f.place) h)
 
 -- ---- a key
-pub key_is_lem : {r : NextKey} {h : Part} → r ≡ KeyIs h → record { refusal = 0; is_there = 1; place = 0; start = h.start; len = h.len } ≡ flat_key r
+pub key_is_lem : {r : NextKey} {h : Part} → r ≡ Ok (Some h) → record { refusal = 0; is_there = 1; place = 0; start = h.start; len = h.len } ≡ flat_key r
 unfolding flat_key
 key_is_lem e = rw (e) refl
 
-pub key_end : {r : NextKey} {a : BpNextKey} → r ≡ NoKey → a ≡ no_key 0 0 → a ≡ flat_key r
+pub key_end : {r : NextKey} {a : BpNextKey} → r ≡ Ok None → a ≡ no_key 0 0 → a ≡ flat_key r
 unfolding flat_key
 key_end e d = rw e d
 
-pub key_not : {r : NextKey} {f : Fault} {n : ℕ} {a : BpNextKey} → r ≡ KeyRefused f → n ≡ number_of f.refusal → a ≡ no_key n f.place → a ≡ flat_key r
+pub key_not : {r : NextKey} {f : Fault} {n : ℕ} {a : BpNextKey} → r ≡ Err f → n ≡ number_of f.refusal → a ≡ no_key n f.place → a ≡ flat_key r
 unfolding flat_key
 key_not {f = f} e h d = rw e (d ∙ ap (λ (m : ℕ). no_key m f.place) h)
 
 -- ---- a value
-pub value_is_lem : {r : NextValue} {h : ValueAt} → r ≡ ValueIs h → record { refusal = 0; is_there = 1; place = 0; kind = h.kind; start = h.text.start; len = h.text.len; bits = h.bits; next = h.end } ≡ flat_value r
+pub value_is_lem : {r : NextValue} {h : ValueAt} → r ≡ Ok (Some h) → record { refusal = 0; is_there = 1; place = 0; kind = h.kind; start = h.text.start; len = h.text.len; bits = h.bits; next = h.end } ≡ flat_value r
 unfolding flat_value
 value_is_lem e = rw (e) refl
 
-pub value_end : {r : NextValue} {a : BpNextValue} → r ≡ NoValue → a ≡ no_value 0 0 → a ≡ flat_value r
+pub value_end : {r : NextValue} {a : BpNextValue} → r ≡ Ok None → a ≡ no_value 0 0 → a ≡ flat_value r
 unfolding flat_value
 value_end e d = rw e d
 
-pub value_not : {r : NextValue} {f : Fault} {n : ℕ} {a : BpNextValue} → r ≡ ValueRefused f → n ≡ number_of f.refusal → a ≡ no_value n f.place → a ≡ flat_value r
+pub value_not : {r : NextValue} {f : Fault} {n : ℕ} {a : BpNextValue} → r ≡ Err f → n ≡ number_of f.refusal → a ≡ no_value n f.place → a ≡ flat_value r
 unfolding flat_value
 value_not {f = f} e h d = rw e (d ∙ ap (λ (m : ℕ). no_value m f.place) h)
 
 -- ---- a feature's numbers
-pub words_are : {r : Laid} {n : ℕ} → r ≡ Words n → record { refusal = 0; place = 0; count = n } ≡ flat_words r
+pub words_are : {r : Laid} {n : ℕ} → r ≡ Ok n → record { refusal = 0; place = 0; count = n } ≡ flat_words r
 unfolding flat_words
 words_are e = rw e refl
 
-pub words_not : {r : Laid} {f : Fault} {n : ℕ} → r ≡ NotLaid f → n ≡ number_of f.refusal → record { refusal = n; place = f.place; count = 0 } ≡ flat_words r
+pub words_not : {r : Laid} {f : Fault} {n : ℕ} → r ≡ Err f → n ≡ number_of f.refusal → record { refusal = n; place = f.place; count = 0 } ≡ flat_words r
 unfolding flat_words
 words_not e h = rw (e, h) refl

@@ -1,19 +1,9 @@
 -- What C is told of the answers of reading: the refusal's number and place, zero where there is none, and the values, zero where there is no answer.
-use Rattle.std.specs.Prelude.{ℕ, Bool, cond}
+use Rattle.std.specs.Prelude.{ℕ, Bool, cond, Some, None, Result, Ok, Err, is_some, unwrap_or}
+use Rattle.refusal.specs.declared.Fault.{Fault}
 use Rattle.refusal.specs.Refusals.{number_of}
 use Rattle.messages.specs.Tiles.{Verdict}
-use Rattle.tile_check.specs.declared.Checked.{Checked}
-use Rattle.tile_check.specs.declared.Checked.TheVariants.{Good, Refused}
-use Rattle.reader.specs.declared.layers.NextLayer.{NextLayer}
-use Rattle.reader.specs.declared.layers.NextLayer.TheVariants.{Is as LayerIs, End as NoLayer, Refused as LayerRefused}
-use Rattle.reader.specs.declared.features.NextFeature.{NextFeature}
-use Rattle.reader.specs.declared.features.NextFeature.TheVariants.{Is as FeatureIs, End as NoFeature, Refused as FeatureRefused}
-use Rattle.reader.specs.declared.entries.NextKey.{NextKey}
-use Rattle.reader.specs.declared.entries.NextKey.TheVariants.{Is as KeyIs, End as NoKey, Refused as KeyRefused}
-use Rattle.reader.specs.declared.entries.NextValue.{NextValue}
-use Rattle.reader.specs.declared.entries.NextValue.TheVariants.{Is as ValueIs, End as NoValue, Refused as ValueRefused}
-use Rattle.reader.specs.declared.into.Laid.{Laid}
-use Rattle.reader.specs.declared.into.Laid.TheVariants.{Words, Refused as NotLaid}
+use Rattle.reader.specs.Answers.{NextLayer, NextFeature, NextKey, NextValue, Laid}
 use Rattle.brinepost_reader.specs.declared.opened.BpOpened.{BpOpened}
 use Rattle.brinepost_reader.specs.declared.layers.BpNextLayer.{BpNextLayer}
 use Rattle.brinepost_reader.specs.declared.features.BpNextFeature.{BpNextFeature}
@@ -26,9 +16,9 @@ abbrev pub as_told : {A B : Type 0} → (A → B) → (Verdict → A) → Verdic
 as_told flat answer v = flat (answer v)
 
 -- ---- a tile
-unfoldable pub flat_opened : Checked → BpOpened
-flat_opened (Good layers) = record { refusal = 0; place = 0; layers = layers }
-flat_opened (Refused f) = record { refusal = number_of f.refusal; place = f.place; layers = 0 }
+unfoldable pub flat_opened : Result ℕ Fault → BpOpened
+flat_opened (Ok layers) = record { refusal = 0; place = 0; layers = layers }
+flat_opened (Err f) = record { refusal = number_of f.refusal; place = f.place; layers = 0 }
 
 -- ---- a layer
 abbrev pub no_layer : ℕ → ℕ → BpNextLayer
@@ -49,7 +39,7 @@ no_layer refusal place =
     }
 
 unfoldable pub flat_layer : NextLayer → BpNextLayer
-flat_layer (LayerIs h) =
+flat_layer (Ok (Some h)) =
     record {
       refusal = 0;
       is_there = 1;
@@ -64,8 +54,8 @@ flat_layer (LayerIs h) =
       start = h.start;
       end = h.end;
     }
-flat_layer NoLayer = no_layer 0 0
-flat_layer (LayerRefused f) = no_layer (number_of f.refusal) f.place
+flat_layer (Ok None) = no_layer 0 0
+flat_layer (Err f) = no_layer (number_of f.refusal) f.place
 
 -- ---- a feature
 abbrev pub bit_of : Bool → ℕ
@@ -76,42 +66,42 @@ no_feature refusal place =
     record { refusal = refusal; is_there = 0; place = place; has_id = 0; kind = 0; id = 0; tags = 0; words = 0; start = 0; end = 0 }
 
 unfoldable pub flat_feature : NextFeature → BpNextFeature
-flat_feature (FeatureIs h) =
+flat_feature (Ok (Some h)) =
     record {
       refusal = 0;
       is_there = 1;
       place = 0;
-      has_id = bit_of h.has_id;
+      has_id = bit_of (is_some h.id);
       kind = h.kind;
-      id = h.id;
+      id = unwrap_or h.id 0;
       tags = h.tags;
       words = h.words;
       start = h.start;
       end = h.end;
     }
-flat_feature NoFeature = no_feature 0 0
-flat_feature (FeatureRefused f) = no_feature (number_of f.refusal) f.place
+flat_feature (Ok None) = no_feature 0 0
+flat_feature (Err f) = no_feature (number_of f.refusal) f.place
 
 -- ---- a key
 abbrev pub no_key : ℕ → ℕ → BpNextKey
 no_key refusal place = record { refusal = refusal; is_there = 0; place = place; start = 0; len = 0 }
 
 unfoldable pub flat_key : NextKey → BpNextKey
-flat_key (KeyIs p) = record { refusal = 0; is_there = 1; place = 0; start = p.start; len = p.len }
-flat_key NoKey = no_key 0 0
-flat_key (KeyRefused f) = no_key (number_of f.refusal) f.place
+flat_key (Ok (Some p)) = record { refusal = 0; is_there = 1; place = 0; start = p.start; len = p.len }
+flat_key (Ok None) = no_key 0 0
+flat_key (Err f) = no_key (number_of f.refusal) f.place
 
 -- ---- a value
 abbrev pub no_value : ℕ → ℕ → BpNextValue
 no_value refusal place = record { refusal = refusal; is_there = 0; place = place; kind = 0; start = 0; len = 0; bits = 0; next = 0 }
 
 unfoldable pub flat_value : NextValue → BpNextValue
-flat_value (ValueIs v) =
+flat_value (Ok (Some v)) =
     record { refusal = 0; is_there = 1; place = 0; kind = v.kind; start = v.text.start; len = v.text.len; bits = v.bits; next = v.end }
-flat_value NoValue = no_value 0 0
-flat_value (ValueRefused f) = no_value (number_of f.refusal) f.place
+flat_value (Ok None) = no_value 0 0
+flat_value (Err f) = no_value (number_of f.refusal) f.place
 
 -- ---- a feature's numbers
 unfoldable pub flat_words : Laid → BpWordsRead
-flat_words (Words n) = record { refusal = 0; place = 0; count = n }
-flat_words (NotLaid f) = record { refusal = number_of f.refusal; place = f.place; count = 0 }
+flat_words (Ok n) = record { refusal = 0; place = 0; count = n }
+flat_words (Err f) = record { refusal = number_of f.refusal; place = f.place; count = 0 }

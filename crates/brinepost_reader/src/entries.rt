@@ -4,7 +4,9 @@ ghost use Rattle.messages.specs.Tiles.{Answers};
 ghost use Rattle.reader.specs.Answers.{next_key, next_value};
 ghost use Rattle.brinepost_reader.specs.Flat.{as_told, no_key, flat_key, no_value, flat_value};
 
-use reader::entries::{NextKey, NextValue, next_key_at, next_value_at};
+use reader::entries::{ValueAt, next_key_at, next_value_at};
+use reader::layers::Part;
+use refusal::Fault;
 
 #[repr(C)]
 #[derive(Clone, Copy)]
@@ -39,30 +41,27 @@ fn without_key(refusal: u32, place: usize) -> BpNextKey
     ensures { result ≡ no_key refusal place }
 {
     BpNextKey {
-        refusal: refusal,
+        refusal,
         is_there: 0,
-        place: place,
+        place,
         start: 0,
         len: 0,
     }
 }
 
-fn answered_key(r: NextKey) -> BpNextKey
+fn answered_key(r: Result<Option<Part>, Fault>) -> BpNextKey
     ensures { result ≡ flat_key r }
 {
     match r {
-        NextKey::Is(p) => BpNextKey {
+        Ok(Some(p)) => BpNextKey {
             refusal: 0,
             is_there: 1,
             place: 0,
             start: p.start,
             len: p.len,
         },
-        NextKey::End => without_key(0, 0),
-        NextKey::Refused(f) => {
-            let k = f.refusal;
-            without_key(refusal::number(k), f.place)
-        }
+        Ok(None) => without_key(0, 0),
+        Err(f) => without_key(refusal::number(f.refusal), f.place),
     }
 }
 
@@ -79,9 +78,9 @@ fn without_value(refusal: u32, place: usize) -> BpNextValue
     ensures { result ≡ no_value refusal place }
 {
     BpNextValue {
-        refusal: refusal,
+        refusal,
         is_there: 0,
-        place: place,
+        place,
         kind: 0,
         start: 0,
         len: 0,
@@ -90,11 +89,11 @@ fn without_value(refusal: u32, place: usize) -> BpNextValue
     }
 }
 
-fn answered_value(r: NextValue) -> BpNextValue
+fn answered_value(r: Result<Option<ValueAt>, Fault>) -> BpNextValue
     ensures { result ≡ flat_value r }
 {
     match r {
-        NextValue::Is(v) => {
+        Ok(Some(v)) => {
             let text = v.text;
             BpNextValue {
                 refusal: 0,
@@ -107,11 +106,8 @@ fn answered_value(r: NextValue) -> BpNextValue
                 next: v.end,
             }
         }
-        NextValue::End => without_value(0, 0),
-        NextValue::Refused(f) => {
-            let k = f.refusal;
-            without_value(refusal::number(k), f.place)
-        }
+        Ok(None) => without_value(0, 0),
+        Err(f) => without_value(refusal::number(f.refusal), f.place),
     }
 }
 

@@ -6,7 +6,8 @@ ghost use Rattle.telling.specs.Telling.{told};
 ghost use Rattle.reader.specs.Answers.{words_into};
 ghost use Rattle.brinepost_reader.specs.Flat.{as_told, flat_words};
 
-use reader::into::{Laid, geometry_into, tags_into};
+use reader::into::{geometry_into, tags_into};
+use refusal::Fault;
 
 #[repr(C)]
 #[derive(Clone, Copy)]
@@ -16,23 +17,20 @@ pub struct BpWordsRead {
     pub count: usize,
 }
 
-fn answered(r: Laid) -> BpWordsRead
+fn answered(r: Result<usize, Fault>) -> BpWordsRead
     ensures { result ≡ flat_words r }
 {
     match r {
-        Laid::Words(n) => BpWordsRead {
+        Ok(n) => BpWordsRead {
             refusal: 0,
             place: 0,
             count: n,
         },
-        Laid::Refused(f) => {
-            let k = f.refusal;
-            BpWordsRead {
-                refusal: refusal::number(k),
-                place: f.place,
-                count: 0,
-            }
-        }
+        Err(f) => BpWordsRead {
+            refusal: refusal::number(f.refusal),
+            place: f.place,
+            count: 0,
+        },
     }
 }
 

@@ -4,7 +4,8 @@ ghost use Rattle.messages.specs.Tiles.{Answers};
 ghost use Rattle.reader.specs.Answers.{next_feature};
 ghost use Rattle.brinepost_reader.specs.Flat.{as_told, bit_of, no_feature, flat_feature};
 
-use reader::features::{NextFeature, next_feature_at};
+use reader::features::{FeatureHead, next_feature_at};
+use refusal::Fault;
 
 #[repr(C)]
 #[derive(Clone, Copy)]
@@ -33,9 +34,9 @@ fn without(refusal: u32, place: usize) -> BpNextFeature
     ensures { result ≡ no_feature refusal place }
 {
     BpNextFeature {
-        refusal: refusal,
+        refusal,
         is_there: 0,
-        place: place,
+        place,
         has_id: 0,
         kind: 0,
         id: 0,
@@ -46,27 +47,24 @@ fn without(refusal: u32, place: usize) -> BpNextFeature
     }
 }
 
-fn answered(r: NextFeature) -> BpNextFeature
+fn answered(r: Result<Option<FeatureHead>, Fault>) -> BpNextFeature
     ensures { result ≡ flat_feature r }
 {
     match r {
-        NextFeature::Is(h) => BpNextFeature {
+        Ok(Some(h)) => BpNextFeature {
             refusal: 0,
             is_there: 1,
             place: 0,
-            has_id: bit(h.has_id),
+            has_id: bit(h.id.is_some()),
             kind: h.kind,
-            id: h.id,
+            id: h.id.unwrap_or(0),
             tags: h.tags,
             words: h.words,
             start: h.start,
             end: h.end,
         },
-        NextFeature::End => without(0, 0),
-        NextFeature::Refused(f) => {
-            let k = f.refusal;
-            without(refusal::number(k), f.place)
-        }
+        Ok(None) => without(0, 0),
+        Err(f) => without(refusal::number(f.refusal), f.place),
     }
 }
 

@@ -4,7 +4,8 @@ ghost use Rattle.messages.specs.Tiles.{Answers};
 ghost use Rattle.reader.specs.Answers.{next_layer};
 ghost use Rattle.brinepost_reader.specs.Flat.{as_told, no_layer, flat_layer};
 
-use reader::layers::{NextLayer, next_layer_at};
+use reader::layers::{LayerHead, next_layer_at};
+use refusal::Fault;
 
 #[repr(C)]
 #[derive(Clone, Copy)]
@@ -29,9 +30,9 @@ fn without(refusal: u32, place: usize) -> BpNextLayer
     ensures { result ≡ no_layer refusal place }
 {
     BpNextLayer {
-        refusal: refusal,
+        refusal,
         is_there: 0,
-        place: place,
+        place,
         version: 0,
         extent: 0,
         name_start: 0,
@@ -44,11 +45,11 @@ fn without(refusal: u32, place: usize) -> BpNextLayer
     }
 }
 
-fn answered(r: NextLayer) -> BpNextLayer
+fn answered(r: Result<Option<LayerHead>, Fault>) -> BpNextLayer
     ensures { result ≡ flat_layer r }
 {
     match r {
-        NextLayer::Is(h) => {
+        Ok(Some(h)) => {
             let name = h.name;
             BpNextLayer {
                 refusal: 0,
@@ -65,11 +66,8 @@ fn answered(r: NextLayer) -> BpNextLayer
                 end: h.end,
             }
         }
-        NextLayer::End => without(0, 0),
-        NextLayer::Refused(f) => {
-            let k = f.refusal;
-            without(refusal::number(k), f.place)
-        }
+        Ok(None) => without(0, 0),
+        Err(f) => without(refusal::number(f.refusal), f.place),
     }
 }
 

@@ -4,7 +4,8 @@ ghost use Rattle.messages.specs.Tiles.{Answers};
 ghost use Rattle.tile_check.specs.Checking.{checked};
 ghost use Rattle.brinepost_reader.specs.Flat.{flat_opened, as_told};
 
-use tile_check::{Checked, check};
+use refusal::Fault;
+use tile_check::check;
 
 #[repr(C)]
 #[derive(Clone, Copy)]
@@ -14,23 +15,20 @@ pub struct BpOpened {
     pub layers: usize,
 }
 
-fn answered(r: Checked) -> BpOpened
+fn answered(r: Result<usize, Fault>) -> BpOpened
     ensures { result ≡ flat_opened r }
 {
     match r {
-        Checked::Good(layers) => BpOpened {
+        Ok(layers) => BpOpened {
             refusal: 0,
             place: 0,
-            layers: layers,
+            layers,
         },
-        Checked::Refused(f) => {
-            let k = f.refusal;
-            BpOpened {
-                refusal: refusal::number(k),
-                place: f.place,
-                layers: 0,
-            }
-        }
+        Err(f) => BpOpened {
+            refusal: refusal::number(f.refusal),
+            place: f.place,
+            layers: 0,
+        },
     }
 }
 

@@ -4,14 +4,13 @@ use mathlib.Core.List.{List}
 use Prim.Native.Nat.{ℕ}
 use Rattle.promise.specs.Answers.{Gives}
 use Rattle.layer.specs.declared.Layer.{Layer}
-use Rattle.layer.specs.declared.Changed.{Changed}
 use Rattle.layer.specs.Held.{Memory, Seen, Change, seen, written}
-use Rattle.layer.specs.Answers.{said_changed}
-use Rattle.layer.specs.declared.many.Added.{Added as AddedMany}
+use Rattle.layer.specs.Answers.{Changed, said_changed}
 use Rattle.layer.specs.Lookup.{Index}
-use Rattle.layer.specs.Many.{said_added, Lists, add_indexed}
+use Rattle.layer.specs.Many.{Added as AddedMany, said_added, Lists, add_indexed}
+use Rattle.std.specs.Prelude.{Result}
+use Rattle.refusal.specs.declared.Refused.{Refused}
 use Rattle.tile.specs.declared.Tile.{Tile}
-use Rattle.tile.specs.declared.Added.{Added}
 use Rattle.tile.specs.Tiles.{TileMemory}
 use Rattle.tile.specs.Adding.{add_layer}
 use Rattle.tile.specs.Answers.{said_tile}
@@ -35,7 +34,7 @@ module _ (given : BpLayer) (s : Layer) (k : s ≡ layer_of given) where
   unfolding features_from
   many_called a r q m x n heads words ws bytes g = rw (← k) (told_gives (flat_many given) (add_indexed heads words ws bytes s m x) (said_added a) r n g q)
 
-  pub tile_called : (t : BpTile) (u : Tile) (m : Memory) (l n : TileMemory) (a : Added) (r : BpAdded) → u ≡ tile_of t → Gives (add_layer u (seen s m) l) (said_tile a) n → r ≡ flat_tile (said_tile a) → Gives (added_from t given m l) r n
+  pub tile_called : (t : BpTile) (u : Tile) (m : Memory) (l n : TileMemory) (a : Result Tile (Refused Tile)) (r : BpAdded) → u ≡ tile_of t → Gives (add_layer u (seen s m) l) (said_tile a) n → r ≡ flat_tile (said_tile a) → Gives (added_from t given m l) r n
   unfolding added_from
   tile_called t u m l n a r e g q = rw (← k, ← e) (told_gives flat_tile (add_layer u (seen s m) l) (said_tile a) r n g q)
 

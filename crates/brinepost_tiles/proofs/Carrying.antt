@@ -3,9 +3,8 @@ use Prim.Native.Nat.{ℕ}
 use mathlib.Core.Path.{◌≡◌, refl}
 use mathlib.Core.Bool.{Bool, true, false, ◌&&◌, ◌||◌}
 use lib.Dec.{ltb, eqb}
+use Rattle.std.specs.Prelude.{Option, Some, None}
 use Rattle.layer.specs.declared.Figures.{Figures}
-use Rattle.layer.specs.declared.Open.{Open}
-use Rattle.layer.specs.declared.Open.TheVariants.{Shut, Since}
 use Rattle.layer.specs.declared.Layer.{Layer}
 use Rattle.layer.specs.Held.{Memory, fits, seen}
 use Rattle.layer.specs.State.{valid}
@@ -13,7 +12,7 @@ use Rattle.brinepost_tiles.specs.declared.carried.BpFigures.{BpFigures}
 use Rattle.brinepost_tiles.specs.declared.carried.BpLayer.{BpLayer}
 use Rattle.brinepost_tiles.specs.Carried.{figures_of, figures_to, open_of, flag_to, since_to, mark_to, broken, is_broken, layer_of, layer_to}
 
-pub layer_read_lem : (s : BpLayer) (a : Figures) (b : Open) → is_broken s ≡ false → a ≡ figures_of s.used → b ≡ open_of s.is_open s.since →
+pub layer_read_lem : (s : BpLayer) (a : Figures) (b : Option Figures) → is_broken s ≡ false → a ≡ figures_of s.used → b ≡ open_of s.is_open s.since →
     ◌≡◌ {A = Layer} (record { extent = s.extent; strict = eqb s.is_strict 1; name = s.name; used = a; feature = b }) (layer_of s)
 unfolding layer_of
 layer_read_lem s a b h e f = rw (h, e, f)
@@ -28,12 +27,12 @@ unfolding layer_to
 layer_made s n k a b e d f g = rw (e, d, f, g)
 
 -- what C was handed and hands in again is the layer itself, its mark and its open feature among it
-back : (s : Layer) (f : Open) (b : Bool) → s.feature ≡ f → s.strict ≡ b → layer_of (layer_to s) ≡ s
+back : (s : Layer) (f : Option Figures) (b : Bool) → s.feature ≡ f → s.strict ≡ b → layer_of (layer_to s) ≡ s
 unfolding layer_of layer_to
-back s Shut true e d = rw (e, d)
-back s Shut false e d = rw (e, d)
-back s (Since o) true e d = rw (e, d)
-back s (Since o) false e d = rw (e, d)
+back s None true e d = rw (e, d)
+back s None false e d = rw (e, d)
+back s (Some o) true e d = rw (e, d)
+back s (Some o) false e d = rw (e, d)
 
 pub carried_back : (s : Layer) → layer_of (layer_to s) ≡ s
 carried_back s = back s s.feature s.strict refl refl

@@ -1,9 +1,7 @@
 -- A layer and a tile as C carries them, and what they stand for. An open feature is a flag of 1 and the figures at its opening; 0 is none, and then the
 -- figures mean nothing. A strict layer has a mark of 1, an ordinary one of 0.
-use Rattle.std.specs.Prelude.{ℕ, Bool, true, false, cond, ◌||◌, ltb, eqb}
+use Rattle.std.specs.Prelude.{ℕ, Bool, true, false, cond, Option, Some, None, ◌||◌, ltb, eqb}
 use Rattle.layer.specs.declared.Figures.{Figures}
-use Rattle.layer.specs.declared.Open.{Open}
-use Rattle.layer.specs.declared.Open.TheVariants.{Shut, Since}
 use Rattle.layer.specs.declared.Layer.{Layer}
 use Rattle.tile.specs.declared.Tile.{Tile}
 use Rattle.brinepost_tiles.specs.declared.carried.BpFigures.{BpFigures}
@@ -19,16 +17,16 @@ figures_to u = record { keys = u.keys; values = u.values; texts = u.texts; featu
 abbrev pub no_figures : BpFigures
 no_figures = record { keys = 0; values = 0; texts = 0; features = 0 }
 
-abbrev pub open_of : ℕ → BpFigures → Open
-open_of flag o = cond (eqb flag 0) Shut (Since (figures_of o))
+abbrev pub open_of : ℕ → BpFigures → Option Figures
+open_of flag o = cond (eqb flag 0) None (Some (figures_of o))
 
-abbrev pub flag_to : Open → ℕ
-flag_to Shut = 0
-flag_to (Since o) = 1
+abbrev pub flag_to : Option Figures → ℕ
+flag_to None = 0
+flag_to (Some o) = 1
 
-abbrev pub since_to : Open → BpFigures
-since_to Shut = no_figures
-since_to (Since o) = figures_to o
+abbrev pub since_to : Option Figures → BpFigures
+since_to None = no_figures
+since_to (Some o) = figures_to o
 
 abbrev pub mark_to : Bool → ℕ
 mark_to true = 1
@@ -36,7 +34,7 @@ mark_to false = 0
 
 -- a layer that breaks a rule of STATE, whatever lists are lent: its name runs past its texts
 abbrev pub broken : Layer
-broken = record { extent = 0; strict = false; name = 1; used = record { keys = 0; values = 0; texts = 0; features = 0 }; feature = Shut }
+broken = record { extent = 0; strict = false; name = 1; used = record { keys = 0; values = 0; texts = 0; features = 0 }; feature = None }
 
 -- a flag or a mark that is neither 0 nor 1
 abbrev pub is_broken : BpLayer → Bool

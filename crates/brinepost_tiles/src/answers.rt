@@ -1,4 +1,4 @@
-// The structs of the answers, made from the enums of the proved functions.
+// The structs of the answers, made from what the proved functions answer.
 ghost use Rattle.std.specs.Prelude.{◌≡◌};
 ghost use Rattle.layer.specs.Answers.{said_changed, said_created, said_counted, said_named};
 ghost use Rattle.layer.specs.Many.{said_added};
@@ -6,7 +6,9 @@ ghost use Rattle.tile.specs.Answers.{said_tile, said_counted as saidTileCounted}
 ghost use Rattle.brinepost_tiles.specs.Answers.{flat_created, flat_changed, layer_after, flat_many, flat_counted, flat_named, flat_tile, flat_tile_counted};
 
 use crate::carried::{BpLayer, BpTile, layer_to, no_layer, tile_to};
-use layer::{Changed, Counted, Created, Layer, Named};
+use layer::{Changed, Layer};
+use refusal::{Refusal, Refused};
+use table::Text;
 use tile::Added;
 
 #[repr(C)]
@@ -46,15 +48,15 @@ pub struct BpAdded {
     pub tile: BpTile,
 }
 
-pub(crate) fn created(r: Created) -> BpChanged
+pub(crate) fn created(r: Result<Layer, Refusal>) -> BpChanged
     ensures { result ≡ flat_created (said_created r) }
 {
     match r {
-        Created::Done(s) => BpChanged {
+        Ok(s) => BpChanged {
             refusal: 0,
             layer: layer_to(s),
         },
-        Created::Refused(k) => BpChanged {
+        Err(k) => BpChanged {
             refusal: refusal::number(k),
             layer: no_layer(),
         },
@@ -66,12 +68,12 @@ pub(crate) fn changed(given: BpLayer, r: Changed) -> BpChanged
     ensures { result ≡ flat_changed given (said_changed r) }
 {
     match r {
-        Changed::Done(s) => BpChanged {
+        Ok(s) => BpChanged {
             refusal: 0,
             layer: layer_to(s),
         },
-        Changed::Refused(k, _) => BpChanged {
-            refusal: refusal::number(k),
+        Err(e) => BpChanged {
+            refusal: refusal::number(e.refusal),
             layer: given,
         },
     }
@@ -91,45 +93,45 @@ pub(crate) fn many_added(given: BpLayer, r: layer::many::Added) -> BpMany
     ensures { result ≡ flat_many given (said_added r) }
 {
     match r {
-        layer::many::Added::Done(s, n) => BpMany {
+        Ok((s, n)) => BpMany {
             refusal: 0,
             layer: layer_after(given, s, n),
             count: n,
         },
-        layer::many::Added::Refused(k, s, n) => BpMany {
-            refusal: refusal::number(k),
-            layer: layer_after(given, s, n),
-            count: n,
+        Err(e) => BpMany {
+            refusal: refusal::number(e.refusal),
+            layer: layer_after(given, e.kept.0, e.kept.1),
+            count: e.kept.1,
         },
     }
 }
 
-pub(crate) fn counted(r: Counted) -> BpCounted
+pub(crate) fn counted(r: Result<usize, Refused<Layer>>) -> BpCounted
     ensures { result ≡ flat_counted (said_counted r) }
 {
     match r {
-        Counted::Is(n) => BpCounted {
+        Ok(n) => BpCounted {
             refusal: 0,
             count: n,
         },
-        Counted::Refused(k, _) => BpCounted {
-            refusal: refusal::number(k),
+        Err(e) => BpCounted {
+            refusal: refusal::number(e.refusal),
             count: 0,
         },
     }
 }
 
-pub(crate) fn named(r: Named) -> BpNamed
+pub(crate) fn named(r: Result<Text, Refused<Layer>>) -> BpNamed
     ensures { result ≡ flat_named (said_named r) }
 {
     match r {
-        Named::At(t) => BpNamed {
+        Ok(t) => BpNamed {
             refusal: 0,
             start: t.start,
             len: t.len,
         },
-        Named::Refused(k, _) => BpNamed {
-            refusal: refusal::number(k),
+        Err(e) => BpNamed {
+            refusal: refusal::number(e.refusal),
             start: 0,
             len: 0,
         },
@@ -140,13 +142,13 @@ pub(crate) fn added(r: Added) -> BpAdded
     ensures { result ≡ flat_tile (said_tile r) }
 {
     match r {
-        Added::Done(t) => BpAdded {
+        Ok(t) => BpAdded {
             refusal: 0,
             tile: tile_to(t),
         },
-        Added::Refused(k, t) => BpAdded {
-            refusal: refusal::number(k),
-            tile: tile_to(t),
+        Err(e) => BpAdded {
+            refusal: refusal::number(e.refusal),
+            tile: tile_to(e.kept),
         },
     }
 }
@@ -155,12 +157,12 @@ pub(crate) fn tile_counted(r: tile::Counted) -> BpCounted
     ensures { result ≡ flat_tile_counted (saidTileCounted r) }
 {
     match r {
-        tile::Counted::Is(n) => BpCounted {
+        Ok(n) => BpCounted {
             refusal: 0,
             count: n,
         },
-        tile::Counted::Refused(k, _) => BpCounted {
-            refusal: refusal::number(k),
+        Err(e) => BpCounted {
+            refusal: refusal::number(e.refusal),
             count: 0,
         },
     }

@@ -4,7 +4,7 @@
 ghost use Rattle.std.specs.Prelude.{◌≡◌};
 ghost use Rattle.brinepost_tiles.specs.Carried.{figures_of, figures_to, open_of, flag_to, since_to, mark_to, broken, layer_of, layer_to, no_layer, tile_of, tile_to};
 
-use layer::{Figures, Layer, Open};
+use layer::{Figures, Layer};
 use tile::Tile;
 
 #[repr(C)]
@@ -57,35 +57,35 @@ fn figures_to(u: Figures) -> BpFigures
     }
 }
 
-fn open_of(flag: u32, o: BpFigures) -> Open
+fn open_of(flag: u32, o: BpFigures) -> Option<Figures>
     ensures { result ≡ open_of flag o }
 {
     if flag == 0 {
-        return Open::Shut;
+        return None;
     }
-    Open::Since(figures_of(o))
+    Some(figures_of(o))
 }
 
-fn flag_to(f: Open) -> u32
+fn flag_to(f: Option<Figures>) -> u32
     ensures { result ≡ flag_to f }
 {
     match f {
-        Open::Shut => 0,
-        Open::Since(_) => 1,
+        None => 0,
+        Some(_) => 1,
     }
 }
 
-fn since_to(f: Open) -> BpFigures
+fn since_to(f: Option<Figures>) -> BpFigures
     ensures { result ≡ since_to f }
 {
     match f {
-        Open::Shut => BpFigures {
+        None => BpFigures {
             keys: 0,
             values: 0,
             texts: 0,
             features: 0,
         },
-        Open::Since(o) => figures_to(o),
+        Some(o) => figures_to(o),
     }
 }
 
@@ -113,7 +113,7 @@ fn broken_layer() -> Layer
         strict: false,
         name: 1,
         used: none,
-        feature: Open::Shut,
+        feature: None,
     }
 }
 
@@ -126,16 +126,14 @@ pub(crate) fn layer_of(s: BpLayer) -> Layer
     if (1 < flag) | (1 < mark) {
         return broken_layer();
     }
-    let u = s.used;
-    let o = s.since;
-    let used = figures_of(u);
-    let feature = open_of(flag, o);
+    let used = figures_of(s.used);
+    let feature = open_of(flag, s.since);
     Layer {
         extent: s.extent,
         strict: mark == 1,
         name: s.name,
-        used: used,
-        feature: feature,
+        used,
+        feature,
     }
 }
 
@@ -143,19 +141,17 @@ pub(crate) fn layer_of(s: BpLayer) -> Layer
 pub(crate) fn layer_to(s: Layer) -> BpLayer
     ensures { result ≡ layer_to s }
 {
-    let f = s.feature;
-    let u = s.used;
-    let flag = flag_to(f);
+    let flag = flag_to(s.feature);
     let mark = mark_to(s.strict);
-    let since = since_to(f);
-    let used = figures_to(u);
+    let since = since_to(s.feature);
+    let used = figures_to(s.used);
     BpLayer {
         extent: s.extent,
         is_open: flag,
         is_strict: mark,
         name: s.name,
-        used: used,
-        since: since,
+        used,
+        since,
     }
 }
 
@@ -163,8 +159,7 @@ pub(crate) fn layer_to(s: Layer) -> BpLayer
 pub(crate) fn no_layer() -> BpLayer
     ensures { result ≡ no_layer }
 {
-    let s = broken_layer();
-    layer_to(s)
+    layer_to(broken_layer())
 }
 
 pub(crate) fn tile_of(t: BpTile) -> Tile

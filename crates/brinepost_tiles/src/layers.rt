@@ -117,9 +117,9 @@ pub extern "C" fn bp_add_feature(
 {
     let s = layer_of(given);
     let head = Head {
-        kind: kind,
+        kind,
         has_id: has_id != 0,
-        id: id,
+        id,
     };
     let r = add_feature(s, head, words, tags, bytes, keys, values, texts, features);
     changed(given, r)

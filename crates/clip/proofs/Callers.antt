@@ -2,8 +2,8 @@
 --     coord_facts coord_is good_facts good_is       the tests of a point and of a box, as facts and back
 --     box_refused coord_refused not_refused         what a call says, by its three cases
 --     one_answer                                    what an answer says leaves one answer
---     answer_is never_refused                       a good box and ends within the limit: r is `Done (clip b s)`, and no refusal
---     answered was_good were_coords demand_clip     where r is `Done c`: c is the clip's, box and ends were good, and demand 3 holds of c
+--     answer_is never_refused                       a good box and ends within the limit: r is `Ok (clip b s)`, and no refusal
+--     answered was_good were_coords demand_clip     where r is `Ok c`: c is the clip's, box and ends were good, and demand 3 holds of c
 --     clip_coord0 clip_coord1 clip_within           the clipped segment's ends lie within the limit
 --     clip_inside                                   a segment with no end outside an edge stays as it is
 --     first_kept first_moved second_kept second_moved   an end is said to have stayed exactly where it is as given
@@ -27,8 +27,7 @@ use Rattle.clip.specs.declared.Seg.{Seg}
 use Rattle.clip.specs.declared.BBox.{BBox}
 use Rattle.clip.specs.declared.ClippedSeg.{ClippedSeg}
 use Rattle.clip.specs.declared.Edge.{Edge}
-use Rattle.clip.specs.declared.Clipped.{Clipped}
-use Rattle.clip.specs.declared.Clipped.TheVariants.{Done, Refused}
+use Rattle.std.specs.Prelude.{Result, Ok, Err}
 use Rattle.clip.specs.Domain.{limit, within, is_coord, is_good, is_inside}
 use Rattle.clip.specs.Facts.{Within, Coord, Good}
 use Rattle.clip.specs.Cutting.{Crossing, Missing, At, cross_at_x, cross_at_y, given, replace, cut_x_min, cut_x_max, cut_y_min, cut_y_max, cuts, overlap, clip}
@@ -78,11 +77,11 @@ good_proper h = record { wide = h.wide; tall = h.tall }
 
 -- ---- the answer by its cases
 -- what an answer says leaves one answer
-pub one_answer : (r r' : Clipped) → said_clipped r ≡ said_clipped r' → r ≡ r'
-one_answer (Done c) (Done d) e = let f : c ∷ [] ≡ d ∷ [] = ap (λ (s : Said (List ClippedSeg)). s.values) e in cc
-one_answer (Done c) (Refused r) e = absurd (never_both r e)
-one_answer (Refused r) (Done c) e = absurd (never_both r (sym e))
-one_answer (Refused r) (Refused q) e = ap Refused (one_refusal r q e)
+pub one_answer : (r r' : Result ClippedSeg Refusal) → said_clipped r ≡ said_clipped r' → r ≡ r'
+one_answer (Ok c) (Ok d) e = let f : c ∷ [] ≡ d ∷ [] = ap (λ (s : Said (List ClippedSeg)). s.values) e in cc
+one_answer (Ok c) (Err r) e = absurd (never_both r e)
+one_answer (Err r) (Ok c) e = absurd (never_both r (sym e))
+one_answer (Err r) (Err q) e = ap Err (one_refusal r q e)
 
 module _ (s : Seg) (b : BBox) where
   pub box_refused : is_good b ≡ false → clipped s b ≡ refused Box []
@@ -103,14 +102,14 @@ module _ (s : Seg) (b : BBox) where
   by_cases true false c e = absurd (never_both CoordRefusal e)
   by_cases false t c e = absurd (never_both Box e)
 
-  module _ (r : Clipped) (a : said_clipped r ≡ clipped s b) where
-    pub answer_is : is_good b ≡ true → are_coords s ≡ true → r ≡ Done (clip b s)
-    answer_is g t = one_answer r (Done (clip b s)) (a ∙ not_refused g t)
+  module _ (r : Result ClippedSeg Refusal) (a : said_clipped r ≡ clipped s b) where
+    pub answer_is : is_good b ≡ true → are_coords s ≡ true → r ≡ Ok (clip b s)
+    answer_is g t = one_answer r (Ok (clip b s)) (a ∙ not_refused g t)
 
-    pub never_refused : (e : Refusal) → r ≡ Refused e → is_good b ≡ true → are_coords s ≡ true → ⊥
+    pub never_refused : (e : Refusal) → r ≡ Err e → is_good b ≡ true → are_coords s ≡ true → ⊥
     never_refused e f g t = let k = answer_is g t in let z : ◌≡◌ {A = ℕ} 0 1 = cc in omega arith
 
-    module _ (c : ClippedSeg) (d : r ≡ Done c) where
+    module _ (c : ClippedSeg) (d : r ≡ Ok c) where
       cases : (is_good b ≡ true) × ((are_coords s ≡ true) × (c ≡ clip b s))
       unfolding clipped
       cases = by_cases (is_good b) (are_coords s) c (sym (ap said_clipped d) ∙ a)

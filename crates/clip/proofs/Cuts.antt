@@ -14,8 +14,7 @@ use Rattle.promise.proofs.Joined.{both, both_is}
 use Rattle.clip.specs.declared.Pt.{Pt}
 use Rattle.clip.specs.declared.Seg.{Seg}
 use Rattle.clip.specs.declared.BBox.{BBox}
-use Rattle.clip.specs.declared.cutting.Meeting.{Meeting}
-use Rattle.clip.specs.declared.cutting.Meeting.TheVariants.{Nowhere, At as AtY}
+use Rattle.std.specs.Prelude.{Option, Some, None}
 use Rattle.clip.specs.declared.Edge.{Edge}
 use Rattle.clip.specs.declared.Edge.TheVariants.{XMin, XMax, YMin, YMax}
 use Rattle.clip.specs.declared.ClippedSeg.{ClippedSeg}
@@ -141,28 +140,28 @@ module _ (d : Side) (e : Edge) (s : ClippedSeg) (c a b : ℤ) (k : Reads s.seg c
   asked_1 g h u v = rw k.at (asked_on d q p c h g (is1 true v) (is0 false u))
 
   -- the answer m, found from the end that is outside
-  module _ (m : Meeting) where
+  module _ (m : Option ℤ) where
     met_0 : met_at (read c) m ≡ cross_on d p q (read c) (read a) (read b) → met_at c m ≡ cross_at_x p q c a b
     met_0 f = rw (k.at, k.from, k.to) at f ∙ cross_on_lem d p q c a b
 
     met_1 : met_at (read c) m ≡ cross_on d q p (read c) (read a) (read b) → met_at c m ≡ cross_at_x p q c a b
     met_1 f = rw (k.at, k.from, k.to) at f ∙ cross_on_lem d q p c a b ∙ crossing_sym q p c a b
 
-    missing : met_at c m ≡ cross_at_x p q c a b → m ≡ Nowhere → s ≡ Cut
+    missing : met_at c m ≡ cross_at_x p q c a b → m ≡ None → s ≡ Cut
     missing f n = sym (ap (replace e (beyond d c p.x) (beyond d c q.x) s) (sym f ∙ ap (met_at c) n))
 
     module _ (f : met_at (read c) m ≡ cross_on d p q (read c) (read a) (read b)) where
-      pub stays_0 : m ≡ Nowhere → s ≡ Cut
+      pub stays_0 : m ≡ None → s ≡ Cut
       stays_0 n = missing (met_0 f) n
 
-      pub goes_0 : Out0 true → (y : ℤ) → Back w32 y → m ≡ AtY y → record { seg = join (record { x = read c; y = read y }) (again q); first = e; second = s.second } ≡ Cut
+      pub goes_0 : Out0 true → (y : ℤ) → Back w32 y → m ≡ Some y → record { seg = join (record { x = read c; y = read y }) (again q); first = e; second = s.second } ≡ Cut
       goes_0 u y r n = let w : cross_at_x p q c a b ≡ At (record { x = c; y = y }) = sym (met_0 f) ∙ ap (met_at c) n in rw (k.at, r, w, is0 true u, k.x1, k.y1) refl
 
     module _ (f : met_at (read c) m ≡ cross_on d q p (read c) (read a) (read b)) where
-      pub stays_1 : m ≡ Nowhere → s ≡ Cut
+      pub stays_1 : m ≡ None → s ≡ Cut
       stays_1 n = missing (met_1 f) n
 
-      pub goes_1 : Out0 false → Out1 true → (y : ℤ) → Back w32 y → m ≡ AtY y → record { seg = join (again p) (record { x = read c; y = read y }); first = s.first; second = e } ≡ Cut
+      pub goes_1 : Out0 false → Out1 true → (y : ℤ) → Back w32 y → m ≡ Some y → record { seg = join (again p) (record { x = read c; y = read y }); first = s.first; second = e } ≡ Cut
       goes_1 u v y r n = let w : cross_at_x p q c a b ≡ At (record { x = c; y = y }) = sym (met_1 f) ∙ ap (met_at c) n in rw (k.at, r, w, is0 false u, is1 true v, k.x0, k.y0) refl
 
 -- ---- what is cut stays within the limit

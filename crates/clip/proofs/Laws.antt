@@ -8,8 +8,8 @@ use Rattle.refusal.specs.Said.{Said, accepted, refused}
 use Rattle.clip.specs.declared.Seg.{Seg}
 use Rattle.clip.specs.declared.BBox.{BBox}
 use Rattle.clip.specs.declared.ClippedSeg.{ClippedSeg}
-use Rattle.clip.specs.declared.Clipped.{Clipped}
-use Rattle.clip.specs.declared.Clipped.TheVariants.{Done, Refused}
+use Rattle.std.specs.Prelude.{Result, Ok, Err}
+use Rattle.refusal.specs.declared.Refusal.{Refusal}
 use Rattle.clip.specs.Domain.{is_coord, is_good}
 use Rattle.clip.specs.Cutting.{clip}
 use Rattle.clip.specs.Answer.{said_clipped, are_coords, clipped}
@@ -20,12 +20,12 @@ use Rattle.clip.proofs.Symmetry.{clip_reversed}
 use Rattle.clip.proofs.Shift.{clip_moved}
 
 -- an answer changed says what it said, changed
-said_of_lem : (f : ClippedSeg → ClippedSeg) (r : Clipped) → said_clipped (answer_of f r) ≡ said_of f (said_clipped r)
-said_of_lem f (Done c) = refl
-said_of_lem f (Refused r) = refl
+said_of_lem : (f : ClippedSeg → ClippedSeg) (r : Result ClippedSeg Refusal) → said_clipped (answer_of f r) ≡ said_of f (said_clipped r)
+said_of_lem f (Ok c) = refl
+said_of_lem f (Err r) = refl
 
 -- what is said leaves one answer
-one_changed : (f : ClippedSeg → ClippedSeg) (r r' : Clipped) {a a' : Said (List ClippedSeg)} → a' ≡ said_of f a → said_clipped r ≡ a → said_clipped r' ≡ a' → r' ≡ answer_of f r
+one_changed : (f : ClippedSeg → ClippedSeg) (r r' : Result ClippedSeg Refusal) {a a' : Said (List ClippedSeg)} → a' ≡ said_of f a → said_clipped r ≡ a → said_clipped r' ≡ a' → r' ≡ answer_of f r
 one_changed f r r' e g h = one_answer r' (answer_of f r) (h ∙ e ∙ ap (said_of f) (sym g) ∙ sym (said_of_lem f r))
 
 reversed_said : (s : Seg) (b : BBox) → clipped (reversed s) b ≡ said_of turned (clipped s b)

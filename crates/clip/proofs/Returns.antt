@@ -14,8 +14,8 @@ use Rattle.clip.specs.declared.Pt.{Pt}
 use Rattle.clip.specs.declared.Seg.{Seg}
 use Rattle.clip.specs.declared.BBox.{BBox}
 use Rattle.clip.specs.declared.ClippedSeg.{ClippedSeg}
-use Rattle.clip.specs.declared.Clipped.{Clipped}
-use Rattle.clip.specs.declared.Clipped.TheVariants.{Done, Refused}
+use Rattle.std.specs.Prelude.{Result, Ok, Err}
+use Rattle.refusal.specs.declared.Refusal.{Refusal}
 use Rattle.refusal.specs.declared.Refusal.TheVariants.{Box, Coord as CoordRefusal}
 use Rattle.clip.specs.Domain.{limit, is_coord, is_good}
 use Rattle.refusal.specs.Said.{accepted, refused}
@@ -127,18 +127,18 @@ module _ (b : BBox) (l h : Pt) (el : l ≡ record { x = b.x_min; y = b.y_min }) 
 -- ---- clip
 module _ (s : Seg) (b : BBox) where
   -- what a call has to say of its answer: the promise's second clause follows from the first
-  abbrev pub Owed : Clipped → Type 0
-  Owed r = (said_clipped r ≡ clipped s b) × ((c : ClippedSeg) → r ≡ Done c → Demand3 b s c)
+  abbrev pub Owed : Result ClippedSeg Refusal → Type 0
+  Owed r = (said_clipped r ≡ clipped s b) × ((c : ClippedSeg) → r ≡ Ok c → Demand3 b s c)
 
-  owed : (r : Clipped) → said_clipped r ≡ clipped s b → Owed r
+  owed : (r : Result ClippedSeg Refusal) → said_clipped r ≡ clipped s b → Owed r
   owed r e = (e, demand_clip s b r e)
 
   module _ (g : Bool) (eg : g ≡ is_good b) where
     no_box : not g ≡ true → clipped s b ≡ refused Box []
     no_box n = box_refused s b (sym eg ∙ not-true g n)
 
-    pub bad_box : not g ≡ true → Owed (Refused Box)
-    bad_box n = owed (Refused Box) (sym (no_box n))
+    pub bad_box : not g ≡ true → Owed (Err Box)
+    bad_box n = owed (Err Box) (sym (no_box n))
 
     module _ (ng : not g ≡ false) where
       good_box : is_good b ≡ true
@@ -151,8 +151,8 @@ module _ (s : Seg) (b : BBox) where
         no_coord : not t ≡ true → clipped s b ≡ refused CoordRefusal []
         no_coord n = coord_refused s b good_box (sym et ∙ not-true t n)
 
-        pub bad_coord : not t ≡ true → Owed (Refused CoordRefusal)
-        bad_coord n = owed (Refused CoordRefusal) (sym (no_coord n))
+        pub bad_coord : not t ≡ true → Owed (Err CoordRefusal)
+        bad_coord n = owed (Err CoordRefusal) (sym (no_coord n))
 
         module _ (nt : not t ≡ false) where
           pub coords : Coord s.p0 × Coord s.p1
@@ -161,5 +161,5 @@ module _ (s : Seg) (b : BBox) where
           taken : clipped s b ≡ accepted (clip b s ∷ [])
           taken = not_refused s b good_box (sym et ∙ not-false t nt)
 
-          pub done : (c : ClippedSeg) → c ≡ clip b s → Owed (Done c)
-          done c e = owed (Done c) (ap (λ (z : ClippedSeg). said_clipped (Done z)) e ∙ sym taken)
+          pub done : (c : ClippedSeg) → c ≡ clip b s → Owed (Ok c)
+          done c e = owed (Ok c) (ap (λ (z : ClippedSeg). said_clipped (Ok z)) e ∙ sym taken)

@@ -5,16 +5,16 @@ use Rattle.refusal.specs.Said.{Said, accepted, refused}
 use Rattle.clip.specs.declared.Seg.{Seg}
 use Rattle.clip.specs.declared.BBox.{BBox}
 use Rattle.clip.specs.declared.ClippedSeg.{ClippedSeg}
-use Rattle.clip.specs.declared.Clipped.{Clipped}
-use Rattle.clip.specs.declared.Clipped.TheVariants.{Done, Refused}
+use Rattle.std.specs.Prelude.{Result, Ok, Err}
+use Rattle.refusal.specs.declared.Refusal.{Refusal}
 use Rattle.clip.specs.Domain.{is_coord, is_good}
 use Rattle.clip.specs.Cutting.{clip}
 
 -- what each case of the answer says. The values are the clipped segments: one, or none where the call is refused, since a clip has no state and no count
 -- to give back
-abbrev pub said_clipped : Clipped → Said (List ClippedSeg)
-said_clipped (Done c) = accepted (c ∷ [])
-said_clipped (Refused r) = refused r []
+abbrev pub said_clipped : Result ClippedSeg Refusal → Said (List ClippedSeg)
+said_clipped (Ok c) = accepted (c ∷ [])
+said_clipped (Err r) = refused r []
 
 -- both ends lie within the limit
 abbrev pub are_coords : Seg → Bool

@@ -8,8 +8,7 @@ use Rattle.std.specs.Int.Signed.{lt_z, le_z}
 use Rattle.clip.specs.declared.Pt.{Pt}
 use Rattle.clip.specs.declared.Seg.{Seg}
 use Rattle.clip.specs.declared.BBox.{BBox}
-use Rattle.clip.specs.declared.cutting.Meeting.{Meeting}
-use Rattle.clip.specs.declared.cutting.Meeting.TheVariants.{Nowhere, At as AtY}
+use Rattle.std.specs.Prelude.{Option, Some, None}
 use Rattle.clip.specs.declared.ClippedSeg.{ClippedSeg}
 use Rattle.clip.specs.declared.Edge.{Edge}
 use Rattle.clip.specs.declared.Edge.TheVariants.{Stayed, XMin, XMax, YMin, YMax}
@@ -61,9 +60,9 @@ abbrev pub cross_at_y : Pt → Pt → ℤ → ℤ → ℤ → Crossing
 cross_at_y p q y a b = swapped (cross_at_x (swap p) (swap q) y a b)
 
 -- the code's answer for the line at x: a crossing by its y
-abbrev pub met_at : ℤ → Meeting → Crossing
-met_at x Nowhere = Missing
-met_at x (AtY y) = At (record { x = x; y = y })
+abbrev pub met_at : ℤ → Option ℤ → Crossing
+met_at x None = Missing
+met_at x (Some y) = At (record { x = x; y = y })
 
 -- a segment as given: no end is moved
 abbrev pub given : Seg → ClippedSeg

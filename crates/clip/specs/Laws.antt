@@ -11,8 +11,8 @@ use Rattle.clip.specs.declared.Pt.{Pt}
 use Rattle.clip.specs.declared.Seg.{Seg}
 use Rattle.clip.specs.declared.BBox.{BBox}
 use Rattle.clip.specs.declared.ClippedSeg.{ClippedSeg}
-use Rattle.clip.specs.declared.Clipped.{Clipped}
-use Rattle.clip.specs.declared.Clipped.TheVariants.{Done, Refused}
+use Rattle.std.specs.Prelude.{Result, Ok, Err}
+use Rattle.refusal.specs.declared.Refusal.{Refusal}
 use Rattle.clip.specs.declared.Edge.{Edge}
 use Rattle.clip.specs.declared.Edge.TheVariants.{Stayed, XMin, XMax, YMin, YMax}
 use Rattle.clip.specs.Domain.{is_good}
@@ -25,9 +25,9 @@ use Rattle.clip.specs.Samples.{ten}
 abbrev pub said_of : (ClippedSeg → ClippedSeg) → Said (List ClippedSeg) → Said (List ClippedSeg)
 said_of f a = record { number = a.number; place = a.place; values = map f a.values }
 
-abbrev pub answer_of : (ClippedSeg → ClippedSeg) → Clipped → Clipped
-answer_of f (Done c) = Done (f c)
-answer_of f (Refused r) = Refused r
+abbrev pub answer_of : (ClippedSeg → ClippedSeg) → Result ClippedSeg Refusal → Result ClippedSeg Refusal
+answer_of f (Ok c) = Ok (f c)
+answer_of f (Err r) = Err r
 
 -- ---- from the other end
 abbrev pub reversed : Seg → Seg
@@ -40,7 +40,7 @@ turned c = record { seg = reversed c.seg; first = c.second; second = c.first }
 pub record FromOtherEnd : Type 0 where
   pub defined : (b : BBox) (s : Seg) → clip b (reversed s) ≡ turned (clip b s)
   pub said : (s : Seg) (b : BBox) → clipped (reversed s) b ≡ said_of turned (clipped s b)
-  pub answered : (s : Seg) (b : BBox) (r r' : Clipped) → said_clipped r ≡ clipped s b → said_clipped r' ≡ clipped (reversed s) b → r' ≡ answer_of turned r
+  pub answered : (s : Seg) (b : BBox) (r r' : Result ClippedSeg Refusal) → said_clipped r ≡ clipped s b → said_clipped r' ≡ clipped (reversed s) b → r' ≡ answer_of turned r
 
 -- ---- by one step: u in x, v in y
 abbrev pub moved_pt : ℤ → ℤ → Pt → Pt
@@ -66,7 +66,7 @@ pub record BothTaken (u v : ℤ) (s : Seg) (b : BBox) : Type 0 where
 pub record ByOneStep : Type 0 where
   pub defined : (u v : ℤ) (b : BBox) (s : Seg) → clip (moved_box u v b) (moved_seg u v s) ≡ moved_clip u v (clip b s)
   pub said : (u v : ℤ) (s : Seg) (b : BBox) → BothTaken u v s b → clipped (moved_seg u v s) (moved_box u v b) ≡ said_of (moved_clip u v) (clipped s b)
-  pub answered : (u v : ℤ) (s : Seg) (b : BBox) → BothTaken u v s b → (r r' : Clipped)
+  pub answered : (u v : ℤ) (s : Seg) (b : BBox) → BothTaken u v s b → (r r' : Result ClippedSeg Refusal)
       → said_clipped r ≡ clipped s b → said_clipped r' ≡ clipped (moved_seg u v s) (moved_box u v b) → r' ≡ answer_of (moved_clip u v) r
 
 -- ---- x and y exchanged, in the box 0..10, which stays the same: no law

@@ -10,14 +10,8 @@ ghost use Rattle.clip.specs.Numbers.{cornered};
 
 use crate::{ClippedSeg, Edge, Pt, Seg};
 
-// Whether a segment crosses an edge's line, and at which y.
-#[derive(Clone, Copy)]
-enum Meeting {
-    Nowhere,
-    At(i32),
-}
-
-// n / d rounded down, below zero too, for d above zero.
+// n / d rounded down, below zero too, for d above zero. By hand and not `div_euclid`, which goes two ways by the sign of n: the edits of its rounding speak
+// of the remainder.
 fn floor_div(n: i64, d: i64) -> i64
     requires { pos 0 <ℤ d }
     ensures { result ≡ floor n d }
@@ -41,15 +35,15 @@ fn height_at(x1: i32, y1: i32, x2: i32, y2: i32, x: i32) -> i32
 
 // Where the segment from p to q crosses the line at x, which lies between them, p to its left: at the rounded y, if that lies in [a, b].
 // The segment's own y range need not be asked, since y lies in it.
-fn intersect_at_x(p: Pt, q: Pt, x: i32, a: i32, b: i32) -> Meeting
+fn intersect_at_x(p: Pt, q: Pt, x: i32, a: i32, b: i32) -> Option<i32>
     requires { Asked p.x p.y q.x q.y x }
     ensures { met_at x result ≡ cross_at_x p q x a b }
 {
     let y = height_at(p.x, p.y, q.x, q.y, x);
     if (a <= y) & (y <= b) {
-        return Meeting::At(y);
+        return Some(y);
     }
-    Meeting::Nowhere
+    None
 }
 
 // The cut at a lower edge: the end strictly below it goes to the crossing, if there is one, and is said to have been moved by that edge. The end that stays
@@ -59,89 +53,71 @@ fn cut_low(c: ClippedSeg, x: i32, a: i32, b: i32, lower: Edge) -> ClippedSeg
     requires coord_2 { Coord c.seg.p1 }
     ensures { result ≡ replace lower (lt_z c.seg.p0.x x) (lt_z c.seg.p1.x x) c (cross_at_x c.seg.p0 c.seg.p1 x a b) }
 {
-    let s = c.seg;
-    let p0 = s.p0;
-    let p1 = s.p1;
+    let Seg { p0, p1 } = c.seg;
     if p0.x < x {
         if p1.x < x {
             return c;
         }
-        match intersect_at_x(p0, p1, x, a, b) {
-            Meeting::At(y) => {
-                let second = c.second;
-                return ClippedSeg {
-                    seg: Seg {
-                        p0: Pt { x: x, y: y },
-                        p1: Pt { x: p1.x, y: p1.y },
-                    },
-                    first: lower,
-                    second: second,
-                };
-            }
-            Meeting::Nowhere => return c,
+        if let Some(y) = intersect_at_x(p0, p1, x, a, b) {
+            return ClippedSeg {
+                seg: Seg {
+                    p0: Pt { x, y },
+                    p1: Pt { x: p1.x, y: p1.y },
+                },
+                first: lower,
+                ..c
+            };
         }
+        return c;
     }
     if p1.x < x {
-        match intersect_at_x(p1, p0, x, a, b) {
-            Meeting::At(y) => {
-                let first = c.first;
-                return ClippedSeg {
-                    seg: Seg {
-                        p0: Pt { x: p0.x, y: p0.y },
-                        p1: Pt { x: x, y: y },
-                    },
-                    first: first,
-                    second: lower,
-                };
-            }
-            Meeting::Nowhere => return c,
+        if let Some(y) = intersect_at_x(p1, p0, x, a, b) {
+            return ClippedSeg {
+                seg: Seg {
+                    p0: Pt { x: p0.x, y: p0.y },
+                    p1: Pt { x, y },
+                },
+                second: lower,
+                ..c
+            };
         }
     }
     c
 }
 
-// The cut at an upper edge.
+// The cut at an upper edge. A body of its own, with both answers written out, as `cut_low` has: one for both misses the speed of a crossing clip.
 fn cut_high(c: ClippedSeg, x: i32, a: i32, b: i32, upper: Edge) -> ClippedSeg
     requires coord { Coord c.seg.p0 }
     requires coord_2 { Coord c.seg.p1 }
     ensures { result ≡ replace upper (lt_z x c.seg.p0.x) (lt_z x c.seg.p1.x) c (cross_at_x c.seg.p0 c.seg.p1 x a b) }
 {
-    let s = c.seg;
-    let p0 = s.p0;
-    let p1 = s.p1;
+    let Seg { p0, p1 } = c.seg;
     if x < p0.x {
         if x < p1.x {
             return c;
         }
-        match intersect_at_x(p1, p0, x, a, b) {
-            Meeting::At(y) => {
-                let second = c.second;
-                return ClippedSeg {
-                    seg: Seg {
-                        p0: Pt { x: x, y: y },
-                        p1: Pt { x: p1.x, y: p1.y },
-                    },
-                    first: upper,
-                    second: second,
-                };
-            }
-            Meeting::Nowhere => return c,
+        if let Some(y) = intersect_at_x(p1, p0, x, a, b) {
+            return ClippedSeg {
+                seg: Seg {
+                    p0: Pt { x, y },
+                    p1: Pt { x: p1.x, y: p1.y },
+                },
+                first: upper,
+                ..c
+            };
         }
+        return c;
     }
     if x < p1.x {
-        match intersect_at_x(p0, p1, x, a, b) {
-            Meeting::At(y) => {
-                let first = c.first;
-                return ClippedSeg {
-                    seg: Seg {
-                        p0: Pt { x: p0.x, y: p0.y },
-                        p1: Pt { x: x, y: y },
-                    },
-                    first: first,
-                    second: upper,
-                };
-            }
-            Meeting::Nowhere => return c,
+        if let Some(y) = intersect_at_x(p0, p1, x, a, b) {
+            return ClippedSeg {
+                seg: Seg {
+                    p0: Pt { x: p0.x, y: p0.y },
+                    p1: Pt { x, y },
+                },
+                second: upper,
+                ..c
+            };
         }
     }
     c
@@ -151,18 +127,14 @@ fn cut_high(c: ClippedSeg, x: i32, a: i32, b: i32, upper: Edge) -> ClippedSeg
 fn swap(c: ClippedSeg) -> ClippedSeg
     ensures { result ≡ swap_clipped c }
 {
-    let s = c.seg;
-    let p0 = s.p0;
-    let p1 = s.p1;
-    let name0 = c.first;
-    let name1 = c.second;
+    let Seg { p0, p1 } = c.seg;
     ClippedSeg {
         seg: Seg {
             p0: Pt { x: p0.y, y: p0.x },
             p1: Pt { x: p1.y, y: p1.x },
         },
-        first: name0,
-        second: name1,
+        first: c.first,
+        second: c.second,
     }
 }
 
@@ -173,10 +145,8 @@ pub(crate) fn cut_all(p0: Pt, p1: Pt, low: Pt, high: Pt) -> ClippedSeg
     requires coord_2 { Coord p1 }
     ensures { result ≡ clip (cornered low high) (record { p0 = p0; p1 = p1 }) }
 {
-    let left = low.x;
-    let bottom = low.y;
-    let right = high.x;
-    let top = high.y;
+    let Pt { x: left, y: bottom } = low;
+    let Pt { x: right, y: top } = high;
     let c = ClippedSeg {
         seg: Seg {
             p0: Pt { x: p0.x, y: p0.y },

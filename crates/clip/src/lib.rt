@@ -53,12 +53,6 @@ pub struct ClippedSeg {
     pub second: Edge,
 }
 
-#[derive(Clone, Copy)]
-pub enum Clipped {
-    Done(ClippedSeg),
-    Refused(Refusal),
-}
-
 impl Edge {
     // The number of what became of an end, 0 to 4 in the order of the cuts.
     pub fn number(self) -> u32
@@ -79,10 +73,7 @@ impl Edge {
     {
         match self {
             Edge::Stayed => false,
-            Edge::XMin => true,
-            Edge::XMax => true,
-            Edge::YMin => true,
-            Edge::YMax => true,
+            Edge::XMin | Edge::XMax | Edge::YMin | Edge::YMax => true,
         }
     }
 }
@@ -109,22 +100,19 @@ impl BBox {
     pub fn is_coord(p: Pt) -> bool
         ensures { result ≡ is_coord p }
     {
-        let x = p.x;
-        let y = p.y;
-        BBox::is_within(x) & BBox::is_within(y)
+        BBox::is_within(p.x) & BBox::is_within(p.y)
     }
 
     // Whether a box is good; where it is not, a call refuses it as BOX. The lower edge lies below the upper one, so each is asked for one end of the limit.
     pub fn is_good(b: BBox) -> bool
         ensures { result ≡ is_good b }
     {
-        let limit = BBox::LIMIT;
         (b.x_min < b.x_max)
             & (b.y_min < b.y_max)
-            & (-limit <= b.x_min)
-            & (b.x_max <= limit)
-            & (-limit <= b.y_min)
-            & (b.y_max <= limit)
+            & (-BBox::LIMIT <= b.x_min)
+            & (b.x_max <= BBox::LIMIT)
+            & (-BBox::LIMIT <= b.y_min)
+            & (b.y_max <= BBox::LIMIT)
     }
 
     // Whether a point lies in the closed box. A segment with both ends in a good box is accepted and stays as given, and need not be clipped to see it.
@@ -189,8 +177,7 @@ fn are_within(m: i32, n: i32) -> bool
 fn are_coords(s: Seg) -> bool
     ensures { result ≡ are_coords s }
 {
-    let p0 = s.p0;
-    let p1 = s.p1;
+    let Seg { p0, p1 } = s;
     are_within(p0.x, p1.x) & are_within(p0.y, p1.y)
 }
 
@@ -208,16 +195,14 @@ fn are_beside(m: i32, n: i32, low: i32, high: i32) -> bool
 fn is_beside(b: BBox, s: Seg) -> bool
     ensures { result ≡ beside_x b s }
 {
-    let p0 = s.p0;
-    let p1 = s.p1;
+    let Seg { p0, p1 } = s;
     are_beside(p0.x, p1.x, b.x_min, b.x_max)
 }
 
 fn is_beyond(b: BBox, s: Seg) -> bool
     ensures { result ≡ beside_y b s }
 {
-    let p0 = s.p0;
-    let p1 = s.p1;
+    let Seg { p0, p1 } = s;
     are_beside(p0.y, p1.y, b.y_min, b.y_max)
 }
 
@@ -233,40 +218,38 @@ pub fn stay(s: Seg) -> ClippedSeg
 }
 
 // The segment cut at the box: BOX, then COORD, else the clipped segment.
-pub fn clip(seg: Seg, bbox: BBox) -> Clipped
+pub fn clip(seg: Seg, bbox: BBox) -> Result<ClippedSeg, Refusal>
     ensures answer { said_clipped result ≡ clipped seg bbox }
-    ensures demand3 { (c : ClippedSeg) → result ≡ Clipped.Done c → Demand3 bbox seg c }
+    ensures demand3 { (c : ClippedSeg) → result ≡ Ok c → Demand3 bbox seg c }
 {
     if !BBox::is_good(bbox) {
-        return Clipped::Refused(Refusal::Box);
+        return Err(Refusal::Box);
     }
     if !are_coords(seg) {
-        return Clipped::Refused(Refusal::Coord);
+        return Err(Refusal::Coord);
     }
     if is_beside(bbox, seg) {
-        return Clipped::Done(stay(seg));
+        return Ok(stay(seg));
     }
     if is_beyond(bbox, seg) {
-        return Clipped::Done(stay(seg));
+        return Ok(stay(seg));
     }
-    let p0 = seg.p0;
-    let p1 = seg.p1;
-    Clipped::Done(cut_all(p0, p1, BBox::low(bbox), BBox::high(bbox)))
+    Ok(cut_all(seg.p0, seg.p1, BBox::low(bbox), BBox::high(bbox)))
 }
 
-// The same of two points, for callers that have the ends so.
-pub fn clip_between(from: Pt, to: Pt, bbox: BBox) -> Clipped
+// The same of two points, for callers that have the ends so. It repeats `clip` and does not call it: with one caller of `cut_all` a crossing clip is slower.
+pub fn clip_between(from: Pt, to: Pt, bbox: BBox) -> Result<ClippedSeg, Refusal>
     ensures { said_clipped result ≡ clipped (between from to) bbox }
 {
     let seg = Seg { p0: from, p1: to };
     if !BBox::is_good(bbox) {
-        return Clipped::Refused(Refusal::Box);
+        return Err(Refusal::Box);
     }
     if !are_coords(seg) {
-        return Clipped::Refused(Refusal::Coord);
+        return Err(Refusal::Coord);
     }
     if is_beside(bbox, seg) | is_beyond(bbox, seg) {
-        return Clipped::Done(stay(seg));
+        return Ok(stay(seg));
     }
-    Clipped::Done(cut_all(from, to, BBox::low(bbox), BBox::high(bbox)))
+    Ok(cut_all(from, to, BBox::low(bbox), BBox::high(bbox)))
 }

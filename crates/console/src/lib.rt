@@ -15,6 +15,7 @@ pub fn fill<R: Read>(reader: &mut R, bytes: &mut [u8]) -> io::Result<usize>
     ensures next { IfOk result (λ n. Consumes (R.remaining reader.old) (R.remaining reader.new) (take n bytes.new)) }
     ensures all { IfOk result (λ n. n < length bytes.new → IsAtEnd (R.remaining reader.new)) }
 {
+    // A `while`: each read moves as many bytes as the reader gives.
     let mut done = 0;
     while done < bytes.len() {
         let n = reader.read(&mut bytes[done..])?;

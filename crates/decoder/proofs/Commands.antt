@@ -9,11 +9,12 @@ use lib.Dec.{ltb, eqb}
 use lib.ListN.{length, take, drop, length-drop}
 use Rattle.refusal.specs.declared.Fault.{Fault}
 use Rattle.words.specs.Commands.{is_id}
-use Rattle.decoder.specs.declared.command.Asked.TheVariants.{Draw, Close, Bad}
+use Rattle.decoder.specs.declared.command.Asked.TheVariants.{Draw, Close}
 use Rattle.decoder.specs.Vertices.{Cursor, Trace, traced, faulty, and_then}
 use Rattle.decoder.specs.ReadingWords.{is_close, params, miscounted, cut_at, unless_faulty, command, commands, trace_from}
 use Rattle.decoder.specs.Passing.{asked_of}
 use Rattle.decoder.proofs.Traces.{then_same}
+use Rattle.std.specs.Prelude.{Ok, Err}
 
 -- ---- a command without a fault, and the words it needs are there
 pub record Asks (word : ℕ) (ws : List ℕ) : Type 0 where
@@ -26,7 +27,7 @@ goes_on at word ws fault go a = rw (a.known, a.counted, a.there)
 
 module _ {X : Type 0} (fault : Fault → X) (go : X) where
   bad_by : (t m s u : Bool) (x y z f : Fault) (i n : ℕ) →
-      cond (not t) (Bad x) (cond m (Bad y) (cond s (Bad z) (cond u Close (Draw i n)))) ≡ Bad f →
+      cond (not t) (Err x) (cond m (Err y) (cond s (Err z) (cond u (Ok Close) (Ok (Draw i n))))) ≡ Err f →
       cond (not t) (fault x) (cond m (fault y) (cond s (fault z) go)) ≡ fault f
   bad_by false m s u x y z f i n e = let g : x ≡ f = cc in ap fault g
   bad_by true true s u x y z f i n e = let g : y ≡ f = cc in ap fault g
@@ -34,11 +35,11 @@ module _ {X : Type 0} (fault : Fault → X) (go : X) where
   bad_by true false false true x y z f i n e = let k : ◌≡◌ {A = ℕ} 0 1 = cc in absurd (omega arith)
   bad_by true false false false x y z f i n e = let k : ◌≡◌ {A = ℕ} 0 1 = cc in absurd (omega arith)
 
-  pub asked_bad : (at word : ℕ) (ws : List ℕ) (f : Fault) → asked_of at word ws ≡ Bad f → unless_faulty at word ws fault go ≡ fault f
+  pub asked_bad : (at word : ℕ) (ws : List ℕ) (f : Fault) → asked_of at word ws ≡ Err f → unless_faulty at word ws fault go ≡ fault f
   asked_bad at word ws f e = bad_by (is_id (word % 8)) (miscounted word) (ltb (length ws) (params word)) (is_close word) _ _ (cut_at at ws) f (word % 8) (word / 8) e
 
 close_by : (t m s u : Bool) (x y z : Fault) (i n : ℕ) →
-    cond (not t) (Bad x) (cond m (Bad y) (cond s (Bad z) (cond u Close (Draw i n)))) ≡ Close →
+    cond (not t) (Err x) (cond m (Err y) (cond s (Err z) (cond u (Ok Close) (Ok (Draw i n))))) ≡ Ok Close →
     (t ≡ true) × (m ≡ false) × (s ≡ false) × (u ≡ true)
 close_by false m s u x y z i n e = let k : ◌≡◌ {A = ℕ} 0 1 = cc in absurd (omega arith)
 close_by true true s u x y z i n e = let k : ◌≡◌ {A = ℕ} 0 1 = cc in absurd (omega arith)
@@ -47,7 +48,7 @@ close_by true false false true x y z i n e = (refl, refl, refl, refl)
 close_by true false false false x y z i n e = let k : ◌≡◌ {A = ℕ} 0 1 = cc in absurd (omega arith)
 
 draw_by : (t m s u : Bool) (x y z : Fault) (i n id pairs : ℕ) →
-    cond (not t) (Bad x) (cond m (Bad y) (cond s (Bad z) (cond u Close (Draw i n)))) ≡ Draw id pairs →
+    cond (not t) (Err x) (cond m (Err y) (cond s (Err z) (cond u (Ok Close) (Ok (Draw i n))))) ≡ Ok (Draw id pairs) →
     (t ≡ true) × (m ≡ false) × (s ≡ false) × (u ≡ false) × (i ≡ id) × (n ≡ pairs)
 draw_by false m s u x y z i n id pairs e = let k : ◌≡◌ {A = ℕ} 0 1 = cc in absurd (omega arith)
 draw_by true true s u x y z i n id pairs e = let k : ◌≡◌ {A = ℕ} 0 1 = cc in absurd (omega arith)
@@ -70,12 +71,12 @@ pub record Draws (word : ℕ) (ws : List ℕ) (id pairs : ℕ) : Type 0 where
   pub enough_words : 2 * pairs ≤ length ws
 
 module _ (at word : ℕ) (ws : List ℕ) where
-  pub asked_close : asked_of at word ws ≡ Close → Closes word ws
+  pub asked_close : asked_of at word ws ≡ Ok Close → Closes word ws
   asked_close e =
       let (t, m, s, u) = close_by (is_id (word % 8)) (miscounted word) (ltb (length ws) (params word)) (is_close word) _ _ (cut_at at ws) (word % 8) (word / 8) e in
       record { asks = record { known = t; counted = m; there = s }; close = u }
 
-  pub asked_draw : (id pairs : ℕ) → asked_of at word ws ≡ Draw id pairs → Draws word ws id pairs
+  pub asked_draw : (id pairs : ℕ) → asked_of at word ws ≡ Ok (Draw id pairs) → Draws word ws id pairs
   asked_draw id pairs e =
       let (t, m, s, u, i, n) = draw_by (is_id (word % 8)) (miscounted word) (ltb (length ws) (params word)) (is_close word) _ _ (cut_at at ws) (word % 8) (word / 8) id pairs e in
       let m' : eqb (word / 8) 0 ≡ false = rw u at m in

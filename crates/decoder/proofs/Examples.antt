@@ -6,10 +6,10 @@ use lib.IntN.{ℤ, pos}
 use Rattle.refusal.specs.declared.Refusal.TheVariants.{Command as NoCommand, Count, NoParams, CutParams, Step}
 use Rattle.refusal.specs.Said.{plain, placed}
 use Rattle.words.specs.Params.{unparam}
-use Rattle.decoder.specs.declared.Found.TheVariants.{Vertex as Met, End, Refused}
 use Rattle.decoder.specs.Vertices.{Cursor, Vertex, traced, faulty, origin}
 use Rattle.decoder.specs.ReadingWords.{drawn, commands, trace_from, trace}
 use Rattle.decoder.specs.Stepping.{pen_at, outset, next_of}
+use Rattle.std.specs.Prelude.{Some, None, Ok, Err}
 
 abbrev v : ℕ → ℤ → ℤ → Vertex
 v id x y = record { id = id; x = x; y = y }
@@ -85,31 +85,31 @@ step_first = refl
 abbrev words : List ℕ
 words = 9 ∷ 4 ∷ 4 ∷ 18 ∷ 0 ∷ 16 ∷ 16 ∷ 0 ∷ []
 
-first_met : next_of outset words ≡ Met (pen_at 3 0 1 (at (pos 2) (pos 2)))
+first_met : next_of outset words ≡ Ok (Some (pen_at 3 0 1 (at (pos 2) (pos 2))))
 unfolding next_of unparam
 first_met = refl
 
-second_met : next_of (pen_at 3 0 1 (at (pos 2) (pos 2))) words ≡ Met (pen_at 6 1 2 (at (pos 2) (pos 10)))
+second_met : next_of (pen_at 3 0 1 (at (pos 2) (pos 2))) words ≡ Ok (Some (pen_at 6 1 2 (at (pos 2) (pos 10))))
 unfolding next_of unparam
 second_met = refl
 
-last_met : next_of (pen_at 6 1 2 (at (pos 2) (pos 10))) words ≡ Met (pen_at 8 0 2 (at (pos 10) (pos 10)))
+last_met : next_of (pen_at 6 1 2 (at (pos 2) (pos 10))) words ≡ Ok (Some (pen_at 8 0 2 (at (pos 10) (pos 10))))
 unfolding next_of unparam
 last_met = refl
 
-end_met : next_of (pen_at 8 0 2 (at (pos 10) (pos 10))) words ≡ End
+end_met : next_of (pen_at 8 0 2 (at (pos 10) (pos 10))) words ≡ Ok None
 unfolding next_of
 end_met = refl
 
 -- a pen that says more pairs than there are, one behind the words, and one at a command that is cut
-too_many_pairs : next_of (pen_at 6 2 2 (at (pos 2) (pos 10))) words ≡ End
+too_many_pairs : next_of (pen_at 6 2 2 (at (pos 2) (pos 10))) words ≡ Ok None
 unfolding next_of
 too_many_pairs = refl
 
-behind_words : next_of (pen_at 9 0 2 (at (pos 10) (pos 10))) words ≡ End
+behind_words : next_of (pen_at 9 0 2 (at (pos 10) (pos 10))) words ≡ Ok None
 unfolding next_of
 behind_words = refl
 
-cut_there : next_of (pen_at 3 0 1 (at (pos 2) (pos 2))) (9 ∷ 4 ∷ 4 ∷ 18 ∷ 0 ∷ []) ≡ Refused (placed CutParams 3)
+cut_there : next_of (pen_at 3 0 1 (at (pos 2) (pos 2))) (9 ∷ 4 ∷ 4 ∷ 18 ∷ 0 ∷ []) ≡ Err (placed CutParams 3)
 unfolding next_of
 cut_there = refl

@@ -27,12 +27,11 @@ use Rattle.words.specs.Commands.{command_word, is_id}
 use Rattle.words.specs.Geometries.{max_words}
 use Rattle.words.specs.Params.{param}
 use Rattle.words.proofs.Params.{unparam_param}
-use Rattle.decoder.specs.declared.Reading.{Reading}
-use Rattle.decoder.specs.declared.Reading.TheVariants.{Read, Refused}
 use Rattle.decoder.specs.Vertices.{Cursor, Vertex, Trace, traced, faulty, vertex, onto, and_then, numbers}
 use Rattle.decoder.specs.ReadingWords.{params, miscounted, unless_faulty, moved, within, drawn, command, trace_from, trace, laid_out, reading, said_reading}
 use Rattle.decoder.proofs.Traces.{onto_nil, onto_onto, then_test}
 use Rattle.decoder.proofs.Commands.{nothing_read, one_command}
+use Rattle.std.specs.Prelude.{Result, Ok, Err}
 
 pub unknown : (at : ℕ) (c : Cursor) (word : ℕ) (ws : List ℕ) → is_id (word % 8) ≡ false → trace_from at c (word ∷ ws) ≡ faulty (plain NoCommand)
 unknown at c word ws h = rw (one_command, h)
@@ -214,8 +213,8 @@ is_read ws out n m g = by (trace ws) refl g
     by (traced vs c) e g = by_room vs c e (ltb max_words (length ws)) (ltb (length out) (3 * length vs)) refl refl g
     by (faulty f) e g = absurd (never_fault f g.answer)
 
-pub one_reading : (r r' : Reading) → said_reading r ≡ said_reading r' → r ≡ r'
-one_reading (Read n) (Read n') e = ap (λ (s : Said ℕ). Read s.values) e
-one_reading (Read n) (Refused f) e = absurd (never_fault f e)
-one_reading (Refused f) (Read n) e = absurd (never_fault f (sym e))
-one_reading (Refused f) (Refused f') e = ap Refused (one_fault f f' e)
+pub one_reading : (r r' : Result ℕ Fault) → said_reading r ≡ said_reading r' → r ≡ r'
+one_reading (Ok n) (Ok n') e = ap (λ (s : Said ℕ). Ok s.values) e
+one_reading (Ok n) (Err f) e = absurd (never_fault f e)
+one_reading (Err f) (Ok n) e = absurd (never_fault f (sym e))
+one_reading (Err f) (Err f') e = ap Err (one_fault f f' e)

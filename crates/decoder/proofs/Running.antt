@@ -16,7 +16,6 @@ use Rattle.refusal.specs.Said.{plain}
 use Rattle.whole.proofs.Machine.{back, i32_back}
 use Rattle.words.specs.Params.{unparam}
 use Rattle.decoder.specs.declared.pen.Pen.{Pen}
-use Rattle.decoder.specs.declared.passes.Ran.TheVariants.{Over, Out}
 use Rattle.decoder.specs.Vertices.{Cursor, Vertex, Trace, traced, faulty, vertex, onto, numbers}
 use Rattle.decoder.specs.ReadingWords.{within}
 use Rattle.decoder.specs.Stepping.{pen_at, cursor_of, Stands, pairs_of}
@@ -24,6 +23,7 @@ use Rattle.decoder.specs.Passing.{ran_of, led_to, behind, Leads, HasRoom, Filled
 use Rattle.decoder.proofs.Traces.{onto_nil, onto_onto, numbers_length, numbers_append}
 use Rattle.decoder.proofs.Steps.{within_fits}
 use Rattle.decoder.proofs.Pairs.{pairs_none, behind_stands, behind_same, pairs_one}
+use Rattle.std.specs.Prelude.{Some, None}
 
 -- each pair leaves one less
 pub one_less : (pen : Pen) → (pen.left ≡ 0 → ⊥) → (next : Pen) (c : Cursor) → next ≡ pen_at (pen.at + 2) (pen.left - 1) pen.id c → next.left < pen.left
@@ -41,7 +41,7 @@ pub record Running (start : Pen) (ws : List ℕ) (pen : Pen) : Type 0 where
 pub run_start : (start : Pen) (ws : List ℕ) → Stands start ws → Running start ws start
 run_start start ws S = record { stands = S; same = refl }
 
-pub run_end : (start : Pen) (ws : List ℕ) (pen : Pen) → Running start ws pen → pen.left ≡ 0 → Over pen ≡ ran_of start (pairs_of start ws)
+pub run_end : (start : Pen) (ws : List ℕ) (pen : Pen) → Running start ws pen → pen.left ≡ 0 → Some pen ≡ ran_of start (pairs_of start ws)
 run_end start ws pen R z =
     let e : pen.at + 2 * pen.left ≡ pen.at = omega arith in
     rw (R.same, pairs_none pen ws z, e, ← z)
@@ -55,7 +55,7 @@ module _ (start : Pen) (ws : List ℕ) (pen : Pen) (R : Running start ws pen) (n
       ≡ ran_of pen (cond (within (led_to pen ws)) (onto (vertex pen.id (led_to pen ws) ∷ []) (pairs_of (behind pen ws) ws)) (faulty (plain Step)))
   tested = R.same ∙ ap (ran_of pen) (pairs_one pen ws n R.stands)
 
-  pub run_out : within (led_to pen ws) ≡ false → Out ≡ ran_of start (pairs_of start ws)
+  pub run_out : within (led_to pen ws) ≡ false → None ≡ ran_of start (pairs_of start ws)
   run_out h = sym (rw h at tested)
 
   pub run_turn : within (led_to pen ws) ≡ true → (next : Pen) → next ≡ behind pen ws → Running start ws next

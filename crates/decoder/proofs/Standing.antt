@@ -17,10 +17,7 @@ use Rattle.refusal.specs.Said.{plain}
 use Rattle.whole.proofs.Machine.{i32_back}
 use Rattle.decoder.specs.declared.pen.Pen.{Pen}
 use Rattle.decoder.specs.declared.command.Asked.{Asked}
-use Rattle.decoder.specs.declared.command.Asked.TheVariants.{Draw, Close, Bad as Wrong}
-use Rattle.decoder.specs.declared.passes.Ran.{Ran}
-use Rattle.decoder.specs.declared.passes.Ran.TheVariants.{Over, Out}
-use Rattle.decoder.specs.declared.passes.Sized.TheVariants.{Vertices, Bad}
+use Rattle.decoder.specs.declared.command.Asked.TheVariants.{Draw, Close}
 use Rattle.decoder.specs.Vertices.{Cursor, Vertex, Trace, traced, faulty, vertex, onto, and_then, numbers}
 use Rattle.decoder.specs.ReadingWords.{trace_from, trace}
 use Rattle.decoder.specs.Stepping.{pen_at, cursor_of, outset, Stands, pairs_of, ahead}
@@ -29,6 +26,7 @@ use Rattle.decoder.proofs.Traces.{onto_onto, numbers_length, numbers_append}
 use Rattle.decoder.proofs.Commands.{nothing_read}
 use Rattle.decoder.proofs.Readings.{drawn_count, drawn_fault}
 use Rattle.decoder.proofs.Stepping.{ahead_command, command_bad, command_close, command_draw, draw_stands, draw_known, Walked, walked_start}
+use Rattle.std.specs.Prelude.{Option, Some, None, Result, Ok, Err}
 
 -- ---- all pairs of a command, by the pen behind them
 record Passed (first last : Pen) (ws : List ℕ) : Type 0 where
@@ -39,7 +37,7 @@ record Passed (first last : Pen) (ws : List ℕ) : Type 0 where
   none : last.left ≡ 0
 
 module _ (first last : Pen) (ws : List ℕ) (S : Stands first ws) where
-  passed_by : (t : Trace) → pairs_of first ws ≡ t → Over last ≡ ran_of first t → Passed first last ws
+  passed_by : (t : Trace) → pairs_of first ws ≡ t → Some last ≡ ran_of first t → Passed first last ws
   passed_by (traced vs c) e o =
       let l : last ≡ pen_at (first.at + 2 * first.left) 0 first.id c = cc in
       let k : 2 * first.left ≤ length (drop first.at ws) = rw length-drop (omega (arith, S.there)) in
@@ -53,7 +51,7 @@ module _ (first last : Pen) (ws : List ℕ) (S : Stands first ws) where
       })
   passed_by (faulty f) e o = let z : ◌≡◌ {A = ℕ} 0 1 = cc in absurd (omega arith)
 
-  passed : Over last ≡ ran_of first (pairs_of first ws) → Passed first last ws
+  passed : Some last ≡ ran_of first (pairs_of first ws) → Passed first last ws
   passed o = passed_by (pairs_of first ws) refl o
 
 -- ---- a pen at a command word, and the vertices before it
@@ -73,11 +71,11 @@ module _ (ws : List ℕ) (done : List Vertex) (pen : Pen) (W : Stood ws done pen
       whole ∙ ap (λ (l : List ℕ). onto done (trace_from pen.at (cursor_of pen) l)) (drop_of_length-le ws h)
       ∙ ap (onto done) (nothing_read pen.at (cursor_of pen)) ∙ ap (λ (l : List Vertex). traced l (cursor_of pen)) (append-nil done)
 
-  module _ (h : pen.at < length ws) (r : Asked) (e : r ≡ asked_of pen.at (get_or ws pen.at 0) (drop (pen.at + 1) ws)) where
-    stood_bad : (f : Fault) → r ≡ Wrong f → trace ws ≡ faulty f
+  module _ (h : pen.at < length ws) (r : Result Asked Fault) (e : r ≡ asked_of pen.at (get_or ws pen.at 0) (drop (pen.at + 1) ws)) where
+    stood_bad : (f : Fault) → r ≡ Err f → trace ws ≡ faulty f
     stood_bad f g = whole ∙ ap (onto done) (command_bad pen.at (cursor_of pen) ws h f (sym e ∙ g))
 
-    stood_close : r ≡ Close → Stood ws (done ++ (vertex 7 (cursor_of pen) ∷ [])) (pen_at (pen.at + 1) 0 7 (cursor_of pen))
+    stood_close : r ≡ Ok Close → Stood ws (done ++ (vertex 7 (cursor_of pen) ∷ [])) (pen_at (pen.at + 1) 0 7 (cursor_of pen))
     stood_close g =
         record {
           walked = record {
@@ -89,7 +87,7 @@ module _ (ws : List ℕ) (done : List Vertex) (pen : Pen) (W : Stood ws done pen
           none = refl;
         }
 
-    module _ (id pairs : ℕ) (g : r ≡ Draw id pairs) where
+    module _ (id pairs : ℕ) (g : r ≡ Ok (Draw id pairs)) where
       abbrev first : Pen
       first = pen_at (pen.at + 1) pairs id (cursor_of pen)
 
@@ -102,10 +100,10 @@ module _ (ws : List ℕ) (done : List Vertex) (pen : Pen) (W : Stood ws done pen
       onward : trace ws ≡ onto done (ahead first ws)
       onward = whole ∙ ap (onto done) (command_draw pen.at (cursor_of pen) ws h id pairs (sym e ∙ g))
 
-      stood_out : Out ≡ ran_of first (pairs_of first ws) → trace ws ≡ faulty (plain Step)
+      stood_out : None ≡ ran_of first (pairs_of first ws) → trace ws ≡ faulty (plain Step)
       stood_out o = by (pairs_of first ws) refl o
         where
-          by : (t : Trace) → pairs_of first ws ≡ t → Out ≡ ran_of first t → trace ws ≡ faulty (plain Step)
+          by : (t : Trace) → pairs_of first ws ≡ t → None ≡ ran_of first t → trace ws ≡ faulty (plain Step)
           by (traced vs c) k o = let z : ◌≡◌ {A = ℕ} 0 1 = cc in absurd (omega arith)
           by (faulty f) k o =
               let p : f ≡ plain Step = drawn_fault id (cursor_of pen) _ f k in
@@ -137,17 +135,17 @@ pub count_start : (ws : List ℕ) (pen : Pen) → pen ≡ outset → Counted ws 
 count_start ws pen e = rw e (record { done = []; count = refl; stood = stood_start ws })
 
 module _ (ws : List ℕ) (pen : Pen) (n : ℕ) (C : Counted ws pen n) where
-  pub count_end : length ws ≤ pen.at → Vertices n ≡ size_of (trace ws)
-  count_end h = rw (stood_end ws C.done pen C.stood h) (ap Vertices C.count)
+  pub count_end : length ws ≤ pen.at → Ok n ≡ size_of (trace ws)
+  count_end h = rw (stood_end ws C.done pen C.stood h) (ap Ok C.count)
 
   pub count_few : n ≤ pen.at
   count_few = omega (arith, C.count, C.stood.walked.few)
 
-  module _ (h : pen.at < length ws) (r : Asked) (e : r ≡ asked_of pen.at (get_or ws pen.at 0) (drop (pen.at + 1) ws)) where
-    pub count_bad : (f : Fault) → r ≡ Wrong f → Bad f ≡ size_of (trace ws)
+  module _ (h : pen.at < length ws) (r : Result Asked Fault) (e : r ≡ asked_of pen.at (get_or ws pen.at 0) (drop (pen.at + 1) ws)) where
+    pub count_bad : (f : Fault) → r ≡ Err f → Err f ≡ size_of (trace ws)
     count_bad f g = rw (stood_bad ws C.done pen C.stood h r e f g)
 
-    module _ (g : r ≡ Close) (next : Pen) (l : next ≡ pen_at (pen.at + 1) 0 7 (cursor_of pen)) where
+    module _ (g : r ≡ Ok Close) (next : Pen) (l : next ≡ pen_at (pen.at + 1) 0 7 (cursor_of pen)) where
       pub count_close : Counted ws next (n + 1)
       count_close =
           rw l
@@ -156,18 +154,18 @@ module _ (ws : List ℕ) (pen : Pen) (n : ℕ) (C : Counted ws pen n) where
       pub close_nearer : length ws - next.at < length ws - pen.at
       close_nearer = rw l (omega arith)
 
-    module _ (id pairs : ℕ) (g : r ≡ Draw id pairs) (begun : Pen) (l : begun ≡ pen_at (pen.at + 1) pairs id (cursor_of pen)) where
+    module _ (id pairs : ℕ) (g : r ≡ Ok (Draw id pairs)) (begun : Pen) (l : begun ≡ pen_at (pen.at + 1) pairs id (cursor_of pen)) where
       pub count_stands : Stands begun ws
       count_stands = rw l (first_stands ws C.done pen C.stood h r e id pairs g)
 
       pub count_small : n + pairs ≤ length ws
       count_small = omega (arith, count_few, (first_stands ws C.done pen C.stood h r e id pairs g).there)
 
-      module _ (q : Ran) (o : q ≡ ran_of begun (pairs_of begun ws)) where
-        pub count_out : q ≡ Out → Bad (plain Step) ≡ size_of (trace ws)
+      module _ (q : Option Pen) (o : q ≡ ran_of begun (pairs_of begun ws)) where
+        pub count_out : q ≡ None → Err (plain Step) ≡ size_of (trace ws)
         count_out k = rw (stood_out ws C.done pen C.stood h r e id pairs g (rw l at (sym k ∙ o)))
 
-        module _ (last : Pen) (k : q ≡ Over last) where
+        module _ (last : Pen) (k : q ≡ Some last) where
           run : Passed (pen_at (pen.at + 1) pairs id (cursor_of pen)) last ws
           run = passed _ last ws (first_stands ws C.done pen C.stood h r e id pairs g) (rw l at (sym k ∙ o))
 
@@ -221,13 +219,13 @@ module _ (ws : List ℕ) (out₀ out : List ℤ) (pen : Pen) (n : ℕ) (L : Laid
   pub laid_end : length ws ≤ pen.at → out ≡ filled (trace ws) 0 out₀
   laid_end h = rw (stood_end ws L.done pen L.stood h) L.memory
 
-  module _ (f : HasRoom (trace ws) 0 (length out₀)) (h : pen.at < length ws) (r : Asked)
+  module _ (f : HasRoom (trace ws) 0 (length out₀)) (h : pen.at < length ws) (r : Result Asked Fault)
       (e : r ≡ asked_of pen.at (get_or ws pen.at 0) (drop (pen.at + 1) ws)) where
     -- words that are read whole are not refused
-    pub laid_never : (k : Fault) → r ≡ Wrong k → ⊥
+    pub laid_never : (k : Fault) → r ≡ Err k → ⊥
     laid_never k g = rw (stood_bad ws L.done pen L.stood h r e k g) at f
 
-    module _ (g : r ≡ Close) (next : Pen) (l : next ≡ pen_at (pen.at + 1) 0 7 (cursor_of pen)) where
+    module _ (g : r ≡ Ok Close) (next : Pen) (l : next ≡ pen_at (pen.at + 1) 0 7 (cursor_of pen)) where
       closed : Stood ws (L.done ++ (vertex 7 (cursor_of pen) ∷ [])) (pen_at (pen.at + 1) 0 7 (cursor_of pen))
       closed = stood_close ws L.done pen L.stood h r e g
 
@@ -256,7 +254,7 @@ module _ (ws : List ℕ) (out₀ out : List ℤ) (pen : Pen) (n : ℕ) (L : Laid
             stood = closed;
           })
 
-    module _ (id pairs : ℕ) (g : r ≡ Draw id pairs) (begun : Pen) (l : begun ≡ pen_at (pen.at + 1) pairs id (cursor_of pen)) where
+    module _ (id pairs : ℕ) (g : r ≡ Ok (Draw id pairs)) (begun : Pen) (l : begun ≡ pen_at (pen.at + 1) pairs id (cursor_of pen)) where
       pub laid_id : begun.id < 8
       laid_id = rw l (first_known ws L.done pen L.stood h r e id pairs g)
 

@@ -6,27 +6,25 @@ use Rattle.decoder.specs.declared.pen.Head.{Head}
 use Rattle.decoder.specs.declared.pen.Head.TheVariants.{Draw as Drawing, Close as Closing, Miscounted, Unknown}
 use Rattle.decoder.specs.declared.pen.Pen.{Pen}
 use Rattle.decoder.specs.declared.command.Asked.{Asked}
-use Rattle.decoder.specs.declared.command.Asked.TheVariants.{Draw, Close, Bad as Wrong}
-use Rattle.decoder.specs.declared.passes.Ran.{Ran}
-use Rattle.decoder.specs.declared.passes.Ran.TheVariants.{Over, Out}
-use Rattle.decoder.specs.declared.passes.Sized.{Sized}
-use Rattle.decoder.specs.declared.passes.Sized.TheVariants.{Vertices, Bad}
+use Rattle.decoder.specs.declared.command.Asked.TheVariants.{Draw, Close}
 use Rattle.decoder.specs.Vertices.{Cursor, Trace, traced, faulty, numbers}
 use Rattle.decoder.specs.ReadingWords.{is_close, miscounted, unless_faulty, moved, within}
 use Rattle.decoder.specs.Stepping.{pen_at, cursor_of, Stands}
+use Rattle.std.specs.Prelude.{Option, Some, None, Result, Ok, Err}
+use Rattle.refusal.specs.declared.Fault.{Fault}
 
 -- ---- one word
 abbrev pub head_of : ℕ → Head
 head_of word = cond (is_id (word % 8)) (cond (miscounted word) Miscounted (cond (is_close word) Closing (Drawing (word % 8) (word / 8)))) Unknown
 
 -- ---- a command word with the words behind it
-abbrev pub asked_of : ℕ → ℕ → List ℕ → Asked
-asked_of at word ws = unless_faulty at word ws Wrong (cond (is_close word) Close (Draw (word % 8) (word / 8)))
+abbrev pub asked_of : ℕ → ℕ → List ℕ → Result Asked Fault
+asked_of at word ws = unless_faulty at word ws Err (cond (is_close word) (Ok Close) (Ok (Draw (word % 8) (word / 8))))
 
 -- ---- the pairs of one command, by what they give: the pen behind them
-abbrev pub ran_of : Pen → Trace → Ran
-ran_of pen (traced vs c) = Over (pen_at (pen.at + 2 * pen.left) 0 pen.id c)
-ran_of pen (faulty f) = Out
+abbrev pub ran_of : Pen → Trace → Option Pen
+ran_of pen (traced vs c) = Some (pen_at (pen.at + 2 * pen.left) 0 pen.id c)
+ran_of pen (faulty f) = None
 
 -- where the next pair leads, and the pen behind it
 abbrev pub led_to : Pen → List ℕ → Cursor
@@ -42,9 +40,9 @@ pub record Leads (pen : Pen) (ws : List ℕ) : Type 0 where
   pub inside : within (led_to pen ws) ≡ true
 
 -- ---- the two passes
-abbrev pub size_of : Trace → Sized
-size_of (traced vs c) = Vertices (length vs)
-size_of (faulty f) = Bad f
+abbrev pub size_of : Trace → Result ℕ Fault
+size_of (traced vs c) = Ok (length vs)
+size_of (faulty f) = Err f
 
 -- read whole, with room for three numbers a vertex from a place on
 abbrev pub HasRoom : Trace → ℕ → ℕ → Type 0
@@ -57,5 +55,5 @@ filled (faulty f) at out = out
 
 -- the pairs of a command, laid from a place on: the pen behind them, and the list
 pub record Filled (pen : Pen) (t : Trace) (at : ℕ) (out : List ℤ) (r : Pen) (out' : List ℤ) : Type 0 where
-  pub pen_after : Over r ≡ ran_of pen t
+  pub pen_after : Some r ≡ ran_of pen t
   pub memory : out' ≡ filled t at out

@@ -10,9 +10,8 @@ use Rattle.refusal.specs.Said.{Said, accepted, refused, refused_at, placed, plai
 use Rattle.words.specs.Commands.{is_id}
 use Rattle.words.specs.Geometries.{max_words}
 use Rattle.words.specs.Params.{unparam}
-use Rattle.decoder.specs.declared.Reading.{Reading}
-use Rattle.decoder.specs.declared.Reading.TheVariants.{Read, Refused}
 use Rattle.decoder.specs.Vertices.{Cursor, Trace, traced, faulty, origin, vertex, onto, and_then, numbers}
+use Rattle.std.specs.Prelude.{Result, Ok, Err}
 
 -- ---- command integers: the id in the low three bits, the count above them
 abbrev pub is_close : ℕ → Bool
@@ -85,6 +84,6 @@ abbrev pub reading : List ℕ → List ℤ → Written (Said ℕ) (List ℤ)
 reading ws out = laid_out (trace ws) (length ws) out
 
 -- an accepted reading returns how many vertices there are
-abbrev pub said_reading : Reading → Said ℕ
-said_reading (Read vertices) = accepted vertices
-said_reading (Refused f) = refused_at f 0
+abbrev pub said_reading : Result ℕ Fault → Said ℕ
+said_reading (Ok vertices) = accepted vertices
+said_reading (Err f) = refused_at f 0

@@ -13,7 +13,6 @@ pub(crate) enum Asked {
     // An id and its pairs, which are there.
     Draw(u32, usize),
     Close,
-    Bad(Fault),
 }
 
 // The refusal of a command with so many words behind it, which are too few.
@@ -27,29 +26,29 @@ fn cut_of(follow: usize) -> Refusal
 }
 
 // COMMAND and COUNT have no place; a command that lacks parameters is told by its word's index.
-pub(crate) fn ask(words: &[u32], at: usize) -> Asked
+pub(crate) fn ask(words: &[u32], at: usize) -> Result<Asked, Fault>
     requires { at < length words.now }
     ensures { result ≡ asked_of at (get_or words.now at 0) (drop (at + 1) words.now) }
 {
     match pen::head_of(words[at]) {
-        Head::Unknown => Asked::Bad(Fault {
+        Head::Unknown => Err(Fault {
             refusal: Refusal::Command,
             place: 0,
         }),
-        Head::Miscounted => Asked::Bad(Fault {
+        Head::Miscounted => Err(Fault {
             refusal: Refusal::Count,
             place: 0,
         }),
-        Head::Close => Asked::Close,
+        Head::Close => Ok(Asked::Close),
         Head::Draw(id, count) => {
             let pairs = wide(count);
             let behind = at + 1;
             let follow = words.len() - behind;
             if follow < 2 * pairs {
                 let refusal = cut_of(follow);
-                return Asked::Bad(Fault { refusal, place: at });
+                return Err(Fault { refusal, place: at });
             }
-            Asked::Draw(id, pairs)
+            Ok(Asked::Draw(id, pairs))
         }
     }
 }

@@ -7,7 +7,6 @@ ghost use Rattle.decoder.specs.ReadingWords.{reading, said_reading};
 ghost use Rattle.decoder.specs.Stepping.{cursor_of, Stands, pair_of, command_of, next_of};
 
 use crate::command::Asked;
-use crate::passes::Sized;
 use crate::pen::Pen;
 use refusal::{Fault, Refusal};
 use words::geometry::Geometry;
@@ -16,48 +15,29 @@ mod command; // a command word with the words behind it
 mod passes; // through all the words, to size and to write
 pub mod pen; // what one word says, and where a reading stands
 
-#[derive(Clone, Copy)]
-pub enum Reading {
-    // How many vertices there are.
-    Read(usize),
-    Refused(Fault),
-}
-
-#[derive(Clone, Copy)]
-pub enum Found {
-    // A vertex, where the pen is now.
-    Vertex(Pen),
-    End,
-    Refused(Fault),
-}
-
-// Three numbers a vertex, id, x and y, at the front of `out`. The first pass sizes, so that a refusal writes nothing; ROOM is asked after all faults.
-pub fn decode(words: &[u32], out: &mut [i32]) -> Reading
+// Three numbers a vertex, id, x and y, at the front of `out`, and how many vertices there are. The first pass sizes, so that a refusal writes nothing; ROOM is asked after all faults.
+pub fn decode(words: &[u32], out: &mut [i32]) -> Result<usize, Fault>
     ensures { Gives (reading words.now out.old) (said_reading result) out.new }
 {
-    match passes::size(words) {
-        Sized::Bad(f) => Reading::Refused(f),
-        Sized::Vertices(n) => {
-            if Geometry::max_words() < words.len() {
-                return Reading::Refused(Fault {
-                    refusal: Refusal::Room,
-                    place: 0,
-                });
-            }
-            if out.len() < 3 * n {
-                return Reading::Refused(Fault {
-                    refusal: Refusal::Room,
-                    place: 0,
-                });
-            }
-            passes::write(words, out);
-            Reading::Read(n)
-        }
+    let n = passes::size(words)?;
+    if Geometry::max_words() < words.len() {
+        return Err(Fault {
+            refusal: Refusal::Room,
+            place: 0,
+        });
     }
+    if out.len() < 3 * n {
+        return Err(Fault {
+            refusal: Refusal::Room,
+            place: 0,
+        });
+    }
+    passes::write(words, out);
+    Ok(n)
 }
 
 // A pair of parameters, which the command's word was seen to have.
-fn draw(words: &[u32], pen: Pen) -> Found
+fn draw(words: &[u32], pen: Pen) -> Result<Option<Pen>, Fault>
     requires { ((pen.left ≡ 0) → ⊥) × Stands pen words.now }
     ensures { result ≡ pair_of pen.at pen.left pen.id (cursor_of pen) (drop pen.at words.now) }
 {
@@ -65,40 +45,39 @@ fn draw(words: &[u32], pen: Pen) -> Found
     let x = pen::reach(pen.x, words[at]);
     let y = pen::reach(pen.y, words[at + 1]);
     if !(pen::is_inside(x) & pen::is_inside(y)) {
-        return Found::Refused(Fault {
+        return Err(Fault {
             refusal: Refusal::Step,
             place: 0,
         });
     }
-    Found::Vertex(pen.drawn(x as i32, y as i32))
+    Ok(Some(pen.drawn(x as i32, y as i32)))
 }
 
 // A command word and, of a MoveTo or a LineTo, its first pair.
-fn begin(words: &[u32], pen: Pen) -> Found
+fn begin(words: &[u32], pen: Pen) -> Result<Option<Pen>, Fault>
     requires { pen.at < length words.now }
     ensures { result ≡ command_of pen.at (cursor_of pen) (drop pen.at words.now) }
 {
-    match command::ask(words, pen.at) {
-        Asked::Bad(f) => Found::Refused(f),
-        Asked::Close => Found::Vertex(pen.closed()),
+    match command::ask(words, pen.at)? {
+        Asked::Close => Ok(Some(pen.closed())),
         Asked::Draw(id, pairs) => draw(words, pen.begun(id, pairs)),
     }
 }
 
-// The next vertex, the end, or a refusal. A pen that does not stand in the words is at the end.
-pub fn next(words: &[u32], pen: Pen) -> Found
+// The pen at the next vertex, `None` at the end, or a refusal. A pen that does not stand in the words is at the end.
+pub fn next(words: &[u32], pen: Pen) -> Result<Option<Pen>, Fault>
     ensures { result ≡ next_of pen words.now }
 {
     let at = pen.at;
     let left = pen.left;
     if words.len() <= at {
-        return Found::End;
+        return Ok(None);
     }
     if left == 0 {
         return begin(words, pen);
     }
     if (words.len() - at) / 2 < left {
-        return Found::End;
+        return Ok(None);
     }
     draw(words, pen)
 }

@@ -12,22 +12,8 @@ use crate::{command, pen};
 use refusal::{Fault, Refusal};
 use words::param::ParamInt;
 
-#[derive(Clone, Copy)]
-pub(crate) enum Sized {
-    Vertices(usize),
-    Bad(Fault),
-}
-
-#[derive(Clone, Copy)]
-pub(crate) enum Ran {
-    // Behind the command's last pair.
-    Over(Pen),
-    // A position left i32.
-    Out,
-}
-
-// All pairs of a command.
-fn over(words: &[u32], start: Pen) -> Ran
+// The pen behind all pairs of a command; `None` where a position left i32. A `while`, as in `fill`: the pen counts its own pairs, and a `for` would count them twice.
+fn over(words: &[u32], start: Pen) -> Option<Pen>
     requires { Stands start words.now }
     ensures { result ≡ ran_of start (pairs_of start words.now) }
 {
@@ -37,29 +23,29 @@ fn over(words: &[u32], start: Pen) -> Ran
         let x = pen::reach(pen.x, words[at]);
         let y = pen::reach(pen.y, words[at + 1]);
         if !(pen::is_inside(x) & pen::is_inside(y)) {
-            return Ran::Out;
+            return None;
         }
         pen = pen.drawn(x as i32, y as i32);
     }
-    Ran::Over(pen)
+    Some(pen)
 }
 
-// The first fault, or how many vertices there are.
-pub(crate) fn size(words: &[u32]) -> Sized
+// How many vertices there are, or the first fault. A `while`, as in `write`: each turn reads a command, of its own length.
+pub(crate) fn size(words: &[u32]) -> Result<usize, Fault>
     ensures { result ≡ size_of (trace words.now) }
 {
     let mut pen = Pen::new();
     let mut n = 0;
     while pen.at < words.len() {
-        match command::ask(words, pen.at) {
+        match command::ask(words, pen.at)? {
             Asked::Close => {
                 pen = pen.closed();
                 n += 1;
             }
             Asked::Draw(id, pairs) => {
                 let first = pen.begun(id, pairs);
-                let Ran::Over(last) = over(words, first) else {
-                    return Sized::Bad(Fault {
+                let Some(last) = over(words, first) else {
+                    return Err(Fault {
                         refusal: Refusal::Step,
                         place: 0,
                     });
@@ -67,10 +53,9 @@ pub(crate) fn size(words: &[u32]) -> Sized
                 pen = last;
                 n += pairs;
             }
-            Asked::Bad(f) => return Sized::Bad(f),
         }
     }
-    Sized::Vertices(n)
+    Ok(n)
 }
 
 // One vertex at its place.
@@ -118,17 +103,17 @@ pub(crate) fn write(words: &[u32], out: &mut [i32])
     let mut n = 0;
     while pen.at < words.len() {
         match command::ask(words, pen.at) {
-            Asked::Close => {
+            Ok(Asked::Close) => {
                 pen = pen.closed();
                 put(pen.id, pen.x, pen.y, n, out);
                 n += 3;
             }
-            Asked::Draw(id, pairs) => {
+            Ok(Asked::Draw(id, pairs)) => {
                 let first = pen.begun(id, pairs);
                 pen = fill(words, first, n, out);
                 n += 3 * pairs;
             }
-            Asked::Bad(_) => return,
+            Err(_) => return,
         }
     }
 }

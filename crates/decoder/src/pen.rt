@@ -8,7 +8,7 @@ ghost use Rattle.decoder.specs.ReadingWords.{in_i32};
 ghost use Rattle.decoder.specs.Stepping.{pen_at, cursor_of, outset};
 ghost use Rattle.decoder.specs.Passing.{head_of};
 
-use words::command::{Command, CommandInt, CommandRead};
+use words::command::{Command, CommandInt};
 use words::param::ParamInt;
 
 // The next word, how many pairs of the present command are still to come, its id, and the cursor.
@@ -57,8 +57,7 @@ impl Pen {
             at: self.at + 1,
             left: pairs,
             id,
-            x: self.x,
-            y: self.y,
+            ..self
         }
     }
 
@@ -78,9 +77,9 @@ impl Pen {
         Pen {
             at: self.at + 2,
             left: self.left - 1,
-            id: self.id,
             x,
             y,
+            ..self
         }
     }
 }
@@ -108,16 +107,13 @@ fn drawing(id: u32, count: u32) -> Head
 pub(crate) fn head_of(word: u32) -> Head
     ensures { result ≡ head_of word }
 {
-    match CommandInt::decode(word) {
-        CommandRead::Refused(_) => Head::Unknown,
-        CommandRead::Read(c) => {
-            let id = c.id;
-            match id {
-                Command::ClosePath => closing(c.count),
-                Command::MoveTo => drawing(1, c.count),
-                Command::LineTo => drawing(2, c.count),
-            }
-        }
+    let Ok(c) = CommandInt::decode(word) else {
+        return Head::Unknown;
+    };
+    match c.id {
+        Command::ClosePath => closing(c.count),
+        Command::MoveTo => drawing(1, c.count),
+        Command::LineTo => drawing(2, c.count),
     }
 }
 

@@ -21,8 +21,8 @@ use Rattle.clip.specs.Numbers.{edge_number}
 use Rattle.encoder.specs.declared.GeomEncoder.{GeomEncoder}
 use Rattle.encoder.specs.declared.Edges.{Edges}
 use Rattle.encoder.specs.States.{valid}
-use Rattle.encoder.specs.declared.Drawn.{Drawn}
-use Rattle.encoder.specs.declared.Drawn.TheVariants.{Done, Refused as NotDrawn}
+use Rattle.refusal.specs.declared.Refused.{Refused}
+use Rattle.std.specs.Prelude.{Result, Ok, Err}
 use Rattle.encoder.specs.Answers.{Counted, done, turned, said_drawn, edges_of, passed}
 use Rattle.encoder.specs.Adding.{added, edges}
 use Rattle.encoder.specs.Completing.{completed}
@@ -74,12 +74,12 @@ module _ (s : GeomEncoder) (p : Pt) (i : ℕ) (out l : List ℕ) where
         rw (le-leb (2 * i + 2) (length l) h, n) (record { answer = g.answer; memory = λ j. lists (g.memory j) l })
 
     -- by the answer of the encoder's call
-    module _ (r : Drawn) (g : Gives (added s p out) (said_drawn r) o) (f : edges_of r ≡ passed (added s p out).answer (edges s p)) where
-      pub drawn_on : (t : GeomEncoder) (e : Edges) → r ≡ Done t e → (m : List ℕ) → m ≡ lay (2 * i) (entries e) l → Gives (edged s p i (lists out l)) (done t) (lists o m)
+    module _ (r : Result (GeomEncoder × Edges) (Refused GeomEncoder)) (g : Gives (added s p out) (said_drawn r) o) (f : edges_of r ≡ passed (added s p out).answer (edges s p)) where
+      pub drawn_on : (t : GeomEncoder) (e : Edges) → r ≡ Ok (t, e) → (m : List ℕ) → m ≡ lay (2 * i) (entries e) l → Gives (edged s p i (lists out l)) (done t) (lists o m)
       drawn_on t e k m j = point_on t e (rw k at g) (rw k at f) m j
 
-      pub drawn_off : (z : Refusal) (t : GeomEncoder) → r ≡ NotDrawn z t → Gives (edged s p i (lists out l)) (turned z t) (lists o l)
-      drawn_off z t k = point_off z t (rw k at g)
+      pub drawn_off : (x : Refused GeomEncoder) → r ≡ Err x → Gives (edged s p i (lists out l)) (turned x.refusal x.kept) (lists o l)
+      drawn_off x k = point_off x.refusal x.kept (rw k at g)
 
 -- completing leaves the edges
 pub end_edges : (s : GeomEncoder) (out l o : List ℕ) (a : Said Counted) → Gives (completed s out) a o → Gives (ended s (lists out l)) a (lists o l)

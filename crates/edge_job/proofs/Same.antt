@@ -1,5 +1,5 @@
 -- With two entries for each raw point, the job with edges is the whole job: the same answer and the same words (`same_job`).
-use mathlib.Core.Path.{◌≡◌, refl, sym, ◌∙◌, ap}
+use mathlib.Core.Path.{◌≡◌, refl, ap}
 use mathlib.Core.Bool.{Bool, true, false, cond}
 use mathlib.Core.List.{List, [], ◌∷◌, ◌++◌}
 use Prim.Native.Nat.{ℕ, suc, ◌+◌, ◌-◌, ◌*◌, ◌/◌, ◌≤◌, min}
@@ -7,7 +7,7 @@ use native.Mathlib.Omega.{arith}
 use borrow.Author.Tests.{le-leb}
 use lib.Dec.{eqb}
 use lib.IntN.{ℤ}
-use lib.ListN.{length, take, drop, length-take}
+use lib.ListN.{length, drop, length-take}
 use Rattle.promise.specs.Answers.{Written, kept}
 use Rattle.promise.specs.Laid.{lay}
 use Rattle.promise.proofs.Laying.{length_lay}
@@ -19,14 +19,13 @@ use Rattle.clip.specs.Domain.{is_good}
 use Rattle.words.specs.Geometries.{is_kind}
 use Rattle.encoder.specs.declared.GeomEncoder.{GeomEncoder}
 use Rattle.encoder.specs.States.{fresh}
-use Rattle.encoder.specs.Answers.{Counted}
 use Rattle.encoder.specs.Adding.{added, edges}
 use Rattle.encoder.specs.Completing.{completed}
 use Rattle.encoder.specs.Calls.{Call, add, complete, part_calls}
-use Rattle.encoder.specs.Jobs.{points_of, ends_at, is_job, part, job_calls, Outcome, off, stopped, outcome, encoded_job, go as plainGo, run as plainRun}
+use Rattle.encoder.specs.Jobs.{points_of, ends_at, is_job, part, job_calls, outcome, encoded_job, go as plainGo, run as plainRun}
 use Rattle.encoder.proofs.Turns.{ends_more, ends_le}
 use Rattle.encoder.proofs.Whole.{good_ends}
-use Rattle.edge_job.specs.EdgeJobs.{Lists, lists, entries, noted, with_entries, edged, ended, go, run, edge_job}
+use Rattle.edge_job.specs.EdgeJobs.{Lists, entries, noted, with_entries, edged, ended, go, run, edge_job}
 
 -- the same answer, and the same words
 pub record Same {A : Type 0} (w : Written A Lists) (v : Written A (List ℕ)) : Type 0 where

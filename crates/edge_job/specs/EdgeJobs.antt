@@ -2,12 +2,13 @@
 -- raw point: what became of the first and of the second end of the raw segment that ends in the point, 0 0 where no segment is clipped.
 -- A call for a point whose entries the list lacks is refused as ROOM, its last check. Words, answers and refusals are else those of the whole job
 -- (`same_job` of proofs/Same).
-use Rattle.std.specs.Prelude.{ℕ, ◌+◌, ◌*◌, ◌/◌, Bool, cond, List, [], ◌∷◌, leb, eqb, ℤ, length}
+use Rattle.std.specs.Prelude.{ℕ, ◌+◌, ◌*◌, ◌/◌, Bool, cond, List, [], ◌∷◌, leb, eqb, ℤ, length, Result, Ok, Err}
 use Rattle.promise.specs.Answers.{Written, Gives, kept}
 use Rattle.promise.specs.Lent.{Lent}
 use Rattle.promise.specs.Laid.{lay}
 use Rattle.refusal.specs.declared.Refusal.{Refusal}
 use Rattle.refusal.specs.declared.Refusal.TheVariants.{State, Coord, Room}
+use Rattle.refusal.specs.declared.Refused.{Refused}
 use Rattle.refusal.specs.Said.{Said, refused}
 use Rattle.clip.specs.declared.Pt.{Pt}
 use Rattle.clip.specs.declared.BBox.{BBox}
@@ -21,8 +22,6 @@ use Rattle.encoder.specs.Adding.{added, edges}
 use Rattle.encoder.specs.Completing.{completed}
 use Rattle.encoder.specs.Calls.{Call, add, complete}
 use Rattle.encoder.specs.Jobs.{points_of, job_calls, Outcome, on, off, taken, stopped, outcome, checked}
-use Rattle.edge_job.specs.declared.Course.{Course}
-use Rattle.edge_job.specs.declared.Course.TheVariants.{On, Off}
 
 -- the two lists that a job writes
 pub record Lists : Type 0 where
@@ -80,15 +79,15 @@ unfoldable pub edge_job : ℕ → BBox → List ℤ → List ℕ → Lists → W
 edge_job kind bbox points ends m = checked (λ a. a) kind bbox points ends m (run (job_calls (points_of points) 0 ends) (fresh kind bbox) m)
 
 -- what the code's course stands for, once n points are accepted
-abbrev pub outcome_of : ℕ → Course → Outcome
-outcome_of n (On s) = on n s
-outcome_of n (Off r k) = off (refused r k)
+abbrev pub outcome_of : ℕ → Result GeomEncoder (Refused ℕ) → Outcome
+outcome_of n (Ok s) = on n s
+outcome_of n (Err e) = off (refused e.refusal e.kept)
 
 -- all calls of a job, from a state on; and what the code's course stands for behind them
 abbrev pub go_all : List ℤ → List ℕ → GeomEncoder → Lists → Written Outcome Lists
 go_all points ends s m = go (job_calls (points_of points) 0 ends) 0 s m
 
-abbrev pub end_of : List ℤ → Course → Outcome
+abbrev pub end_of : List ℤ → Result GeomEncoder (Refused ℕ) → Outcome
 end_of points r = outcome_of (length points / 2) r
 
 -- the answer, and both lists after the call, are those of w

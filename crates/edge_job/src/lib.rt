@@ -12,16 +12,9 @@ ghost use Rattle.encoder.specs.Jobs.{points_of, ends_at, part, said_encoded};
 ghost use Rattle.edge_job.specs.EdgeJobs.{entries, unroomed, edged, go, go_all, edge_job, outcome_of, end_of, Writes};
 
 use clip::{BBox, Pt};
-use encoder::whole_job::Encoded;
-use encoder::{Drawn, Edges, GeomEncoder, Started};
-use refusal::Refusal;
-
-// The calls go on, or one was refused after so many accepted points.
-#[derive(Clone, Copy)]
-enum Course {
-    On(GeomEncoder),
-    Off(Refusal, usize),
-}
+use encoder::whole_job::{Course, Encoded};
+use encoder::{Drawn, Edges, GeomEncoder};
+use refusal::{Refusal, Refused};
 
 // Why a point is refused for which the list of edges has no entries: STATE, COORD, else ROOM. The list of words has that length.
 fn refuse(s: GeomEncoder, p: Pt, length: usize) -> Refusal
@@ -41,12 +34,8 @@ fn note(e: Edges, i: usize, edges: &mut [u32])
     requires { 2 * i + 2 ≤ length edges.old }
     ensures { edges.new ≡ lay (2 * i) (entries e) edges.old }
 {
-    let first = e.first;
-    let second = e.second;
-    let number0 = first.number();
-    let number1 = second.number();
-    edges[2 * i] = number0;
-    edges[2 * i + 1] = number1;
+    edges[2 * i] = e.first.number();
+    edges[2 * i + 1] = e.second.number();
 }
 
 // Adds point i to the words, and its edges to their list: STATE, COORD, ROOM.
@@ -61,15 +50,14 @@ fn add_point(
     ensures { Writes (edged s (point_at x y) i) (said_drawn result) (mutable words) (mutable edges) }
 {
     if edges.len() / 2 <= i {
-        return Drawn::Refused(refuse(s, Pt { x: x, y: y }, words.len()), s);
+        return Err(Refused {
+            refusal: refuse(s, Pt { x, y }, words.len()),
+            kept: s,
+        });
     }
-    match s.add_point(x, y, words) {
-        Drawn::Done(t, e) => {
-            note(e, i, edges);
-            Drawn::Done(t, e)
-        }
-        Drawn::Refused(r, t) => Drawn::Refused(r, t),
-    }
+    let (t, e) = s.add_point(x, y, words)?;
+    note(e, i, edges);
+    Ok((t, e))
 }
 
 // Adds the points of one part and completes it.
@@ -86,19 +74,23 @@ fn add_part(
     ensures { Writes (go (part_calls (part (points_of points.now) from to)) from s) (outcome_of to result) (mutable words) (mutable edges) }
 {
     let mut q = s;
-    let mut i = from;
-    while i < to {
+    for i in from..to {
         let x = points[2 * i];
         let y = points[2 * i + 1];
         match add_point(q, x, y, i, words, edges) {
-            Drawn::Done(t, _) => q = t,
-            Drawn::Refused(r, _) => return Course::Off(r, i),
+            Ok((t, _)) => q = t,
+            Err(e) => return Err(Refused {
+                refusal: e.refusal,
+                kept: i,
+            }),
         }
-        i += 1;
     }
     match q.complete_geom(words) {
-        Drawn::Done(t, _) => Course::On(t),
-        Drawn::Refused(r, _) => Course::Off(r, to),
+        Ok((t, _)) => Ok(t),
+        Err(e) => Err(Refused {
+            refusal: e.refusal,
+            kept: to,
+        }),
     }
 }
 
@@ -115,17 +107,12 @@ fn add_parts(
 {
     let mut q = s;
     let mut from = 0;
-    let mut j = 0;
-    while j < ends.len() {
-        let end = ends[j] as usize;
-        match add_part(q, points, from, end, words, edges) {
-            Course::On(t) => q = t,
-            Course::Off(r, n) => return Course::Off(r, n),
-        }
+    for end in ends {
+        let end = *end as usize;
+        q = add_part(q, points, from, end, words, edges)?;
         from = end;
-        j += 1;
     }
-    Course::On(q)
+    Ok(q)
 }
 
 // JOB, KIND, BOX, then the calls; at the first refused one its number and the accepted points.
@@ -140,13 +127,13 @@ pub fn encode(
     ensures { Writes (edge_job kind bbox points.now ends.now) (said_encoded result) (mutable words) (mutable edges) }
 {
     if !encoder::whole_job::is_job(points, ends) {
-        return Encoded::Refused(Refusal::Job, 0);
+        return Err(Refused {
+            refusal: Refusal::Job,
+            kept: 0,
+        });
     }
     match GeomEncoder::new(kind, bbox) {
-        Started::Refused(r) => Encoded::Refused(r, 0),
-        Started::Fresh(s) => match add_parts(s, points, ends, words, edges) {
-            Course::On(t) => Encoded::Words(t.used),
-            Course::Off(r, n) => Encoded::Refused(r, n),
-        },
+        Err(refusal) => Err(Refused { refusal, kept: 0 }),
+        Ok(s) => Ok(add_parts(s, points, ends, words, edges)?.used),
     }
 }

@@ -6,8 +6,6 @@ ghost use Rattle.promise.specs.Lent.{mutable};
 ghost use Rattle.printed.specs.Lending.{Tells};
 ghost use Rattle.edges.specs.Program.{printed};
 
-use encoder::whole_job::Encoded;
-use number_file::Numbers;
 use printed::Text;
 use std::io;
 use std::io::Write;
@@ -27,14 +25,10 @@ fn answer(
     ensures { Tells (printed file.now numbers.old words.old edges.old) result (mutable text) }
 {
     match number_file::read_numbers(file, numbers) {
-        Numbers::Refused(r) => printed::show_refused(refusal::number(r), 0, text),
-        Numbers::Read(n) => match job_file::encode_file_edges(&numbers[..n], words, edges) {
-            Encoded::Refused(r, accepted) => printed::show_refused(
-                refusal::number(r),
-                accepted,
-                text,
-            ),
-            Encoded::Words(_) => {
+        Err(r) => printed::show_refused(refusal::number(r), 0, text),
+        Ok(n) => match job_file::encode_file_edges(&numbers[..n], words, edges) {
+            Err(e) => printed::show_refused(refusal::number(e.refusal), e.kept, text),
+            Ok(_) => {
                 let points = job_file::point_count(&numbers[..n]);
                 printed::show_edges(&edges[..2 * points], text)
             }

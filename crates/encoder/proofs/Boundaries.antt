@@ -2,7 +2,7 @@
 -- For callers:
 --     outside_is          a point is outside where it does not lie in the closed box
 --     inside_same stays   a segment inside the box is not cut, and then no end has moved
-use Prim.Native.Nat.{ℕ, ◌+◌, ◌≤◌}
+use Prim.Native.Nat.{ℕ, ◌≤◌}
 use mathlib.Core.Path.{◌≡◌, refl, sym, ap, ◌∙◌}
 use mathlib.Core.Bool.{Bool, true, false, cond, not, ◌&&◌, ◌||◌}
 use mathlib.Core.List.{[], ◌∷◌}
@@ -18,8 +18,8 @@ use Rattle.clip.specs.declared.Pt.{Pt}
 use Rattle.clip.specs.declared.Seg.{Seg}
 use Rattle.clip.specs.declared.BBox.{BBox}
 use Rattle.clip.specs.declared.ClippedSeg.{ClippedSeg}
-use Rattle.clip.specs.declared.Clipped.{Clipped}
-use Rattle.clip.specs.declared.Clipped.TheVariants.{Done, Refused}
+use Rattle.std.specs.Prelude.{Option, Result, Ok, Err}
+use Rattle.std.specs.Bool.{then_some}
 use Rattle.clip.specs.Domain.{is_good, is_inside}
 use Rattle.clip.specs.Cutting.{given, clip}
 use Rattle.clip.specs.Answer.{are_coords, said_clipped, clipped}
@@ -29,19 +29,14 @@ use Rattle.encoder.specs.Points.{same_pt}
 use Rattle.encoder.specs.Boundary.{moved, moved_ends, moved_by, ends_in, outside}
 
 -- ---- the two answers of the clip, which is never refused
-module _ (s : Seg) (b : BBox) (r : Clipped) (h : said_clipped r ≡ clipped s b) where
-  pub clip_done : (c : ClippedSeg) → r ≡ Done c → c ≡ clip b s
+module _ (s : Seg) (b : BBox) (r : Result ClippedSeg Refusal) (h : said_clipped r ≡ clipped s b) where
+  pub clip_done : (c : ClippedSeg) → r ≡ Ok c → c ≡ clip b s
   clip_done c f = answered s b r h c f
 
-  pub clip_refused : is_good b ≡ true → are_coords s ≡ true → (k : Refusal) → r ≡ Refused k → (c : ClippedSeg) → c ≡ clip b s
+  pub clip_refused : is_good b ≡ true → are_coords s ≡ true → (k : Refusal) → r ≡ Err k → (c : ClippedSeg) → c ≡ clip b s
   clip_refused g e k f c = absurd (never_refused s b r h k f g e)
 
 -- ---- the ends of the cut segment
--- by the points, as the code's two tests tell
-pub by_points : (raw p : Pt) (cut : Seg) (t u : Bool) → t ≡ same_pt raw cut.p0 → u ≡ same_pt p cut.p1 →
-    record { moved0 = not t; moved1 = not u; end0 = cut.p0; end1 = cut.p1 } ≡ moved_by raw p cut
-by_points raw p cut t u e f = rw (e, f)
-
 same_self : (p : Pt) → same_pt p p ≡ true
 same_self p = rw (eq_z_refl p.x, eq_z_refl p.y)
 
@@ -80,8 +75,8 @@ moved_is b s g =
     rw (e, f) refl
 
 -- what the code's two tests tell
-pub ends_is : (c : ClippedSeg) (t u : Bool) → t ≡ is_moved c.first → u ≡ is_moved c.second → record { moved0 = t; moved1 = u; end0 = c.seg.p0; end1 = c.seg.p1 } ≡ ends_in c
-ends_is c t u e f = rw (e, f) refl
+pub ends_is : (c : ClippedSeg) (t u : Bool) (x y : Option Pt) → t ≡ is_moved c.first → u ≡ is_moved c.second → x ≡ then_some t c.seg.p0 → y ≡ then_some u c.seg.p1 → record { end0 = x; end1 = y } ≡ ends_in c
+ends_is c t u x y e f g h = rw (g, h, e, f) refl
 
 -- ---- outside or inside
 each_not : (l r u o : Bool) → (l || r || u || o) ≡ not (not l && not r && (not u && not o))

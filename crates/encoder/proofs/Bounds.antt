@@ -15,13 +15,16 @@ use Rattle.clip.specs.declared.ClippedSeg.{ClippedSeg}
 use Rattle.clip.specs.Cutting.{given, clip}
 use Rattle.encoder.specs.declared.boundary.Ends.{Ends}
 use Rattle.encoder.specs.declared.draft.Draft.{Draft}
-use Rattle.encoder.specs.Points.{in_limit, same_pt}
+use Rattle.std.specs.Prelude.{Option, Some, None, is_some, unwrap_or}
+use lib.ListN.{length}
+use Rattle.promise.proofs.Joined.{both}
+use Rattle.encoder.specs.Points.{in_limit, same_pt, clamped}
 use Rattle.encoder.specs.Boundary.{moved, maybe, list_of, moved_by, ends_in, named_by, outside, Brought, BroughtBy}
 use Rattle.encoder.specs.Answers.{none}
 use Rattle.encoder.specs.Adding.{cut_from, boundary, edges_from, edges}
 use Rattle.encoder.specs.Drafts.{state_in}
 use Rattle.encoder.proofs.Boundaries.{moved_is, inside_same, stays}
-use Rattle.encoder.proofs.Tests.{fixed0, fixed1, neither}
+use Rattle.encoder.proofs.Tests.{fixed0, fixed1}
 use Rattle.clip.specs.declared.Edge.{Edge}
 use Rattle.clip.specs.declared.Edge.TheVariants.{Stayed, XMin, XMax, YMin, YMax}
 use Rattle.clip.specs.Numbers.{is_moved}
@@ -33,9 +36,9 @@ told true j u e = absurd (let z : ◌≡◌ {A = ℕ} 0 1 = cc in omega arith)
 told false false u e = absurd (let z : ◌≡◌ {A = ℕ} 0 1 = cc in omega arith)
 told false true false e = absurd (let z : ◌≡◌ {A = ℕ} 0 1 = cc in omega arith)
 
-was_moved : (t : Bool) → not t ≡ true → t ≡ false
-was_moved false e = refl
-was_moved true e = absurd (let z : ◌≡◌ {A = ℕ} 0 1 = cc in omega arith)
+was_moved : (t : Bool) (c q : Pt) → maybe (not t) c ≡ Some q → (t ≡ false) × (c ≡ q)
+was_moved false c q e = (refl, ap (λ (m : Option Pt). unwrap_or m c) e)
+was_moved true c q e = absurd (let z : ◌≡◌ {A = ℕ} 0 1 = ap (λ (m : Option Pt). length (list_of m)) e in omega arith)
 
 one_end : (raw end : Pt) → list_of (maybe (not (same_pt raw end)) end) ≡ moved raw end
 one_end raw end = by (same_pt raw end)
@@ -59,8 +62,12 @@ module _ (d : Draft) (p : Pt) (s : Seg) (i : s ≡ record { p0 = d.pen.raw; p1 =
       let (k, (j, x)) = told (eqb d.kind 1) d.joins u h in
       rw (m, i) (record {
         list = rw (k, j) (λ t. one_end d.pen.raw (clip d.bbox (record { p0 = d.pen.raw; p1 = p })).seg.p0 t ++ one_end p (clip d.bbox (record { p0 = d.pen.raw; p1 = p })).seg.p1 t);
-        in0 = λ f. fixed0 d.bbox (record { p0 = d.pen.raw; p1 = p }) g (was_moved (same_pt d.pen.raw (clip d.bbox (record { p0 = d.pen.raw; p1 = p })).seg.p0) f);
-        in1 = λ f. fixed1 d.bbox (record { p0 = d.pen.raw; p1 = p }) g (was_moved (same_pt p (clip d.bbox (record { p0 = d.pen.raw; p1 = p })).seg.p1) f);
+        in0 = λ q f.
+            let (n, z) = was_moved (same_pt d.pen.raw (clip d.bbox (record { p0 = d.pen.raw; p1 = p })).seg.p0) (clip d.bbox (record { p0 = d.pen.raw; p1 = p })).seg.p0 q f in
+            subst (λ (r : Pt). clamped d.bbox r ≡ r) z (fixed0 d.bbox (record { p0 = d.pen.raw; p1 = p }) g n);
+        in1 = λ q f.
+            let (n, z) = was_moved (same_pt p (clip d.bbox (record { p0 = d.pen.raw; p1 = p })).seg.p1) (clip d.bbox (record { p0 = d.pen.raw; p1 = p })).seg.p1 q f in
+            subst (λ (r : Pt). clamped d.bbox r ≡ r) z (fixed1 d.bbox (record { p0 = d.pen.raw; p1 = p }) g n);
       })
 
   pub brought_cut : is_good d.bbox ≡ true → (u : Bool) → (not (eqb d.kind 1) && d.joins && u) ≡ true → (c : ClippedSeg) → c ≡ clip d.bbox s → BroughtBy d.bbox (boundary (state_in d) p) (edges (state_in d) p) c
@@ -77,9 +84,22 @@ unmoved XMax h = absurd (let z : ◌≡◌ {A = ℕ} 0 1 = cc in omega arith)
 unmoved YMin h = absurd (let z : ◌≡◌ {A = ℕ} 0 1 = cc in omega arith)
 unmoved YMax h = absurd (let z : ◌≡◌ {A = ℕ} 0 1 = cc in omega arith)
 
-pub none_named : (c : ClippedSeg) (e : Ends) → e ≡ ends_in c → (e.moved0 || e.moved1) ≡ false → (n : Edges) → named_by c ≡ n → n ≡ none
+stayed : (t : Bool) (c : Pt) → maybe t c ≡ None → t ≡ false
+stayed false c e = refl
+stayed true c e = absurd (let z : ◌≡◌ {A = ℕ} 1 0 = ap (λ (m : Option Pt). length (list_of m)) e in omega arith)
+
+no_end : (end : Option Pt) (t : Bool) → is_some end ≡ not t → t ≡ true → end ≡ None
+no_end None t e h = refl
+no_end (Some q) t e h = absurd (let z : true ≡ false = e ∙ ap not h in let y : ◌≡◌ {A = ℕ} 0 1 = cc in omega arith)
+
+-- what the code's two tests tell
+pub none_moved : (e : Ends) (t u : Bool) → is_some e.end0 ≡ not t → is_some e.end1 ≡ not u → (t && u) ≡ true → (e.end0 ≡ None) × (e.end1 ≡ None)
+none_moved e t u f g h = let (i, j) = both t u h in (no_end e.end0 t f i, no_end e.end1 u g j)
+
+pub none_named : (c : ClippedSeg) (e : Ends) → e ≡ ends_in c → (e.end0 ≡ None) × (e.end1 ≡ None) → (n : Edges) → named_by c ≡ n → n ≡ none
 none_named c e f h n g =
-    let (m0, m1) = neither (is_moved c.first) (is_moved c.second) (subst (λ (x : Ends). (x.moved0 || x.moved1) ≡ false) f h) in
+    let m0 = stayed (is_moved c.first) c.seg.p0 (sym (ap (λ (x : Ends). x.end0) f) ∙ h.0) in
+    let m1 = stayed (is_moved c.second) c.seg.p1 (sym (ap (λ (x : Ends). x.end1) f) ∙ h.1) in
     sym g ∙ (λ i. record { first = unmoved c.first m0 i; second = unmoved c.second m1 i })
 
 pub brought_ends : {b : BBox} {l : List Pt} {n : Edges} {c : ClippedSeg} → BroughtBy b l n c → (e : Ends) → e ≡ ends_in c → Brought b l e
@@ -108,8 +128,8 @@ module _ (d : Draft) (p : Pt) where
       rw g (record {
         points = record {
           list = none_by (eqb d.kind 1) d.joins o;
-          in0 = λ z. absurd (let z : ◌≡◌ {A = ℕ} 0 1 = cc in omega arith);
-          in1 = λ z. absurd (let z : ◌≡◌ {A = ℕ} 0 1 = cc in omega arith);
+          in0 = λ q z. absurd (let z : ◌≡◌ {A = ℕ} 0 1 = ap (λ (m : Option Pt). length (list_of m)) z in omega arith);
+          in1 = λ q z. absurd (let z : ◌≡◌ {A = ℕ} 0 1 = ap (λ (m : Option Pt). length (list_of m)) z in omega arith);
         };
         names = unnamed_by (eqb d.kind 1) d.joins o;
       })

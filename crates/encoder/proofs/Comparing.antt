@@ -1,9 +1,8 @@
 -- Laws of points: what the code's tests of signed numbers, which go by their bits, say of the numbers; clamping.
-use mathlib.Core.Path.{◌≡◌, refl, sym, ◌∙◌, ap}
+use mathlib.Core.Path.{◌≡◌}
 use mathlib.Core.Bool.{Bool, true, false, ◌&&◌, ◌||◌}
-use borrow.Author.Tests.{eq-eqb, ne_eqb}
 use lib.Dec.{eqb}
-use lib.IntN.{ℤ, pos, negsuc, ℤ_discrete}
+use lib.IntN.{ℤ}
 use lib.Signed.{lt_z}
 use mir.Syntax.{w32}
 use mir.Val.{SFits, of_z, to_z}
@@ -13,28 +12,6 @@ use Rattle.whole.proofs.Equal.{eq_bits}
 use Rattle.clip.specs.declared.Pt.{Pt}
 use Rattle.clip.specs.declared.BBox.{BBox}
 use Rattle.encoder.specs.Points.{clamp_to, clamped, strictly, between}
-
--- ---- equal points
-pub same_points : {a b c d : ℤ} → SFits w32 a → SFits w32 b → SFits w32 c → SFits w32 d → (eqb (of_z w32 a) (of_z w32 b) && eqb (of_z w32 c) (of_z w32 d)) ≡ (eq_z a b && eq_z c d)
-same_points p q r t = rw (eq_bits p q, eq_bits r t)
-
--- ---- the three returns of `clamp`
-module _ {lo hi z : ℤ} (fl : SFits w32 lo) (fh : SFits w32 hi) (fz : SFits w32 z) where
-  pub clamp_low : lt_z (to_z w32 (of_z w32 z)) (to_z w32 (of_z w32 lo)) ≡ true → to_z w32 (of_z w32 lo) ≡ clamp_to lo hi z
-  clamp_low e = let h : lt_z z lo ≡ true = rw (to_z-of_z fz, to_z-of_z fl) at e in rw (h, to_z-of_z fl)
-
-  module _ (e : lt_z (to_z w32 (of_z w32 z)) (to_z w32 (of_z w32 lo)) ≡ false) where
-    pub clamp_high : lt_z (to_z w32 (of_z w32 hi)) (to_z w32 (of_z w32 z)) ≡ true → to_z w32 (of_z w32 hi) ≡ clamp_to lo hi z
-    clamp_high f =
-        let h : lt_z z lo ≡ false = rw (to_z-of_z fz, to_z-of_z fl) at e in
-        let k : lt_z hi z ≡ true = rw (to_z-of_z fh, to_z-of_z fz) at f in
-        rw (h, k, to_z-of_z fh)
-
-    pub clamp_same : lt_z (to_z w32 (of_z w32 hi)) (to_z w32 (of_z w32 z)) ≡ false → to_z w32 (of_z w32 z) ≡ clamp_to lo hi z
-    clamp_same f =
-        let h : lt_z z lo ≡ false = rw (to_z-of_z fz, to_z-of_z fl) at e in
-        let k : lt_z hi z ≡ false = rw (to_z-of_z fh, to_z-of_z fz) at f in
-        rw (h, k, to_z-of_z fz)
 
 -- ---- a point between two others, by what the code computes of it
 module _ (a m b : Pt) (ax : SFits w32 a.x) (ay : SFits w32 a.y) (mx : SFits w32 m.x) (my : SFits w32 m.y) (bx : SFits w32 b.x) (by' : SFits w32 b.y) where

@@ -1,4 +1,5 @@
 -- Points within the limit: the last point, and a point clamped to a good box. For callers.
+use Rattle.std.specs.Prelude.{Option, Some, None, unwrap_or}
 use mathlib.Core.Path.{◌≡◌, refl}
 use mathlib.Core.Bool.{Bool, true, false, cond}
 use lib.IntN.{ℤ, pos}
@@ -10,16 +11,18 @@ use Rattle.clip.specs.declared.BBox.{BBox}
 use Rattle.clip.specs.Domain.{is_good}
 use Rattle.clip.specs.Facts.{Within, Coord}
 use Rattle.clip.proofs.Callers.{coord_facts, good_facts}
-use Rattle.encoder.specs.declared.points.MaybePt.{MaybePt}
-use Rattle.encoder.specs.declared.points.MaybePt.TheVariants.{Nowhere, At}
 use Rattle.encoder.specs.Points.{in_limit, clamp_to, clamped, last_of}
 
 within_nought : Within (pos 0)
 within_nought = record { least = le_z_yes tt; most = le_z_yes tt }
 
-pub last_coord : (m : MaybePt) → in_limit m ≡ true → Coord (last_of m)
-last_coord Nowhere e = record { at_x = within_nought; at_y = within_nought }
-last_coord (At p) e = coord_facts e
+pub last_is : (m : Option Pt) → unwrap_or m (record { x = pos 0; y = pos 0 }) ≡ last_of m
+last_is None = refl
+last_is (Some p) = refl
+
+pub last_coord : (m : Option Pt) → in_limit m ≡ true → Coord (last_of m)
+last_coord None e = record { at_x = within_nought; at_y = within_nought }
+last_coord (Some p) e = coord_facts e
 
 clamp_within : (lo hi z : ℤ) → Within lo → Within hi → lo <ℤ hi → Within (clamp_to lo hi z)
 clamp_within lo hi z l h o = go (lt_z z lo) refl

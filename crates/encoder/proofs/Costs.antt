@@ -1,6 +1,7 @@
 -- "A part of n ≥ 1 points costs at most 6n - 2 words for a line, 6n - 1 for a polygon": the first point is one emission, each later one at most three, of two words each; two commands, and ClosePath for a polygon.
 --     line_cost polygon_cost    for any state where a part starts: count 0 and no raw end
 --     reached_starts            a state reached from a fresh one has no raw end where its count is 0
+use Rattle.std.specs.Prelude.{Option, Some, None}
 use mathlib.Core.Path.{◌≡◌, refl, sym, ◌∙◌, ap, subst}
 use mathlib.Core.Bool.{Bool, true, false, cond, ◌&&◌}
 use mathlib.Core.List.{List, [], ◌∷◌, ◌++◌}
@@ -9,21 +10,17 @@ use native.Mathlib.Omega.{arith}
 use borrow.Author.Tests.{eq-eqb, ne_eqb, eqb-false}
 use lib.Dec.{ltb, eqb}
 use lib.ListN.{length, length-append}
-use Rattle.promise.specs.Answers.{Written, kept}
+use Rattle.promise.specs.Answers.{kept}
 use Rattle.promise.specs.Laid.{lay}
 use Rattle.clip.specs.declared.Pt.{Pt}
-use Rattle.clip.specs.declared.Seg.{Seg}
 use Rattle.clip.specs.declared.BBox.{BBox}
 use Rattle.clip.specs.Cutting.{clip}
 use Rattle.words.specs.Geometries.{max_words}
 use Rattle.words.specs.Commands.{command_word}
-use Rattle.encoder.specs.declared.points.MaybePt.{MaybePt}
-use Rattle.encoder.specs.declared.points.MaybePt.TheVariants.{Nowhere, At}
 use Rattle.encoder.specs.declared.GeomEncoder.{GeomEncoder}
-use Rattle.encoder.specs.States.{fresh, valid}
+use Rattle.encoder.specs.States.{fresh}
 use Rattle.encoder.specs.Answers.{done}
-use Rattle.encoder.specs.Points.{clamped, same_pt, last_of}
-use Rattle.encoder.specs.Boundary.{moved, moved_ends}
+use Rattle.encoder.specs.Points.{clamped, last_of}
 use Rattle.encoder.specs.Pushed.{close_path}
 use Rattle.encoder.specs.Emitting.{Emission, emission, steps, place_of, begun}
 use Rattle.encoder.specs.Adding.{cut_from, boundary, emissions, emitted, counted, added}
@@ -81,9 +78,9 @@ emitted_cost n s (p ∷ ps) out R k =
     omega (arith, emission_cost n s p R k)
 
 -- ---- how many emissions a point is
-cut_two : (b : BBox) (m : MaybePt) (p : Pt) → length (cut_from b m p) ≤ 2
-cut_two b Nowhere p = omega arith
-cut_two b (At q) p = moved_two (record { p0 = q; p1 = p }) (clip b (record { p0 = q; p1 = p })).seg
+cut_two : (b : BBox) (m : Option Pt) (p : Pt) → length (cut_from b m p) ≤ 2
+cut_two b None p = omega arith
+cut_two b (Some q) p = moved_two (record { p0 = q; p1 = p }) (clip b (record { p0 = q; p1 = p })).seg
 
 boundary_two : (s : GeomEncoder) (p : Pt) → length (boundary s p) ≤ 2
 unfolding boundary
@@ -93,11 +90,11 @@ boundary_two s p = by (eqb s.kind 1)
     by true = omega arith
     by false = cut_two s.bbox s.xy_end p
 
-boundary_none : (s : GeomEncoder) (p : Pt) → s.xy_end ≡ Nowhere → length (boundary s p) ≡ 0
+boundary_none : (s : GeomEncoder) (p : Pt) → s.xy_end ≡ None → length (boundary s p) ≡ 0
 unfolding boundary
 boundary_none s p e = rw e (by (eqb s.kind 1))
   where
-    by : (t : Bool) → length (cond t [] (cut_from s.bbox Nowhere p)) ≡ 0
+    by : (t : Bool) → length (cond t [] (cut_from s.bbox None p)) ≡ 0
     by true = refl
     by false = refl
 
@@ -144,7 +141,7 @@ rest_cost (p ∷ ps) {s} {t} {out} {l} k (next {t = m} {l = o} e r) =
     let c : closes m.kind ≡ closes s.kind = ap closes g in
     omega (arith, add_cost s p out m o k e, boundary_two s p)
 
-module _ (p : Pt) (ps : List Pt) {s t : GeomEncoder} {out l : List ℕ} (z : s.count ≡ 0) (x : s.xy_end ≡ Nowhere) where
+module _ (p : Pt) (ps : List Pt) {s t : GeomEncoder} {out l : List ℕ} (z : s.count ≡ 0) (x : s.xy_end ≡ None) where
   part_cost : (s.kind ≡ 1 → ⊥) → After (part_calls (p ∷ ps)) s out t l → t.used + 2 ≤ s.used + 6 * length (p ∷ ps) + closes s.kind
   part_cost k (next {t = m} {l = o} e r) =
       let g = add_kind s p out m o k e in
@@ -176,7 +173,7 @@ emitted_some s [] p out = emission_some s p
 emitted_some s (q ∷ ps) p out = emitted_some (emission s q).next ps p (lay (emission s q).at (emission s q).run out)
 
 abbrev Starts : GeomEncoder → Type 0
-Starts s = s.count ≡ 0 → s.xy_end ≡ Nowhere
+Starts s = s.count ≡ 0 → s.xy_end ≡ None
 
 add_starts : (s : GeomEncoder) (p : Pt) (out : List ℕ) (t : GeomEncoder) (l : List ℕ) → added s p out ≡ kept (done t) l → Starts t
 add_starts s p out t l e z =
@@ -197,5 +194,5 @@ after_starts none h = h
 after_starts (next {c = add p} e r) h = after_starts r (add_starts _ p _ _ _ e)
 after_starts (next {c = complete} e r) h = after_starts r (complete_starts _ _ _ _ h e)
 
-pub reached_starts : (kind : ℕ) (bbox : BBox) (t : GeomEncoder) (cs : List Call) (out l : List ℕ) → After cs (fresh kind bbox) out t l → t.count ≡ 0 → t.xy_end ≡ Nowhere
+pub reached_starts : (kind : ℕ) (bbox : BBox) (t : GeomEncoder) (cs : List Call) (out l : List ℕ) → After cs (fresh kind bbox) out t l → t.count ≡ 0 → t.xy_end ≡ None
 reached_starts kind bbox t cs out l r z = after_starts r (λ i. refl) z

@@ -2,12 +2,14 @@
 --     whole                       a state's draft is the state
 --     next-two next_skip          the returns of `emit_point`
 --     written                     what `write_point` lays
+use Rattle.std.specs.Prelude.{Option, Some, None, is_some}
+use Rattle.std.specs.Bool.{then_some}
 use mathlib.Core.Path.{◌≡◌, refl, sym, ◌∙◌, ap, subst}
 use mathlib.Core.Bool.{Bool, true, false, cond, not, ◌&&◌}
 use mathlib.Core.List.{List, [], ◌∷◌, ◌++◌}
 use Prim.Native.Nat.{ℕ, ◌+◌, ◌-◌, ◌≤◌, ◌<◌}
 use native.Mathlib.Omega.{arith}
-use borrow.Author.Tests.{eq-eqb, ne_eqb, leb-true, not-true, not-false}
+use borrow.Author.Tests.{eq-eqb, ne_eqb, leb-true}
 use lib.Dec.{leb, eqb}
 use lib.ListN.{length, set, length-append}
 use Rattle.promise.specs.Laid.{lay}
@@ -16,10 +18,6 @@ use Rattle.clip.specs.declared.Pt.{Pt}
 use Rattle.clip.specs.Facts.{Coord}
 use Rattle.clip.proofs.Callers.{coord_facts}
 use Rattle.encoder.specs.declared.GeomEncoder.{GeomEncoder}
-use Rattle.encoder.specs.declared.points.MaybePt.{MaybePt}
-use Rattle.encoder.specs.declared.points.MaybePt.TheVariants.{Nowhere, At}
-use Rattle.encoder.specs.declared.commands.MaybeWord.{MaybeWord}
-use Rattle.encoder.specs.declared.commands.MaybeWord.TheVariants.{NoWord, Word}
 use Rattle.encoder.specs.declared.boundary.Ends.{Ends}
 use Rattle.encoder.specs.declared.draft.Draft.{Draft}
 use Rattle.encoder.specs.declared.plan.Plan.{Plan}
@@ -32,61 +30,42 @@ use Rattle.encoder.specs.Adding.{counted, ended}
 use Rattle.encoder.specs.Planning.{plan_limit, Ready, Few}
 use Rattle.encoder.specs.Tallies.{max_tally}
 use Rattle.encoder.specs.Pens.{with_raw, again, taken, before_push, onward}
-use Rattle.encoder.specs.Drafts.{draft_of, state_in, with_pen, ringing, pushed_to, behind, pushed_by, one_if, taken_by, emitted_if, Writable, EndsFit, AllFit, laid_ends, laid_all}
+use Rattle.encoder.specs.Drafts.{draft_of, state_in, with_pen, ringing, pushed_to, behind, pushed_by, one_if, taken_by, emitted_if, Writable, WritableIf, EndsFit, AllFit, laid_ends, laid_all}
 use Rattle.promise.proofs.Joined.{both}
 use Rattle.encoder.proofs.Coords.{last_coord}
 use Rattle.encoder.proofs.Pushing.{out_count}
 use Rattle.encoder.proofs.Steps.{command_cases}
 
 -- ---- states
-there : (m : MaybePt) → maybe (not (missing m)) (last_of m) ≡ m
-there Nowhere = refl
-there (At p) = refl
+there : (m : Option Pt) → maybe (not (missing m)) (last_of m) ≡ m
+there None = refl
+there (Some p) = refl
 
 pub whole : (s : GeomEncoder) → state_in (draft_of s) ≡ s
 whole s = rw (there s.xy_end, there s.pt0, there s.pt1)
 
-pub draft_is : (s : GeomEncoder) (raw before last : Pt) (a b c : Bool) → raw ≡ last_of s.xy_end → before ≡ last_of s.pt0 → last ≡ last_of s.pt1 →
-    a ≡ missing s.xy_end → b ≡ missing s.pt0 → c ≡ missing s.pt1 →
-    record { kind = s.kind; bbox = s.bbox; pen = record { raw = raw; pt0 = before; pt1 = last; count = s.count; used = s.used; skipped = s.tally.skipped; taken_out = s.tally.taken_out }; joins = not a; has0 = not b; has1 = not c; place = s.cmd_offset; taken = s.tally.taken; boundary = s.tally.boundary } ≡ draft_of s
-draft_is s raw before last a b c e f g h i j = rw (e, f, g, h, i, j)
-
-pub state_is : (d : Draft) (raw before last : MaybePt) → raw ≡ maybe d.joins d.pen.raw → before ≡ maybe d.has0 d.pen.pt0 → last ≡ maybe d.has1 d.pen.pt1 →
-    record { tally = (state_in d).tally; kind = d.kind; bbox = d.bbox; xy_end = raw; pt0 = before; pt1 = last; cmd_offset = d.place; count = d.pen.count; used = d.pen.used } ≡ state_in d
-state_is d raw before last e f g = rw (e, f, g)
-
-module _ (there : Bool) (p : Pt) where
-  pub is_there_lem : there ≡ true → At p ≡ maybe there p
-  is_there_lem e = rw e
-
-  pub is_nowhere : there ≡ false → Nowhere ≡ maybe there p
-  is_nowhere e = rw e
+some_is : (m : Option Pt) → is_some m ≡ not (missing m)
+some_is None = refl
+some_is (Some p) = refl
 
 -- ---- a point taken
-module _ (b : Bool) where
-  pub one_yes : b ≡ true → 1 ≡ one_if b
-  one_yes e = rw e
+pub one_most : (end : Option Pt) (n : ℕ) → n ≡ one_if end → n ≤ 1
+one_most (Some p) n e = omega arith
+one_most None n e = omega arith
 
-  pub one_no : b ≡ false → 0 ≡ one_if b
-  one_no e = rw e
-
-pub one_most : (b : Bool) (n : ℕ) → n ≡ one_if b → n ≤ 1
-one_most true n e = omega arith
-one_most false n e = omega arith
-
-pub taken_is : (d : Draft) (e : Ends) (a b : ℕ) → a ≡ one_if e.moved0 → b ≡ one_if e.moved1 →
+pub taken_is : (d : Draft) (e : Ends) (a b : ℕ) → a ≡ one_if e.end0 → b ≡ one_if e.end1 →
     record { kind = d.kind; bbox = d.bbox; pen = d.pen; joins = d.joins; has0 = d.has0; has1 = d.has1; place = d.place; taken = d.taken + 1; boundary = d.boundary + (a + b) } ≡ taken_by d e
 taken_is d e a b f g = rw (f, g)
 
 -- the ends that moved are as many as the boundary points
-ends_counted : (e : Ends) → length (ends_of e) ≡ one_if e.moved0 + one_if e.moved1
-ends_counted e = by e.moved0 e.moved1
+ends_counted : (e : Ends) → length (ends_of e) ≡ one_if e.end0 + one_if e.end1
+ends_counted e = by e.end0 e.end1
   where
-    by : (a b : Bool) → length (list_of (maybe a e.end0) ++ list_of (maybe b e.end1)) ≡ one_if a + one_if b
-    by true true = refl
-    by true false = refl
-    by false true = refl
-    by false false = refl
+    by : (a b : Option Pt) → length (list_of a ++ list_of b) ≡ one_if a + one_if b
+    by (Some p) (Some q) = refl
+    by (Some p) None = refl
+    by None (Some q) = refl
+    by None None = refl
 
 pub taken_state : (d : Draft) (e : Ends) (l : List Pt) → ends_of e ≡ l → state_in (taken_by d e) ≡ counted 1 (length l) (state_in d)
 taken_state d e l f = rw (← f, ends_counted e)
@@ -98,8 +77,8 @@ again_is false t p q e = refl
 
 module _ (d : Draft) where
   pub skip_is : (pen : Pen) → pen ≡ again d.pen → (n : ℕ) → n ≡ begun pen.count →
-      (r : Draft) → r ≡ with_pen d (record { raw = pen.raw; pt0 = pen.pt0; pt1 = pen.pt1; count = n; used = pen.used; skipped = pen.skipped; taken_out = pen.taken_out }) → state_in r ≡ (skipped (state_in d)).next
-  skip_is pen g n e r f = rw (f, e, g)
+      state_in (with_pen d (record { raw = pen.raw; pt0 = pen.pt0; pt1 = pen.pt1; count = n; used = pen.used; skipped = pen.skipped; taken_out = pen.taken_out })) ≡ (skipped (state_in d)).next
+  skip_is pen g n e = rw (e, g)
 
 -- ---- taking out
 module _ (d : Draft) (q : Pt) where
@@ -134,9 +113,6 @@ module _ (d : Draft) (q : Pt) where
         let c = leb-true 2 d.pen.count i in
         (c, omega (arith, R.counted))
 
-    pub push_asked : Few 1 (state_in d) → (t : Bool) → t ≡ ringing d → (t ≡ true → (2 ≤ d.pen.count) × (2 ≤ d.pen.used)) × (d.pen.taken_out ≤ max_tally + 6)
-    push_asked F t e = (may_pop t e, omega (arith, F.outs))
-
     pub base_fits : (t : Bool) (base : Pen) → base ≡ before_push t d.pen q → (base.count ≤ plan_limit) × (base.used ≤ plan_limit)
     base_fits t base e = subst (λ (x : Pen). (x.count ≤ plan_limit) × (x.used ≤ plan_limit)) (sym e) (by (t && between d.pen.pt0 d.pen.pt1 q))
       where
@@ -149,7 +125,7 @@ module _ (d : Draft) (q : Pt) where
     pub next_skip : t ≡ true → state_in r ≡ (skipped (state_in d)).next → state_in r ≡ (emitted_at (state_in d) q).next
     next_skip h e = rw (sym a ∙ h) e
 
-    pub next_push : t ≡ false → (u : Bool) → u ≡ ringing d → (base : Pen) → base ≡ before_push u d.pen q → (word : MaybeWord) → word_of word ≡ command d.kind d.pen.count →
+    pub next_push : t ≡ false → (u : Bool) → u ≡ ringing d → (base : Pen) → base ≡ before_push u d.pen q → (word : Option ℕ) → word_of word ≡ command d.kind d.pen.count →
         r ≡ pushed_by word d base q → state_in r ≡ (emitted_at (state_in d) q).next
     next_push h u v base e word w f =
         let b : base ≡ before_push (ringing d) d.pen q = rw v at e in
@@ -157,69 +133,25 @@ module _ (d : Draft) (q : Pt) where
         (λ i. (pushed (word_of word) (state_in (with_pen d (b i))) q).next) ∙
         (λ i. (pushed (w i) (base_is i) q).next))
       where
-        by : (word : MaybeWord) (base : Pen) → state_in (pushed_by word d base q) ≡ (pushed (word_of word) (state_in (with_pen d base)) q).next
-        by NoWord base = refl
-        by (Word x) base = let z : base.used + 1 + 2 ≡ base.used + 3 = omega arith in rw z
-
--- ---- the returns of `push_point`
-module _ (d : Draft) (base : Pen) (q : Pt) (word : MaybeWord) (r : Draft) where
-  pub push_plain : word ≡ NoWord → r ≡ pushed_to d base q d.place → r ≡ pushed_by word d base q
-  push_plain e f = rw e f
-
-  pub push_behind : (w : ℕ) → word ≡ Word w → r ≡ pushed_to d (behind base) q base.used → r ≡ pushed_by word d base q
-  push_behind w e f = rw e f
+        by : (word : Option ℕ) (base : Pen) → state_in (pushed_by word d base q) ≡ (pushed (word_of word) (state_in (with_pen d base)) q).next
+        by None base = refl
+        by (Some x) base = let z : base.used + 1 + 2 ≡ base.used + 3 = omega arith in rw z
 
 pub pushed_is : (d : Draft) (base : Pen) (q : Pt) (place : ℕ) (pen : Pen) → pen ≡ (onward base q).pen →
     record { kind = d.kind; bbox = d.bbox; pen = pen; joins = d.joins; has0 = d.has1; has1 = true; place = place; taken = d.taken; boundary = d.boundary } ≡ pushed_to d base q place
 pushed_is d base q place pen e = rw e
 
--- ---- the returns of `emit_if`
-module _ (moved : Bool) (d : Draft) (q : Pt) where
-  pub if_stays : not moved ≡ true → state_in d ≡ (emitted_if moved (state_in d) q).next
-  if_stays h = rw (not-true moved h)
-
-  pub if_moves : not moved ≡ false → (r : Draft) → state_in r ≡ (emitted_at (state_in d) q).next → state_in r ≡ (emitted_if moved (state_in d) q).next
-  if_moves h r e = rw (not-false moved h) e
-
--- ---- the returns of `write_if`
-module _ (moved : Bool) (s : GeomEncoder) (q : Pt) (out : List ℕ) where
-  pub if_none : not moved ≡ true → out ≡ lay (emitted_if moved s q).at (emitted_if moved s q).run out
-  if_none h = rw (not-true moved h) (sym (lay_nothing s.used out))
-
-  pub if_some : not moved ≡ false → (o : List ℕ) → o ≡ lay (emitted_at s q).at (emitted_at s q).run out → o ≡ lay (emitted_if moved s q).at (emitted_if moved s q).run out
-  if_some h o e = rw (not-false moved h) e
-
--- ---- the raw end
-module _ (d : Draft) (p : Pt) where
-  pub end_stays : d.kind ≡ 1 → state_in d ≡ ended (state_in d) p
-  end_stays e = rw (eq-eqb d.kind 1 e)
-
-  pub end_moves : (d.kind ≡ 1 → ⊥) → (pen : Pen) → pen ≡ with_raw d.pen p →
-      state_in (record { kind = d.kind; bbox = d.bbox; pen = pen; joins = true; has0 = d.has0; has1 = d.has1; place = d.place; taken = d.taken; boundary = d.boundary }) ≡ ended (state_in d) p
-  end_moves e pen f = rw (ne_eqb d.kind 1 e, f)
-
 -- ---- the returns of `write_command`
-module _ (kind count at : ℕ) (word : MaybeWord) (e : word_of word ≡ command kind count) (l : List ℕ) where
-  pub no_word : word ≡ NoWord → l ≡ lay at (command kind count) l
-  no_word f =
-      let z : [] ≡ command kind count = rw f at e in
-      rw (← z) (sym (lay_nothing at l))
-
-  module _ (h : at + length (command kind count) ≤ length l) (w : ℕ) (f : word ≡ Word w) where
+module _ (kind count at : ℕ) (word : Option ℕ) (e : word_of word ≡ command kind count) (l : List ℕ) where
+  module _ (h : at + length (command kind count) ≤ length l) (w : ℕ) (f : word ≡ Some w) where
     is_word : w ∷ [] ≡ command kind count
     is_word = rw f at e
 
     pub word_room : at < length l
     word_room = let k : at + length (w ∷ []) ≤ length l = subst (λ (c : List ℕ). at + length c ≤ length l) (sym is_word) h in omega arith
 
-    pub a_word : set l at w ≡ lay at (command kind count) l
-    a_word = rw (← is_word) (lay_one l at w word_room)
-
 -- ---- the words of one emission
 module _ (d next : Draft) (q : Pt) (n : ℕ) (W : Writable d next q n) (t : Bool) (a : t ≡ is_last (state_in d).pt1 q) where
-  pub again_none : t ≡ true → (out : List ℕ) → out ≡ lay (emitted_at (state_in d) q).at (emitted_at (state_in d) q).run out
-  again_none h out = rw (sym a ∙ h) (sym (lay_nothing d.pen.used out))
-
   module _ (h : t ≡ false) where
     from_state : GeomEncoder
     from_state = cond (taken_out (state_in d) q) (popped (state_in d)) (state_in d)
@@ -285,15 +217,12 @@ module _ (d next : Draft) (q : Pt) (n : ℕ) (W : Writable d next q n) (t : Bool
         by true = W.ready.at0
         by false = W.ready.at1
 
-    pub two_used : 2 ≤ next.pen.used
-    two_used = omega (arith, grown)
-
-    pub steps_asked : (m : MaybePt) → m ≡ maybe next.has0 next.pen.pt0 → (from : Pt) → from ≡ last_of m → (k : ℕ) → k ≡ n → (next.pen.used - 2 + 2 ≤ k) × (Coord from × Coord q)
+    pub steps_asked : (m : Option Pt) → m ≡ then_some next.has0 next.pen.pt0 → (from : Pt) → from ≡ last_of m → (k : ℕ) → k ≡ n → (next.pen.used - 2 + 2 ≤ k) × (Coord from × Coord q)
     steps_asked m i from e k l =
         let c : Coord from = rw (e, i, last_is) (last_coord from_state.pt1 limit) in
         (omega (arith, grown, W.fits, l), (c, coord_facts W.coord))
 
-    pub written : (out o₁ o₂ : List ℕ) → n ≡ length out → o₁ ≡ lay d.pen.used cmd out → (m : MaybePt) → m ≡ maybe next.has0 next.pen.pt0 → (from : Pt) → from ≡ last_of m →
+    pub written : (out o₁ o₂ : List ℕ) → n ≡ length out → o₁ ≡ lay d.pen.used cmd out → (m : Option Pt) → m ≡ then_some next.has0 next.pen.pt0 → (from : Pt) → from ≡ last_of m →
         o₂ ≡ lay (next.pen.used - 2) (steps from q) o₁ → o₂ ≡ lay (emitted_at (state_in d) q).at (emitted_at (state_in d) q).run out
     written out o₁ o₂ z e m i from f g =
         let l : from ≡ last_of from_state.pt1 = f ∙ ap last_of (i ∙ last_is) in
@@ -309,16 +238,9 @@ module _ (d next : Draft) (q : Pt) (n : ℕ) (W : Writable d next q n) (t : Bool
 
 -- ---- one emission written after the other
 module _ (d : Draft) (plan : Plan) (e : Ends) (n m : ℕ) (l : m ≡ n) where
-  pub second_fits : EndsFit d plan e n → e.moved1 ≡ true → Writable plan.first plan.second e.end1 m
-  second_fits F h = rw l (F.second h)
-
-  pub last_fits : (q : Pt) → AllFit d plan e q n → Writable plan.second plan.last q m
-  last_fits q F = rw l F.last
+  pub second_fits : EndsFit d plan e n → WritableIf plan.first plan.second e.end1 m
+  second_fits F q h = rw l (F.second q h)
 
 module _ (d : Draft) (plan : Plan) (e : Ends) (out o₁ o₂ : List ℕ) where
-  pub ends_laid : o₁ ≡ lay (emitted_if e.moved0 (state_in d) e.end0).at (emitted_if e.moved0 (state_in d) e.end0).run out →
-      o₂ ≡ lay (emitted_if e.moved1 (state_in plan.first) e.end1).at (emitted_if e.moved1 (state_in plan.first) e.end1).run o₁ → o₂ ≡ laid_ends d plan e out
-  ends_laid f g = g ∙ ap (lay (emitted_if e.moved1 (state_in plan.first) e.end1).at (emitted_if e.moved1 (state_in plan.first) e.end1).run) f
-
   pub all_laid : (q : Pt) → o₁ ≡ laid_ends d plan e out → o₂ ≡ lay (emitted_at (state_in plan.second) q).at (emitted_at (state_in plan.second) q).run o₁ → o₂ ≡ laid_all d plan e q out
   all_laid q f g = g ∙ ap (lay (emitted_at (state_in plan.second) q).at (emitted_at (state_in plan.second) q).run) f

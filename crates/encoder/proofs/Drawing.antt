@@ -31,7 +31,7 @@ use Rattle.encoder.specs.declared.stretch.Stretch.{Stretch}
 use Rattle.encoder.specs.Stretches.{is_start, Ongoing, emissions_by, reckoned, spare_of, Counting, point_in, halted, run, last_point, stretched}
 use Rattle.number.specs.Least.{smaller}
 use Rattle.number.proofs.Least.{smaller_le}
-use Rattle.encoder.specs.Tallies.{max_tally, counts_fit}
+use Rattle.encoder.specs.Tallies.{counts_fit}
 use Rattle.encoder.specs.declared.draft.Draft.{Draft}
 use Rattle.encoder.specs.Drafts.{draft_of}
 use Rattle.encoder.specs.Pens.{state_of, drawn_by, Steady}

@@ -12,7 +12,7 @@ use lib.IntN.{ℤ}
 use lib.ListN.{length}
 use Rattle.promise.specs.Answers.{Written, kept}
 use Rattle.refusal.specs.declared.Refusal.TheVariants.{Job, Kind, Box}
-use Rattle.refusal.specs.Said.{Said, refused}
+use Rattle.refusal.specs.Said.{refused}
 use Rattle.clip.specs.declared.BBox.{BBox}
 use Rattle.clip.specs.Domain.{is_good}
 use Rattle.words.specs.Geometries.{is_kind}

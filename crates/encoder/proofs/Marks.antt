@@ -8,7 +8,7 @@ use mathlib.Core.Bool.{Bool, true, false, cond, not, ◌&&◌, ◌||◌}
 use mathlib.Core.List.{List, [], ◌∷◌, ◌++◌}
 use Prim.Native.Nat.{ℕ, ◌+◌, ◌-◌, ◌*◌, ◌≤◌}
 use native.Mathlib.Omega.{arith}
-use borrow.Author.Tests.{le-leb, ne_eqb, not-true, not-false}
+use borrow.Author.Tests.{le-leb, ne_eqb}
 use lib.Dec.{leb, eqb}
 use lib.ListN.{length, set, length-append}
 use lib.IntN.{◌-ℤ◌}
@@ -25,8 +25,9 @@ use Rattle.clip.specs.Cutting.{clip}
 use Rattle.encoder.specs.declared.GeomEncoder.{GeomEncoder}
 use Rattle.encoder.specs.Pushed.{command}
 use Rattle.encoder.specs.Emitting.{Emission, steps, popped, pushed, emitted_at, emission}
-use Rattle.encoder.specs.Points.{clamped, same_pt, between}
-use Rattle.encoder.specs.Boundary.{moved, moved_ends, moved_by}
+use Rattle.encoder.specs.Points.{in_limit, clamped, same_pt, between}
+use Rattle.std.specs.Prelude.{Option, Some, None}
+use Rattle.encoder.specs.Boundary.{moved, moved_ends, moved_by, maybe}
 use Rattle.encoder.specs.Adding.{emitted}
 use Rattle.encoder.specs.Boundary.{outside}
 use Rattle.clip.proofs.Callers.{coord_facts, clip_within}
@@ -41,14 +42,6 @@ use Rattle.encoder.specs.Pens.{state_of, with_raw, Mark, again, still, taken, be
 use Rattle.encoder.specs.Stretches.{emissions_by}
 use Rattle.encoder.proofs.Tests.{clamped_inside, made_coord, fixed0, fixed1, neither}
 
--- ---- the returns of `before_push` and `emit`
-module _ (ring : Bool) (pen : Pen) (q : Pt) (u : Bool) (f : u ≡ (ring && between pen.pt0 pen.pt1 q)) where
-  pub push_taken : u ≡ true → (r : Pen) → r ≡ taken pen → r ≡ before_push ring pen q
-  push_taken k r e = rw (sym f ∙ k) e
-
-  pub push_kept : u ≡ false → pen ≡ before_push ring pen q
-  push_kept k = rw (sym f ∙ k)
-
 pub may_pop : (ring b : Bool) (pen : Pen) → (ring ≡ true → (2 ≤ pen.count) × (2 ≤ pen.used)) → (u : Bool) → u ≡ (ring && b) → u ≡ true → (2 ≤ pen.count) × (2 ≤ pen.used)
 may_pop ring b pen h u f k = h (both ring b (sym f ∙ k)).0
 
@@ -62,9 +55,6 @@ module _ (ring : Bool) (pen : Pen) (q : Pt) (out : List ℕ) (t : Bool) (e : t �
   emit_next h base f r o g =
       let g' : Gives (laid (onward (before_push ring pen q) q) out) r o = subst (λ (x : Pen). Gives (laid (onward x q) out) r o) f g in
       rw (sym e ∙ h) g'
-
-pub some_used : {n : ℕ} {pen : Pen} (ring : Bool) → Able 2 pen n → ring ≡ true → (2 ≤ pen.count) × (2 ≤ pen.used)
-some_used ring a e = (a.two, omega (arith, a.two, a.counted))
 
 pub push_fits : (n : ℕ) (ring : Bool) (pen : Pen) (q : Pt) → Able 2 pen n → (base : Pen) → base ≡ before_push ring pen q → Fit base n
 push_fits n ring pen q a base e = subst (λ (x : Pen). Fit x n) (sym e) (by (ring && between pen.pt0 pen.pt1 q))
@@ -89,20 +79,15 @@ module _ (m n : ℕ) (ring : Bool) (pen : Pen) (a : Able (m + 2) pen n) where
           record { room = omega (arith, a.room); few = omega (arith, a.few); two = omega (arith, a.two); counted = omega (arith, a.counted, a.two); lost = omega (arith, a.lost); at0 = a.at0; at1 = c }
       by false false = record { room = omega (arith, a.room); few = omega (arith, a.few); two = omega (arith, a.two); counted = omega (arith, a.counted); lost = omega (arith, a.lost); at0 = a.at1; at1 = c }
 
-  pub if_able : (moved : Bool) (end : Pt) (out : List ℕ) → is_coord end ≡ true → Able m (marked_if moved ring pen end out).answer n
-  unfolding marked_if
-  if_able true end out c = marked_able end out (coord_facts c)
-  if_able false end out c = less (omega arith) a
+  pub if_able : (end : Option Pt) (out : List ℕ) → in_limit end ≡ true → Able m (marked_if ring pen end out).answer n
+  if_able (Some q) out c = marked_able q out (coord_facts c)
+  if_able None out c = less (omega arith) a
 
 -- ---- the returns of `emit_if`
-module _ (moved ring : Bool) (pen : Pen) (end : Pt) (out : List ℕ) where
-  pub moved_none : not moved ≡ true → Gives (marked_if moved ring pen end out) pen out
-  unfolding marked_if
-  moved_none h = rw (not-true moved h) (record { answer = refl; memory = refl })
-
-  pub moved_some : not moved ≡ false → (r : Pen) (o : List ℕ) → Gives (marked ring pen end out) r o → Gives (marked_if moved ring pen end out) r o
-  unfolding marked_if
-  moved_some h r o g = rw (not-false moved h) g
+module _ (ring : Bool) (pen : Pen) (end : Option Pt) (out : List ℕ) where
+  module _ (q : Pt) (h : end ≡ Some q) where
+    pub moved_coord : in_limit end ≡ true → Coord q
+    moved_coord c = coord_facts (sym (ap in_limit h) ∙ c)
 
 -- ---- emissions after emissions
 pub marks_then : (b : BBox) (ring : Bool) (ps qs : List Pt) (pen : Pen) (out : List ℕ) →
@@ -111,34 +96,33 @@ marks_then b ring [] qs pen out = refl
 marks_then b ring (p ∷ ps) qs pen out = marks_then b ring ps qs (marked ring pen (clamped b p) out).answer (marked ring pen (clamped b p) out).memory
 
 -- ---- what `emit_ends` asks and gives
-module _ (ring : Bool) (pen : Pen) (e : Ends) (out : List ℕ) (c0 : is_coord e.end0 ≡ true) (c1 : is_coord e.end1 ≡ true) where
-  module _ (first : Pen) (o : List ℕ) (g : Gives (marked_if e.moved0 ring pen e.end0 out) first o) where
-    pub second_asked : Able 4 pen (length out) → length o ≡ length out → Able 2 first (length o) × (is_coord e.end1 ≡ true)
+module _ (ring : Bool) (pen : Pen) (e : Ends) (out : List ℕ) (c0 : in_limit e.end0 ≡ true) (c1 : in_limit e.end1 ≡ true) where
+  module _ (first : Pen) (o : List ℕ) (g : Gives (marked_if ring pen e.end0 out) first o) where
+    pub second_asked : Able 4 pen (length out) → length o ≡ length out → Able 2 first (length o) × (in_limit e.end1 ≡ true)
     second_asked a l =
-        let r : Able 2 first (length out) = subst (λ (x : Pen). Able 2 x (length out)) (sym g.answer) (if_able 2 (length out) ring pen a e.moved0 e.end0 out c0) in
+        let r : Able 2 first (length out) = subst (λ (x : Pen). Able 2 x (length out)) (sym g.answer) (if_able 2 (length out) ring pen a e.end0 out c0) in
         (rw l r, c1)
 
-    pub ends_both : (second : Pen) (m : List ℕ) → Gives (marked_if e.moved1 ring first e.end1 o) second m → Gives (marked_ends ring pen e out) second m
+    pub ends_both : (second : Pen) (m : List ℕ) → Gives (marked_if ring first e.end1 o) second m → Gives (marked_ends ring pen e out) second m
     unfolding marked_ends
     ends_both second m d =
-        let w : marked_if e.moved1 ring (marked_if e.moved0 ring pen e.end0 out).answer e.end1 (marked_if e.moved0 ring pen e.end0 out).memory ≡ kept second m =
-        (λ i. marked_if e.moved1 ring (sym g.answer i) e.end1 (sym g.memory i)) ∙ (λ i. kept (sym d.answer i) (sym d.memory i)) in
+        let w : marked_if ring (marked_if ring pen e.end0 out).answer e.end1 (marked_if ring pen e.end0 out).memory ≡ kept second m =
+        (λ i. marked_if ring (sym g.answer i) e.end1 (sym g.memory i)) ∙ (λ i. kept (sym d.answer i) (sym d.memory i)) in
         rw w (record { answer = refl; memory = refl })
 
-ends_able : (m n : ℕ) (ring : Bool) (pen : Pen) → Able (m + 4) pen n → (e : Ends) (out : List ℕ) → is_coord e.end0 ≡ true → is_coord e.end1 ≡ true → Able m (marked_ends ring pen e out).answer n
+ends_able : (m n : ℕ) (ring : Bool) (pen : Pen) → Able (m + 4) pen n → (e : Ends) (out : List ℕ) → in_limit e.end0 ≡ true → in_limit e.end1 ≡ true → Able m (marked_ends ring pen e out).answer n
 unfolding marked_ends
 ends_able m n ring pen a e out c0 c1 =
     let a' : Able (m + 2 + 2) pen n = less (omega arith) a in
-    let w = marked_if e.moved0 ring pen e.end0 out in
-    if_able m n ring w.answer (if_able (m + 2) n ring pen a' e.moved0 e.end0 out c0) e.moved1 e.end1 w.memory c1
+    let w = marked_if ring pen e.end0 out in
+    if_able m n ring w.answer (if_able (m + 2) n ring pen a' e.end0 out c0) e.end1 w.memory c1
 
 -- ---- a moved end is not clamped, so the two ends are emitted as the definition says
 module _ (b : BBox) (ring : Bool) where
-  if_is : (pen : Pen) (raw end : Pt) (out : List ℕ) → (same_pt raw end ≡ false → clamped b end ≡ end) → marks b ring pen (moved raw end) out ≡ marked_if (not (same_pt raw end)) ring pen end out
-  unfolding marked_if
+  if_is : (pen : Pen) (raw end : Pt) (out : List ℕ) → (same_pt raw end ≡ false → clamped b end ≡ end) → marks b ring pen (moved raw end) out ≡ marked_if ring pen (maybe (not (same_pt raw end)) end) out
   if_is pen raw end out f = by (same_pt raw end) refl
     where
-      by : (t : Bool) → same_pt raw end ≡ t → marks b ring pen (cond t [] (end ∷ [])) out ≡ cond (not t) (marked ring pen end out) (kept pen out)
+      by : (t : Bool) → same_pt raw end ≡ t → marks b ring pen (cond t [] (end ∷ [])) out ≡ marked_if ring pen (maybe (not t) end) out
       by true e = refl
       by false e = ap (λ (q : Pt). marked ring pen q out) (f e)
 
@@ -146,7 +130,7 @@ module _ (b : BBox) (ring : Bool) where
   unfolding marked_ends
   ends_is pen s out g =
       let cut = (clip b s).seg in
-      let w = marked_if (not (same_pt s.p0 cut.p0)) ring pen cut.p0 out in
+      let w = marked_if ring pen (maybe (not (same_pt s.p0 cut.p0)) cut.p0) out in
       marks_then b ring (moved s.p0 cut.p0) (moved s.p1 cut.p1) pen out ∙
       ap (λ (x : Written Pen (List ℕ)). marks b ring x.answer (moved s.p1 cut.p1) x.memory) (if_is pen s.p0 cut.p0 out (fixed0 b s g)) ∙
       if_is w.answer s.p1 cut.p1 w.memory (fixed1 b s g)
@@ -163,12 +147,17 @@ module _ (b : BBox) (ring : Bool) (pen : Pen) (p : Pt) (out : List ℕ) where
       rw n (record { answer = k ∙ ap (λ (x : Pen). with_raw x p) g'.answer; memory = g'.memory })
 
   module _ (h : is_good b ≡ true) (e : Ends) (c : e ≡ moved_by pen.raw p (clip b (record { p0 = pen.raw; p1 = p })).seg) where
-    cut_coords : are_coords (record { p0 = pen.raw; p1 = p }) ≡ true → (is_coord e.end0 ≡ true) × (is_coord e.end1 ≡ true)
+    maybe_in : (t : Bool) (q : Pt) → is_coord q ≡ true → in_limit (maybe t q) ≡ true
+    maybe_in true q c = c
+    maybe_in false q c = refl
+
+    cut_coords : are_coords (record { p0 = pen.raw; p1 = p }) ≡ true → (in_limit e.end0 ≡ true) × (in_limit e.end1 ≡ true)
     cut_coords x =
         let cut = (clip b (record { p0 = pen.raw; p1 = p })).seg in
-        rw c (both (is_coord cut.p0) (is_coord cut.p1) (clip_within b (record { p0 = pen.raw; p1 = p }) h x))
+        let (c0, c1) = both (is_coord cut.p0) (is_coord cut.p1) (clip_within b (record { p0 = pen.raw; p1 = p }) h x) in
+        rw c (maybe_in (not (same_pt pen.raw cut.p0)) cut.p0 c0, maybe_in (not (same_pt p cut.p1)) cut.p1 c1)
 
-    pub ends_asked : (n : ℕ) → Able 6 pen n → are_coords (record { p0 = pen.raw; p1 = p }) ≡ true → Able 4 pen n × ((is_coord e.end0 ≡ true) × (is_coord e.end1 ≡ true))
+    pub ends_asked : (n : ℕ) → Able 6 pen n → are_coords (record { p0 = pen.raw; p1 = p }) ≡ true → Able 4 pen n × ((in_limit e.end0 ≡ true) × (in_limit e.end1 ≡ true))
     ends_asked n a x = (less {m = 6} (omega arith) a, cut_coords x)
 
     module _ (after : Pen) (o : List ℕ) (g : Gives (marked_ends ring pen e out) after o) where

@@ -1,10 +1,11 @@
 -- Laws of a call's plan: what planning and writing ask, and that the plan's drafts and words are those of the point's emissions.
+use Rattle.std.specs.Prelude.{Option, Some, None}
 use mathlib.Core.Path.{◌≡◌, refl, sym, ◌∙◌, ap, subst}
-use mathlib.Core.Bool.{Bool, true, false, cond, not, ◌||◌}
+use mathlib.Core.Bool.{Bool, true, false, not}
 use mathlib.Core.List.{List, [], ◌∷◌, ◌++◌}
 use Prim.Native.Nat.{ℕ, ◌+◌, ◌≤◌, ◌<◌}
 use native.Mathlib.Omega.{arith}
-use borrow.Author.Tests.{le-leb, lt-leb, not-true, not-false}
+use borrow.Author.Tests.{le-leb, lt-leb}
 use lib.Dec.{leb}
 use lib.ListN.{length}
 use Rattle.promise.specs.Answers.{Gives, kept}
@@ -23,7 +24,7 @@ use Rattle.encoder.specs.declared.plan.Plan.{Plan}
 use Rattle.encoder.specs.States.{valid}
 use Rattle.encoder.specs.Answers.{done, turned, roomy}
 use Rattle.encoder.specs.Points.{in_limit, clamped}
-use Rattle.encoder.specs.Boundary.{maybe, Brought}
+use Rattle.encoder.specs.Boundary.{Brought}
 use Rattle.encoder.specs.Emitting.{Emission, emitted_at, emission}
 use Rattle.encoder.specs.Adding.{boundary, emitted, emissions, counted, drawn, ended, edges}
 use Rattle.encoder.specs.declared.Edges.{Edges}
@@ -34,7 +35,6 @@ use Rattle.words.proofs.Rooms.{room_length}
 use Rattle.encoder.proofs.Tallies.{Counts}
 use Rattle.encoder.proofs.States.{yes_of, no_of, valid_facts, valid_ready, counted_ready}
 use Rattle.encoder.proofs.Coords.{clamped_coord}
-use Rattle.encoder.proofs.Tests.{neither}
 use Rattle.encoder.proofs.Drafting.{whole, taken_state}
 use Rattle.encoder.proofs.Steps.{Step, emitted_cases, at_step, if_step, same_box, emitted_three}
 
@@ -42,12 +42,12 @@ more : {n m : ℕ} {s : GeomEncoder} → n ≤ m → Ready n s → Ready m s
 more h R = record { few = omega (arith, R.few); counted = R.counted; good = R.good; at0 = R.at0; at1 = R.at1 }
 
 -- an emission loses at most one point
-few_after : (n : ℕ) (s : GeomEncoder) (moved : Bool) (q : Pt) → Few (n + 1) s → Few n (emitted_if moved s q).next
-few_after n s true q F = emitted_cases (λ (e : Emission). Few n e.next) s q
+few_after : (n : ℕ) (s : GeomEncoder) (end : Option Pt) → Few (n + 1) s → Few n (emitted_if s end).next
+few_after n s (Some q) F = emitted_cases (λ (e : Emission). Few n e.next) s q
     (λ e. record { skips = omega (arith, F.skips); outs = omega (arith, F.outs) })
     (λ e. record { skips = omega (arith, F.skips); outs = omega (arith, F.outs) })
     (record { skips = omega (arith, F.skips); outs = omega (arith, F.outs) })
-few_after n s false q F = record { skips = omega (arith, F.skips); outs = omega (arith, F.outs) }
+few_after n s None F = record { skips = omega (arith, F.skips); outs = omega (arith, F.outs) }
 
 fewer : {n m : ℕ} {s : GeomEncoder} → m ≤ n → Few n s → Few m s
 fewer h F = record { skips = omega (arith, F.skips); outs = omega (arith, F.outs) }
@@ -57,20 +57,10 @@ module _ (d : Draft) (e : Ends) (q : Pt) (R : Ready max_words (state_in d)) (F :
   ready0 : Ready plan_limit (state_in d)
   ready0 = more (omega arith) R
 
-  pub asked0 : Ready plan_limit (state_in d) × Few 1 (state_in d)
-  asked0 = (ready0, fewer (omega arith) F)
+  step1 : Step max_words (state_in d) (emitted_if (state_in d) e.end0)
+  step1 = if_step max_words (state_in d) R e.end0 N.end0
 
-  step1 : Step max_words (state_in d) (emitted_if e.moved0 (state_in d) e.end0)
-  step1 = if_step max_words (state_in d) R e.moved0 e.end0 N.end0
-
-  -- the second end, where it stayed and where it moved
-  pub second_stays : (first : Draft) → not e.moved1 ≡ true → state_in first ≡ (emitted_if e.moved1 (state_in first) e.end1).next
-  second_stays first h = rw (not-true e.moved1 h)
-
-  pub second_moves : (first second : Draft) → not e.moved1 ≡ false → state_in second ≡ (emitted_at (state_in first) e.end1).next → state_in second ≡ (emitted_if e.moved1 (state_in first) e.end1).next
-  second_moves first second h k = rw (not-false e.moved1 h) k
-
-  module _ (first : Draft) (i : state_in first ≡ (emitted_if e.moved0 (state_in d) e.end0).next) where
+  module _ (first : Draft) (i : state_in first ≡ (emitted_if (state_in d) e.end0).next) where
     ready1' : Ready (max_words + 3) (state_in first)
     ready1' = subst (Ready (max_words + 3)) (sym i) step1.ready
 
@@ -78,20 +68,20 @@ module _ (d : Draft) (e : Ends) (q : Pt) (R : Ready max_words (state_in d)) (F :
     ready1 = more (omega arith) ready1'
 
     few1 : Few 2 (state_in first)
-    few1 = subst (Few 2) (sym i) (few_after 2 (state_in d) e.moved0 e.end0 F)
+    few1 = subst (Few 2) (sym i) (few_after 2 (state_in d) e.end0 F)
 
     pub asked1 : Ready plan_limit (state_in first) × Few 1 (state_in first)
     asked1 = (ready1, fewer (omega arith) few1)
 
-    step2 : Step (max_words + 3) (state_in first) (emitted_if e.moved1 (state_in first) e.end1)
-    step2 = if_step (max_words + 3) (state_in first) ready1' e.moved1 e.end1 N.end1
+    step2 : Step (max_words + 3) (state_in first) (emitted_if (state_in first) e.end1)
+    step2 = if_step (max_words + 3) (state_in first) ready1' e.end1 N.end1
 
-    module _ (second : Draft) (j : state_in second ≡ (emitted_if e.moved1 (state_in first) e.end1).next) where
+    module _ (second : Draft) (j : state_in second ≡ (emitted_if (state_in first) e.end1).next) where
       ready2 : Ready plan_limit (state_in second)
       ready2 = more (omega arith) (subst (Ready (max_words + 6)) (sym j) step2.ready)
 
       pub asked2 : Ready plan_limit (state_in second) × Few 1 (state_in second)
-      asked2 = (ready2, subst (Few 1) (sym j) (few_after 1 (state_in first) e.moved1 e.end1 few1))
+      asked2 = (ready2, subst (Few 1) (sym j) (few_after 1 (state_in first) e.end1 few1))
 
       step3 : Step plan_limit (state_in second) (emitted_at (state_in second) q)
       step3 = at_step plan_limit (state_in second) ready2 q N.last
@@ -99,7 +89,7 @@ module _ (d : Draft) (e : Ends) (q : Pt) (R : Ready max_words (state_in d)) (F :
 module _ (d : Draft) (e : Ends) (q : Pt) (R : Ready max_words (state_in d)) (F : Few 3 (state_in d)) (N : Near e q) (plan : Plan) (P : Planned plan d e q) where
   grows1 : plan.first.pen.used ≤ plan.second.pen.used
   grows1 =
-      let u : plan.second.pen.used ≡ (emitted_if e.moved1 (state_in plan.first) e.end1).next.used = ap (λ (s : GeomEncoder). s.used) P.second in
+      let u : plan.second.pen.used ≡ (emitted_if (state_in plan.first) e.end1).next.used = ap (λ (s : GeomEncoder). s.used) P.second in
       omega (arith, (step2 d e q R F N plan.first P.first).grows)
 
   grows2 : plan.second.pen.used ≤ plan.last.pen.used
@@ -111,45 +101,41 @@ module _ (d : Draft) (e : Ends) (q : Pt) (R : Ready max_words (state_in d)) (F :
   pub all_fit : (n : ℕ) → plan.last.pen.used ≤ n → AllFit d plan e q n
   all_fit n h = record {
     ends = record {
-      first = λ m. record { after = P.first ∙ is_true e.moved0 (state_in d) e.end0 m; fits = omega (arith, grows1, grows2); ready = ready0 d e q R F N; coord = N.end0 m };
-      second = λ m. record { after = P.second ∙ is_true e.moved1 (state_in plan.first) e.end1 m; fits = omega (arith, grows2); ready = ready1 d e q R F N plan.first P.first; coord = N.end1 m };
+      first = λ c m. record { after = P.first ∙ ap (λ (x : Option Pt). (emitted_if (state_in d) x).next) m; fits = omega (arith, grows1, grows2); ready = ready0 d e q R F N; coord = sym (ap in_limit m) ∙ N.end0 };
+      second = λ c m. record { after = P.second ∙ ap (λ (x : Option Pt). (emitted_if (state_in plan.first) x).next) m; fits = omega (arith, grows2); ready = ready1 d e q R F N plan.first P.first; coord = sym (ap in_limit m) ∙ N.end1 };
     };
     last = record { after = P.last; fits = h; ready = ready2 d e q R F N plan.first P.first plan.second P.second; coord = N.last };
   }
-    where
-      is_true : (m : Bool) (s : GeomEncoder) (c : Pt) → m ≡ true → (emitted_if m s c).next ≡ (emitted_at s c).next
-      is_true true s c f = refl
-      is_true false s c f = absurd (let z : ◌≡◌ {A = ℕ} 0 1 = cc in omega arith)
 
 -- ---- an end that moved lies in the box, so it is emitted as it is
-if_is : (moved : Bool) (s : GeomEncoder) (q : Pt) → (moved ≡ true → clamped s.bbox q ≡ q) → emitted_if moved s q ≡ emission_if s (maybe moved q)
+if_is : (end : Option Pt) (s : GeomEncoder) → ((q : Pt) → end ≡ Some q → clamped s.bbox q ≡ q) → emitted_if s end ≡ emission_if s end
 unfolding emission
-if_is true s q f = ap (emitted_at s) (sym (f refl))
-if_is false s q f = refl
+if_is (Some q) s f = ap (emitted_at s) (sym (f q refl))
+if_is None s f = refl
 
 module _ (d : Draft) (p : Pt) (l : List Pt) (e : Ends) (B : Brought d.bbox l e) (q : Pt) (c : q ≡ clamped d.bbox p) (plan : Plan) (P : Planned plan d e q) where
   abbrev e1 : Emission
-  e1 = emitted_if e.moved0 (state_in d) e.end0
+  e1 = emitted_if (state_in d) e.end0
 
   abbrev e2 : Emission
-  e2 = emitted_if e.moved1 (state_in plan.first) e.end1
+  e2 = emitted_if (state_in plan.first) e.end1
 
   abbrev e3 : Emission
   e3 = emitted_at (state_in plan.second) q
 
   box1 : (state_in plan.first).bbox ≡ d.bbox
-  box1 = ap (λ (s : GeomEncoder). s.bbox) P.first ∙ same_box e.moved0 (state_in d) e.end0
+  box1 = ap (λ (s : GeomEncoder). s.bbox) P.first ∙ same_box e.end0 (state_in d)
 
   box2 : (state_in plan.second).bbox ≡ d.bbox
-  box2 = ap (λ (s : GeomEncoder). s.bbox) P.second ∙ same_box e.moved1 (state_in plan.first) e.end1 ∙ box1
+  box2 = ap (λ (s : GeomEncoder). s.bbox) P.second ∙ same_box e.end1 (state_in plan.first) ∙ box1
 
-  is1 : e1 ≡ emission_if (state_in d) (maybe e.moved0 e.end0)
-  is1 = if_is e.moved0 (state_in d) e.end0 B.in0
+  is1 : e1 ≡ emission_if (state_in d) e.end0
+  is1 = if_is e.end0 (state_in d) B.in0
 
-  is2 : e2 ≡ emission_if e1.next (maybe e.moved1 e.end1)
+  is2 : e2 ≡ emission_if e1.next e.end1
   is2 =
-      if_is e.moved1 (state_in plan.first) e.end1 (λ m. ap (λ (b : BBox). clamped b e.end1) box1 ∙ B.in1 m) ∙
-      ap (λ (s : GeomEncoder). emission_if s (maybe e.moved1 e.end1)) P.first
+      if_is e.end1 (state_in plan.first) (λ c m. ap (λ (b : BBox). clamped b c) box1 ∙ B.in1 c m) ∙
+      ap (λ (s : GeomEncoder). emission_if s e.end1) P.first
 
   is3 : e3 ≡ emission e2.next p
   unfolding emission
@@ -160,7 +146,7 @@ module _ (d : Draft) (p : Pt) (l : List Pt) (e : Ends) (B : Brought d.bbox l e) 
   pub point_planned : (out : List ℕ) → emitted (state_in d) (l ++ (p ∷ [])) out ≡ kept (state_in plan.last) (laid_all d plan e q out)
   point_planned out =
       ap (λ (l : List Pt). emitted (state_in d) (l ++ (p ∷ [])) out) (sym B.list) ∙
-      emitted_three (state_in d) (maybe e.moved0 e.end0) (maybe e.moved1 e.end1) p e1 e2 e3 is1 is2 is3 out ∙
+      emitted_three (state_in d) e.end0 e.end1 p e1 e2 e3 is1 is2 is3 out ∙
       ap (λ (s : GeomEncoder). kept s (laid_all d plan e q out)) (sym P.last)
 
 -- ---- what `draw` asks of a good state and a coordinate
@@ -187,10 +173,14 @@ module _ (s : GeomEncoder) (n : ℕ) (v : valid s n ≡ true) (p : Pt) (x : is_c
         (omega (arith, k.taken), omega (arith, k.bounds))
 
     module _ (e : Ends) (B : Brought d.bbox (boundary (state_in d) p) e) (q : Pt) (c : q ≡ clamped d.bbox p) (t : Draft) (f : t ≡ taken_by d e) where
+      near_in : (end : Option Pt) → ((r : Pt) → end ≡ Some r → clamped d.bbox r ≡ r) → in_limit end ≡ true
+      near_in None g = refl
+      near_in (Some r) g = subst (λ (o : Pt). is_coord o ≡ true) (g r refl) (coord_is (clamped_coord d.bbox r ready.good))
+
       near : Near e q
       near = record {
-        end0 = λ m. subst (λ (r : Pt). is_coord r ≡ true) (B.in0 m) (coord_is (clamped_coord d.bbox e.end0 ready.good));
-        end1 = λ m. subst (λ (r : Pt). is_coord r ≡ true) (B.in1 m) (coord_is (clamped_coord d.bbox e.end1 ready.good));
+        end0 = near_in e.end0 B.in0;
+        end1 = near_in e.end1 B.in1;
         last = rw c (coord_is (clamped_coord d.bbox p ready.good));
       }
 
@@ -205,10 +195,9 @@ module _ (s : GeomEncoder) (n : ℕ) (v : valid s n ≡ true) (p : Pt) (x : is_c
       taken_few = rw taken_is (record { skips = omega (arith, k.skips); outs = omega (arith, k.outs) })
 
       -- where no end moved, the point stands alone, and passes on no edge
-      pub stands_alone : (e.moved0 || e.moved1) ≡ false → Alone s t p q
+      pub stands_alone : (e.end0 ≡ None) × (e.end1 ≡ None) → Alone s t p q
       stands_alone h =
-          let (m0, m1) = neither e.moved0 e.moved1 h in
-          let l : boundary (state_in d) p ≡ [] = sym B.list ∙ rw (m0, m1) in
+          let l : boundary (state_in d) p ≡ [] = sym B.list ∙ rw (h.0, h.1) in
           record {
             taken = taken_is;
             none = ap (λ (x : GeomEncoder). boundary x p) (sym drafted) ∙ l;

@@ -4,6 +4,7 @@
 --     Sound fresh_sound add_sound complete_sound after_sound    the rule, and that it is kept
 --     reached_valid                                             the theorem
 --     odd_valid odd_accepted odd_refused                        the example
+use Rattle.std.specs.Prelude.{Option, Some, None}
 use mathlib.Core.Path.{◌≡◌, refl, sym, ◌∙◌, ap, subst}
 use mathlib.Core.Bool.{Bool, true, false, cond, ◌&&◌, ◌||◌}
 use mathlib.Core.List.{List, [], ◌∷◌, ◌++◌}
@@ -25,8 +26,6 @@ use Rattle.clip.specs.declared.BBox.{BBox}
 use Rattle.clip.specs.Domain.{is_coord, is_good}
 use Rattle.words.specs.Geometries.{is_kind, max_words, room}
 use Rattle.words.specs.Commands.{command_word}
-use Rattle.encoder.specs.declared.points.MaybePt.{MaybePt}
-use Rattle.encoder.specs.declared.points.MaybePt.TheVariants.{Nowhere, At}
 use Rattle.encoder.specs.declared.GeomEncoder.{GeomEncoder}
 use Rattle.encoder.specs.States.{fresh, valid, Valid, is_there, Sound}
 use Rattle.encoder.specs.Answers.{done, started}
@@ -69,9 +68,9 @@ pub record Placed (s : GeomEncoder) : Type 0 where
   pub points : is_there s.pt1 ≡ true → s.cmd_offset < s.used
 
 -- ---- an emission leaves it so
-last_there : (m : MaybePt) (q : Pt) → is_last m q ≡ true → is_there m ≡ true
-last_there Nowhere q e = e
-last_there (At p) q e = refl
+last_there : (m : Option Pt) (q : Pt) → is_last m q ≡ true → is_there m ≡ true
+last_there None q e = e
+last_there (Some p) q e = refl
 
 emission_placed : (n : ℕ) (s : GeomEncoder) (p : Pt) → Ready n s → Placed s → (emission s p).next.cmd_offset < (emission s p).next.used
 emission_placed n s p R P = emission_cases (λ (e : Emission). e.next.cmd_offset < e.next.used) s p
@@ -106,7 +105,7 @@ began_sound kind bbox s n = by (is_kind kind) (is_good bbox) refl refl
 end_limit : (s t : GeomEncoder) (p : Pt) → t.xy_end ≡ s.xy_end → in_limit s.xy_end ≡ true → is_coord p ≡ true → in_limit (ended t p).xy_end ≡ true
 end_limit s t p e h c = by (eqb t.kind 1)
   where
-    by : (b : Bool) → in_limit (cond b t.xy_end (At p)) ≡ true
+    by : (b : Bool) → in_limit (cond b t.xy_end (Some p)) ≡ true
     by true = rw e h
     by false = c
 
@@ -189,9 +188,9 @@ odd count n = record {
   tally = record { taken = n; boundary = 0; skipped = n; taken_out = 0 };
   kind = 2;
   bbox = record { x_min = pos 0; x_max = pos 10; y_min = pos 0; y_max = pos 10 };
-  xy_end = Nowhere;
-  pt0 = Nowhere;
-  pt1 = At (point_at (pos 5) (pos 5));
+  xy_end = None;
+  pt0 = None;
+  pt1 = Some (point_at (pos 5) (pos 5));
   cmd_offset = 0;
   count = count;
   used = 0;

@@ -6,14 +6,15 @@
 --     whole_part_on whole_part_off                       a run of all points of a part
 --     run_within run_sound                               how many points a refused run accepted at most, and the state behind an accepted one
 --     points_take points_drop                            the points of a list's first numbers, and of those behind them
+use Rattle.std.specs.Prelude.{Option, Some, None, Result, Ok, Err}
 use mathlib.Core.Path.{◌≡◌, refl, sym, ◌∙◌, ap, subst}
 use mathlib.Core.Bool.{Bool, true, false, cond, ◌&&◌}
 use mathlib.Core.List.{List, [], ◌∷◌, ◌++◌, append-nil}
 use Prim.Native.Nat.{ℕ, zero, suc, ◌+◌, ◌-◌, ◌*◌, ◌/◌, ◌^◌, ◌≤◌, ◌<◌}
 use native.Mathlib.Omega.{arith}
 use borrow.Author.Rules.{sfits_of}
-use borrow.Author.Tests.{lt-leb, le-leb, ltb-true}
-use lib.Dec.{leb, eqb}
+use borrow.Author.Tests.{ltb-true}
+use lib.Dec.{eqb}
 use lib.IntN.{ℤ, pos}
 use lib.Signed.{mag}
 use lib.ListN.{length, take, drop, get_or, drop_of_length-le}
@@ -23,22 +24,15 @@ use mir.Val.{of_z, to_z}
 use mir.Facts.{to_z-of_z}
 use Rattle.promise.specs.Answers.{Written, Gives, kept}
 use Rattle.promise.proofs.Joined.{both}
-use Rattle.refusal.specs.declared.Refusal.{Refusal}
 use Rattle.clip.specs.declared.Pt.{Pt}
-use Rattle.encoder.specs.declared.points.MaybePt.{MaybePt}
-use Rattle.encoder.specs.declared.points.MaybePt.TheVariants.{Nowhere, At}
 use Rattle.encoder.specs.declared.GeomEncoder.{GeomEncoder}
-use Rattle.encoder.specs.declared.Drawn.{Drawn}
 use Rattle.encoder.specs.declared.Edges.{Edges}
-use Rattle.encoder.specs.declared.Drawn.TheVariants.{Done, Refused as NotDrawn}
 use Rattle.encoder.specs.Answers.{said_drawn, done, turned}
 use Rattle.encoder.specs.Adding.{point_at, added}
 use Rattle.encoder.specs.Calls.{Call, add, complete, call, part_calls}
 use Rattle.encoder.specs.declared.stretch.Stretch.{Stretch}
 use Rattle.encoder.specs.Stretches.{point_in, stretched}
 use Rattle.encoder.specs.States.{valid, is_there, Sound, is_placed}
-use Rattle.encoder.specs.declared.whole_job.Course.{Course}
-use Rattle.encoder.specs.declared.whole_job.Course.TheVariants.{On, Off}
 use Rattle.encoder.specs.Jobs.{points_of, part, Outcome, on, off, taken, stopped, go, add_calls, added_run, outcome_of, end_of}
 use Rattle.encoder.proofs.States.{valid_facts}
 use Rattle.encoder.proofs.Reached.{valid_is, add_sound}
@@ -46,6 +40,7 @@ use Rattle.encoder.proofs.Callers.{stretch_keeps}
 use Rattle.encoder.proofs.Courses.{go_on, go_off, off_list, then, go_then}
 use Rattle.encoder.proofs.Within.{go_sound}
 use Rattle.encoder.proofs.Turns.{points_at, part_more, part_over, Adding}
+use Rattle.refusal.specs.declared.Refused.{Refused}
 
 -- ---- `add_run`: the points up to i are added; those behind them give the rest
 pub record Running (l : List ℤ) (from to : ℕ) (out₀ : List ℕ) (s : GeomEncoder) (out : List ℕ) (q : GeomEncoder) (i : ℕ) : Type 0 where
@@ -69,7 +64,7 @@ module _ (l : List ℤ) (from to : ℕ) (out₀ : List ℕ) (s : GeomEncoder) (k
   }
 
   module _ (out : List ℕ) (q : GeomEncoder) (i : ℕ) (I : Running l from to out₀ s out q i) where
-    pub run_all : to ≤ i → Gives (go (add_calls (part (points_of l) from to)) from s out₀) (outcome_of to (On q)) out
+    pub run_all : to ≤ i → Gives (go (add_calls (part (points_of l) from to)) from s out₀) (outcome_of to (Ok q)) out
     run_all h =
         let e : i ≡ to = omega (arith, I.upto) in
         rw (I.rest, part_over (points_of l) i to e) (record { answer = ap (λ (n : ℕ). on n q) (sym e); memory = refl })
@@ -87,7 +82,7 @@ module _ (l : List ℤ) (from to : ℕ) (out₀ : List ℕ) (s : GeomEncoder) (k
     pub run_valid : valid q (length out) ≡ true
     run_valid = valid_is q (length out) I.sound.valid
 
-    module _ (h : i < to) (r : Drawn) (o : List ℕ)
+    module _ (h : i < to) (r : Result (GeomEncoder × Edges) (Refused GeomEncoder)) (o : List ℕ)
         (m : mag (get_or l (2 * i) (pos 0)) < 2 ^ 31) (n : mag (get_or l (2 * i + 1) (pos 0)) < 2 ^ 31)
         (g : Gives (added q (point_at (to_z w32 (of_z w32 (get_or l (2 * i) (pos 0)))) (to_z w32 (of_z w32 (get_or l (2 * i + 1) (pos 0))))) out) (said_drawn r) o) where
       given : Gives (call (add (point_in l i)) q out) (said_drawn r) o
@@ -96,14 +91,14 @@ module _ (l : List ℤ) (from to : ℕ) (out₀ : List ℕ) (s : GeomEncoder) (k
       opened : go (add_calls (part (points_of l) from to)) from s out₀ ≡ go (add (point_in l i) ∷ add_calls (part (points_of l) (i + 1) to)) i q out
       opened = I.rest ∙ rw (part_more l i to h k)
 
-      pub run_turn : (t : GeomEncoder) (v : Edges) → r ≡ Done t v → length o ≡ length out → Running l from to out₀ s o t (i + 1)
+      pub run_turn : (t : GeomEncoder) (v : Edges) → r ≡ Ok (t, v) → length o ≡ length out → Running l from to out₀ s o t (i + 1)
       run_turn t v e f = one_more i q t out o h (rw e at given) f I
 
-      pub run_stop : (x : Refusal) (t : GeomEncoder) → r ≡ NotDrawn x t → Gives (go (add_calls (part (points_of l) from to)) from s out₀) (outcome_of to (Off x i)) o
-      run_stop x t e =
-          let g' : Gives (call (add (point_in l i)) q out) (turned x t) o = rw e at given in
-          rw (opened ∙ go_off (add (point_in l i)) (add_calls (part (points_of l) (i + 1) to)) i q t out o x g')
-          (record { answer = refl; memory = off_list (add (point_in l i)) (add_calls (part (points_of l) (i + 1) to)) i q t out o x g' })
+      pub run_stop : (x : Refused GeomEncoder) → r ≡ Err x → Gives (go (add_calls (part (points_of l) from to)) from s out₀) (outcome_of to (Err (record { refusal = x.refusal; kept = i }))) o
+      run_stop x e =
+          let g' : Gives (call (add (point_in l i)) q out) (turned x.refusal x.kept) o = rw e at given in
+          rw (opened ∙ go_off (add (point_in l i)) (add_calls (part (points_of l) (i + 1) to)) i q x.kept out o x.refusal g')
+          (record { answer = refl; memory = off_list (add (point_in l i)) (add_calls (part (points_of l) (i + 1) to)) i q x.kept out o x.refusal g' })
 
 -- ---- `add_each`: i points of the list are added, from any state
 pub record Each (l : List ℤ) (out₀ : List ℕ) (s : GeomEncoder) (out : List ℕ) (q : GeomEncoder) (i : ℕ) : Type 0 where
@@ -121,13 +116,13 @@ count_points (x ∷ []) = omega arith
 count_points (x ∷ y ∷ l) = let h = count_points l in omega arith
 
 module _ (l : List ℤ) (out₀ : List ℕ) (s : GeomEncoder) (out : List ℕ) (q : GeomEncoder) (i : ℕ) (I : Each l out₀ s out q i) where
-  pub each_all : length l / 2 ≤ i → Gives (added_run s l out₀) (end_of l (On q)) out
+  pub each_all : length l / 2 ≤ i → Gives (added_run s l out₀) (end_of l (Ok q)) out
   each_all h =
       let e : i ≡ length l / 2 = omega (arith, I.upto) in
       let n : length (points_of l) ≤ i = omega (arith, count_points l) in
       rw (I.rest, drop_of_length-le (points_of l) n) (record { answer = ap (λ (n : ℕ). on n q) (sym e); memory = refl })
 
-  module _ (h : i < length l / 2) (r : Drawn) (o : List ℕ)
+  module _ (h : i < length l / 2) (r : Result (GeomEncoder × Edges) (Refused GeomEncoder)) (o : List ℕ)
       (m : mag (get_or l (2 * i) (pos 0)) < 2 ^ 31) (n : mag (get_or l (2 * i + 1) (pos 0)) < 2 ^ 31)
       (g : Gives (added q (point_at (to_z w32 (of_z w32 (get_or l (2 * i) (pos 0)))) (to_z w32 (of_z w32 (get_or l (2 * i + 1) (pos 0))))) out) (said_drawn r) o) where
     asked : Gives (call (add (point_in l i)) q out) (said_drawn r) o
@@ -136,19 +131,19 @@ module _ (l : List ℤ) (out₀ : List ℕ) (s : GeomEncoder) (out : List ℕ) (
     next_call : added_run s l out₀ ≡ go (add (point_in l i) ∷ add_calls (drop (i + 1) (points_of l))) i q out
     next_call = I.rest ∙ rw (points_at l i h)
 
-    pub each_turn : (t : GeomEncoder) (v : Edges) → r ≡ Done t v → length o ≡ length out → Each l out₀ s o t (i + 1)
+    pub each_turn : (t : GeomEncoder) (v : Edges) → r ≡ Ok (t, v) → length o ≡ length out → Each l out₀ s o t (i + 1)
     each_turn t v e f = record { upto = omega arith; long = f ∙ I.long; rest = next_call ∙ go_on (add (point_in l i)) (add_calls (drop (i + 1) (points_of l))) i q t out o (rw e at asked) }
 
-    pub each_stop : (x : Refusal) (t : GeomEncoder) → r ≡ NotDrawn x t → Gives (added_run s l out₀) (end_of l (Off x i)) o
-    each_stop x t e =
-        let g' : Gives (call (add (point_in l i)) q out) (turned x t) o = rw e at asked in
-        rw (next_call ∙ go_off (add (point_in l i)) (add_calls (drop (i + 1) (points_of l))) i q t out o x g')
-        (record { answer = refl; memory = off_list (add (point_in l i)) (add_calls (drop (i + 1) (points_of l))) i q t out o x g' })
+    pub each_stop : (x : Refused GeomEncoder) → r ≡ Err x → Gives (added_run s l out₀) (end_of l (Err (record { refusal = x.refusal; kept = i }))) o
+    each_stop x e =
+        let g' : Gives (call (add (point_in l i)) q out) (turned x.refusal x.kept) o = rw e at asked in
+        rw (next_call ∙ go_off (add (point_in l i)) (add_calls (drop (i + 1) (points_of l))) i q x.kept out o x.refusal g')
+        (record { answer = refl; memory = off_list (add (point_in l i)) (add_calls (drop (i + 1) (points_of l))) i q x.kept out o x.refusal g' })
 
 -- ---- `add_points`: the two tests make a state sound, and all points are a run
-placed_is : (p : MaybePt) (place used : ℕ) → is_placed p place used ≡ true → is_there p ≡ true → place < used
-placed_is Nowhere place used e h = absurd (let z : ◌≡◌ {A = ℕ} 0 1 = cc in omega arith)
-placed_is (At p) place used e h = ltb-true place used e
+placed_is : (p : Option Pt) (place used : ℕ) → is_placed p place used ≡ true → is_there p ≡ true → place < used
+placed_is None place used e h = absurd (let z : ◌≡◌ {A = ℕ} 0 1 = cc in omega arith)
+placed_is (Some p) place used e h = ltb-true place used e
 
 module _ (s : GeomEncoder) (n : ℕ) (v p : Bool) (e : v ≡ valid s n) (f : p ≡ is_placed s.pt1 s.cmd_offset s.used) where
   pub tests_sound : (v && p) ≡ true → Sound s n
@@ -156,7 +151,7 @@ module _ (s : GeomEncoder) (n : ℕ) (v p : Bool) (e : v ≡ valid s n) (f : p �
       let (a, b) = both v p h in
       record { valid = valid_facts s n (sym e ∙ a); points = placed_is s.pt1 s.cmd_offset s.used (sym f ∙ b) }
 
-pub whole_run : (l : List ℤ) (s : GeomEncoder) (out : List ℕ) (r : Course) (o : List ℕ) →
+pub whole_run : (l : List ℤ) (s : GeomEncoder) (out : List ℕ) (r : Result GeomEncoder (Refused ℕ)) (o : List ℕ) →
     Gives (go (add_calls (part (points_of l) 0 (length l / 2))) 0 s out) (outcome_of (length l / 2) r) o → Gives (added_run s l out) (end_of l r) o
 unfolding added_run
 whole_run l s out r o g =
@@ -193,7 +188,7 @@ calls_split : (xs ys : List Pt) → part_calls (xs ++ ys) ≡ add_calls xs ++ pa
 calls_split [] ys = refl
 calls_split (x ∷ xs) ys = ap (λ (cs : List Call). add x ∷ cs) (calls_split xs ys)
 
-module _ (l : List ℤ) (i : ℕ) (q : GeomEncoder) (out : List ℕ) (ys : List Pt) (r : Course) (o : List ℕ) (g : Gives (added_run q l out) (end_of l r) o) where
+module _ (l : List ℤ) (i : ℕ) (q : GeomEncoder) (out : List ℕ) (ys : List Pt) (r : Result GeomEncoder (Refused ℕ)) (o : List ℕ) (g : Gives (added_run q l out) (end_of l r) o) where
   run_then : go (part_calls (points_of l ++ ys)) i q out ≡ then (shifted i (end_of l r)) (part_calls ys) o
   unfolding added_run
   run_then =
@@ -202,11 +197,11 @@ module _ (l : List ℤ) (i : ℕ) (q : GeomEncoder) (out : List ℕ) (ys : List 
       ∙ ap (λ (w : Written Outcome (List ℕ)). then w.answer (part_calls ys) w.memory) (ap (λ (n : ℕ). go (add_calls (points_of l)) n q out) z ∙ go_shift (add_calls (points_of l)) i 0 q out)
       ∙ (λ k. then (shifted i (sym g.answer k)) (part_calls ys) (sym g.memory k))
 
-  pub run_on : (t : GeomEncoder) → r ≡ On t → go (part_calls (points_of l ++ ys)) i q out ≡ go (part_calls ys) (i + length l / 2) t o
-  run_on t e = run_then ∙ ap (λ (c : Course). then (shifted i (end_of l c)) (part_calls ys) o) e
+  pub run_on : (t : GeomEncoder) → r ≡ Ok t → go (part_calls (points_of l ++ ys)) i q out ≡ go (part_calls ys) (i + length l / 2) t o
+  run_on t e = run_then ∙ ap (λ (c : Result GeomEncoder (Refused ℕ)). then (shifted i (end_of l c)) (part_calls ys) o) e
 
-  pub run_off : (to : ℕ) (x : Refusal) (k : ℕ) → r ≡ Off x k → Gives (go (part_calls (points_of l ++ ys)) i q out) (outcome_of to (Off x (i + k))) o
-  run_off to x k e = rw (run_then ∙ ap (λ (c : Course). then (shifted i (end_of l c)) (part_calls ys) o) e) (record { answer = refl; memory = refl })
+  pub run_off : (to : ℕ) (x : Refused ℕ) → r ≡ Err x → Gives (go (part_calls (points_of l ++ ys)) i q out) (outcome_of to (Err (record { refusal = x.refusal; kept = i + x.kept }))) o
+  run_off to x e = rw (run_then ∙ ap (λ (c : Result GeomEncoder (Refused ℕ)). then (shifted i (end_of l c)) (part_calls ys) o) e) (record { answer = refl; memory = refl })
 
 -- ---- a refused run has accepted no more points than there are
 said_values : Outcome → ℕ
@@ -232,15 +227,15 @@ calls_long : (ps : List Pt) → length (add_calls ps) ≡ length ps
 calls_long [] = refl
 calls_long (p ∷ ps) = ap suc (calls_long ps)
 
-pub run_within : (l : List ℤ) (s : GeomEncoder) (out : List ℕ) (x : Refusal) (k : ℕ) (o : List ℕ) → Gives (added_run s l out) (end_of l (Off x k)) o → k ≤ length l / 2
+pub run_within : (l : List ℤ) (s : GeomEncoder) (out : List ℕ) (x : Refused ℕ) (o : List ℕ) → Gives (added_run s l out) (end_of l (Err x)) o → x.kept ≤ length l / 2
 unfolding added_run said_values
-run_within l s out x k o g =
+run_within l s out x o g =
     let h = off_count (add_calls (points_of l)) 0 s out in
-    let e : k ≡ said_values (go (add_calls (points_of l)) 0 s out).answer = ap said_values g.answer in
+    let e : x.kept ≡ said_values (go (add_calls (points_of l)) 0 s out).answer = ap said_values g.answer in
     omega (arith, calls_long (points_of l), count_points l)
 
 -- ---- an accepted one keeps the state sound
-pub run_sound : (l : List ℤ) (s : GeomEncoder) (out : List ℕ) (t : GeomEncoder) (o : List ℕ) → Sound s (length out) → Gives (added_run s l out) (end_of l (On t)) o → Sound t (length o)
+pub run_sound : (l : List ℤ) (s : GeomEncoder) (out : List ℕ) (t : GeomEncoder) (o : List ℕ) → Sound s (length out) → Gives (added_run s l out) (end_of l (Ok t)) o → Sound t (length o)
 unfolding added_run
 run_sound l s out t o S g = rw g.memory (go_sound (add_calls (points_of l)) 0 s out S (length l / 2) t (sym g.answer))
 
@@ -261,14 +256,14 @@ points_drop (suc n) (x ∷ []) = rw (twice_suc n)
 points_drop (suc n) (x ∷ y ∷ l) = rw (twice_suc n) (points_drop n l)
 
 -- ---- a run of all points of a part, which is then to be completed
-module _ (l : List ℤ) (from to : ℕ) (h : from ≤ to) (s : GeomEncoder) (out : List ℕ) (S : Sound s (length out)) (r : Course) (o : List ℕ)
+module _ (l : List ℤ) (from to : ℕ) (h : from ≤ to) (s : GeomEncoder) (out : List ℕ) (S : Sound s (length out)) (r : Result GeomEncoder (Refused ℕ)) (o : List ℕ)
     (g : Gives (go (add_calls (part (points_of l) from to)) from s out) (outcome_of to r) o) where
   part_then : go (part_calls (part (points_of l) from to)) from s out ≡ then (outcome_of to r) (complete ∷ []) o
   part_then =
       ap (λ (ps : List Pt). go (part_calls ps) from s out) (sym (append-nil (part (points_of l) from to))) ∙ ap (λ (cs : List Call). go cs from s out) (calls_split (part (points_of l) from to) [])
       ∙ go_then (complete ∷ []) (add_calls (part (points_of l) from to)) from s out ∙ (λ k. then (sym g.answer k) (complete ∷ []) (sym g.memory k))
 
-  pub whole_part_on : (q : GeomEncoder) → r ≡ On q → length o ≡ length out → Adding l from to out s o q to
+  pub whole_part_on : (q : GeomEncoder) → r ≡ Ok q → length o ≡ length out → Adding l from to out s o q to
   whole_part_on q e f = record {
     upto = omega arith;
     long = f;
@@ -276,5 +271,5 @@ module _ (l : List ℤ) (from to : ℕ) (h : from ≤ to) (s : GeomEncoder) (out
     rest = part_then ∙ rw (e, part_over (points_of l) to to refl);
   }
 
-  pub whole_part_off : (x : Refusal) (n : ℕ) → r ≡ Off x n → Gives (go (part_calls (part (points_of l) from to)) from s out) (outcome_of to (Off x n)) o
-  whole_part_off x n e = rw (part_then, e) (record { answer = refl; memory = refl })
+  pub whole_part_off : (x : Refused ℕ) → r ≡ Err x → Gives (go (part_calls (part (points_of l) from to)) from s out) (outcome_of to (Err x)) o
+  whole_part_off x e = rw (part_then, e) (record { answer = refl; memory = refl })

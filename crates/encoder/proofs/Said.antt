@@ -1,13 +1,10 @@
 -- An answer is known by what it says: one value for each answer enum.
+use Rattle.std.specs.Prelude.{Result, Ok, Err}
 use mathlib.Core.Path.{◌≡◌, refl, sym, ◌∙◌, ap}
 use mathlib.Core.List.{List, [], ◌∷◌}
 use Rattle.refusal.specs.Said.{Said}
 use Rattle.refusal.proofs.Laws.{one_refusal, never_both, numbered}
 use Rattle.encoder.specs.declared.GeomEncoder.{GeomEncoder}
-use Rattle.encoder.specs.declared.Started.{Started}
-use Rattle.encoder.specs.declared.Started.TheVariants.{Fresh, Refused as NotStarted}
-use Rattle.encoder.specs.declared.Drawn.{Drawn}
-use Rattle.encoder.specs.declared.Drawn.TheVariants.{Done, Refused as NotDrawn}
 use Rattle.encoder.specs.Answers.{Counted, done, turned, said_drawn, said_started, none, edges_of, passed}
 use Rattle.encoder.specs.declared.Edges.{Edges}
 use Rattle.refusal.specs.declared.Refusal.{Refusal}
@@ -16,21 +13,22 @@ use mathlib.Core.Bool.{Bool, true, false, cond}
 use lib.Dec.{eqb}
 use borrow.Author.Tests.{eq-eqb, ne_eqb}
 use native.Mathlib.Omega.{arith}
+use Rattle.refusal.specs.declared.Refused.{Refused}
 
-pub one_drawn : (r r' : Drawn) → said_drawn r ≡ said_drawn r' → edges_of r ≡ edges_of r' → r ≡ r'
-one_drawn (Done s n) (Done t m) e f = let j : s ≡ t = ap (λ (x : Said Counted). x.values.state) e in λ k. Done (j k) (f k)
-one_drawn (Done s n) (NotDrawn r t) e f = absurd (never_both r e)
-one_drawn (NotDrawn r s) (Done t m) e f = absurd (never_both r (sym e))
-one_drawn (NotDrawn r s) (NotDrawn r' t) e f =
-    let i : r ≡ r' = one_refusal r r' e in
-    let j : s ≡ t = ap (λ (x : Said Counted). x.values.state) e in
-    λ k. NotDrawn (i k) (j k)
+pub one_drawn : (r r' : Result (GeomEncoder × Edges) (Refused GeomEncoder)) → said_drawn r ≡ said_drawn r' → edges_of r ≡ edges_of r' → r ≡ r'
+one_drawn (Ok (s, n)) (Ok (t, m)) e f = let j : s ≡ t = ap (λ (x : Said Counted). x.values.state) e in λ k. Ok (j k, f k)
+one_drawn (Ok (s, n)) (Err x) e f = absurd (never_both x.refusal e)
+one_drawn (Err x) (Ok (t, m)) e f = absurd (never_both x.refusal (sym e))
+one_drawn (Err x) (Err y) e f =
+    let i : x.refusal ≡ y.refusal = one_refusal x.refusal y.refusal e in
+    let j : x.kept ≡ y.kept = ap (λ (x : Said Counted). x.values.state) e in
+    λ k. Err (record { refusal = i k; kept = j k })
 
-pub one_started : (r r' : Started) → said_started r ≡ said_started r' → r ≡ r'
-one_started (Fresh s) (Fresh t) e = let l : s ∷ [] ≡ t ∷ [] = ap (λ (x : Said (List GeomEncoder)). x.values) e in let k : s ≡ t = cc in ap Fresh k
-one_started (Fresh s) (NotStarted r) e = absurd (never_both r e)
-one_started (NotStarted r) (Fresh t) e = absurd (never_both r (sym e))
-one_started (NotStarted r) (NotStarted r') e = ap NotStarted (one_refusal r r' e)
+pub one_started : (r r' : Result GeomEncoder Refusal) → said_started r ≡ said_started r' → r ≡ r'
+one_started (Ok s) (Ok t) e = let l : s ∷ [] ≡ t ∷ [] = ap (λ (x : Said (List GeomEncoder)). x.values) e in let k : s ≡ t = cc in ap Ok k
+one_started (Ok s) (Err r) e = absurd (never_both r e)
+one_started (Err r) (Ok t) e = absurd (never_both r (sym e))
+one_started (Err r) (Err r') e = ap Err (one_refusal r r' e)
 
 -- ---- the edges that an answer passes on: those of the point where it is accepted, none where it is refused
 module _ (a : Said Counted) (n : Edges) where

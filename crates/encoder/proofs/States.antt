@@ -1,9 +1,10 @@
 -- STATE as facts, and what they give the calls; tests that a call answered.
+use Rattle.std.specs.Prelude.{None}
 use mathlib.Core.Path.{◌≡◌, refl}
-use mathlib.Core.Bool.{Bool, true, false, cond, not, ◌&&◌, ◌||◌}
-use Prim.Native.Nat.{ℕ, ◌+◌, ◌/◌, ◌≤◌}
+use mathlib.Core.Bool.{Bool, true, false, not, ◌&&◌, ◌||◌}
+use Prim.Native.Nat.{ℕ, ◌+◌, ◌/◌}
 use native.Mathlib.Omega.{arith}
-use borrow.Author.Tests.{leb-true, ltb-true, eqb-true, leb-false, not-true, not-false}
+use borrow.Author.Tests.{leb-true, ltb-true, eqb-true, not-true, not-false}
 use lib.Dec.{leb, ltb, eqb}
 use Rattle.promise.proofs.Cases.{told_yes, told_no}
 use Rattle.promise.proofs.Joined.{both}
@@ -16,7 +17,6 @@ use Rattle.encoder.specs.Figures.{figures_fit}
 use Rattle.encoder.specs.States.{fresh, valid, Valid}
 use Rattle.encoder.specs.Tallies.{untouched, balanced}
 use Rattle.encoder.specs.declared.tally.Tally.{Tally}
-use Rattle.encoder.specs.declared.points.MaybePt.TheVariants.{Nowhere}
 use Rattle.clip.specs.declared.BBox.{BBox}
 use Rattle.encoder.specs.Adding.{counted}
 use Rattle.encoder.specs.Planning.{Ready}
@@ -72,8 +72,3 @@ valid_ready {s} {n} v = record { few = omega (arith, v.fits, room_cap n); counte
 -- a point that is counted changes nothing of it
 pub counted_ready : (n m : ℕ) {k : ℕ} {s : GeomEncoder} → Ready k s → Ready k (counted n m s)
 counted_ready n m R = record { few = R.few; counted = R.counted; good = R.good; at0 = R.at0; at1 = R.at1 }
-
--- ---- a fresh state, as the code builds it
-pub fresh_is : (kind : ℕ) (bbox : BBox) (t : Tally) → t ≡ untouched →
-    record { tally = t; kind = kind; bbox = bbox; xy_end = Nowhere; pt0 = Nowhere; pt1 = Nowhere; cmd_offset = 0; count = 0; used = 0 } ≡ fresh kind bbox
-fresh_is kind bbox t e = rw e

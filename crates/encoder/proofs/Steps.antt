@@ -2,6 +2,7 @@
 --     emitted_cases emission_cases command_cases    what holds in each case holds of an emission, and of the command that is pushed
 --     Step at_step emission_step if_step    the run ends at the words used, which never fall; the state stays ready; the count is not zero
 --     emitted_three    three emissions, one after the other, as three runs laid
+use Rattle.std.specs.Prelude.{Option, Some, None}
 use mathlib.Core.Path.{◌≡◌, refl, sym, ◌∙◌, ap}
 use mathlib.Core.Bool.{Bool, true, false, cond}
 use mathlib.Core.List.{List, [], ◌∷◌, ◌++◌}
@@ -17,10 +18,8 @@ use Rattle.clip.specs.declared.Pt.{Pt}
 use Rattle.clip.specs.Domain.{is_coord}
 use Rattle.clip.proofs.Callers.{coord_is}
 use Rattle.words.specs.Commands.{command_word}
-use Rattle.encoder.specs.declared.points.MaybePt.{MaybePt}
-use Rattle.encoder.specs.declared.points.MaybePt.TheVariants.{Nowhere, At}
 use Rattle.encoder.specs.declared.GeomEncoder.{GeomEncoder}
-use Rattle.encoder.specs.Points.{clamped, is_last, last_of}
+use Rattle.encoder.specs.Points.{in_limit, clamped, is_last, last_of}
 use Rattle.encoder.specs.Boundary.{list_of}
 use Rattle.encoder.proofs.Coords.{clamped_coord}
 use Rattle.encoder.specs.Pushed.{command, move_to, line_to}
@@ -116,34 +115,34 @@ module _ (n : ℕ) (s : GeomEncoder) (R : Ready n s) where
   unfolding emission
   emission_step p = at_step (clamped s.bbox p) (coord_is (clamped_coord s.bbox p R.good))
 
-  pub if_step : (moved : Bool) (q : Pt) → (moved ≡ true → is_coord q ≡ true) → Step n s (emitted_if moved s q)
-  if_step true q c = at_step q (c refl)
-  if_step false q c = record { ends = omega arith; grows = omega arith; ready = record { few = omega (arith, R.few); counted = R.counted; good = R.good; at0 = R.at0; at1 = R.at1 } }
+  pub if_step : (end : Option Pt) → in_limit end ≡ true → Step n s (emitted_if s end)
+  if_step (Some q) c = at_step q c
+  if_step None c = record { ends = omega arith; grows = omega arith; ready = record { few = omega (arith, R.few); counted = R.counted; good = R.good; at0 = R.at0; at1 = R.at1 } }
 
-pub same_box : (moved : Bool) (s : GeomEncoder) (q : Pt) → (emitted_if moved s q).next.bbox ≡ s.bbox
-same_box true s q = emitted_cases (λ (e : Emission). e.next.bbox ≡ s.bbox) s q (λ e. refl) (λ e. refl) refl
-same_box false s q = refl
+pub same_box : (end : Option Pt) (s : GeomEncoder) → (emitted_if s end).next.bbox ≡ s.bbox
+same_box (Some q) s = emitted_cases (λ (e : Emission). e.next.bbox ≡ s.bbox) s q (λ e. refl) (λ e. refl) refl
+same_box None s = refl
 
 -- ---- three emissions
 abbrev three : Emission → Emission → Emission → List ℕ → Written GeomEncoder (List ℕ)
 three e f g out = kept g.next (lay g.at g.run (lay f.at f.run (lay e.at e.run out)))
 
-three_by : (s : GeomEncoder) (a b : MaybePt) (p : Pt) (out : List ℕ) →
+three_by : (s : GeomEncoder) (a b : Option Pt) (p : Pt) (out : List ℕ) →
     emitted s (list_of a ++ list_of b ++ (p ∷ [])) out ≡ three (emission_if s a) (emission_if (emission_if s a).next b) (emission (emission_if (emission_if s a).next b).next p) out
-three_by s Nowhere Nowhere p out =
+three_by s None None p out =
     let z = lay_nothing s.used out in
     ap (λ (l : List ℕ). kept (emission s p).next (lay (emission s p).at (emission s p).run l)) (sym (ap (lay s.used []) z ∙ z))
-three_by s Nowhere (At b) p out =
+three_by s None (Some b) p out =
     let f = emission s b in
     let g = emission f.next p in
     ap (λ (l : List ℕ). kept g.next (lay g.at g.run (lay f.at f.run l))) (sym (lay_nothing s.used out))
-three_by s (At a) Nowhere p out =
+three_by s (Some a) None p out =
     let e = emission s a in
     let g = emission e.next p in
     ap (λ (l : List ℕ). kept g.next (lay g.at g.run l)) (sym (lay_nothing e.next.used (lay e.at e.run out)))
-three_by s (At a) (At b) p out = refl
+three_by s (Some a) (Some b) p out = refl
 
-pub emitted_three : (s : GeomEncoder) (a b : MaybePt) (p : Pt) (e f g : Emission) → e ≡ emission_if s a → f ≡ emission_if e.next b → g ≡ emission f.next p → (out : List ℕ) →
+pub emitted_three : (s : GeomEncoder) (a b : Option Pt) (p : Pt) (e f g : Emission) → e ≡ emission_if s a → f ≡ emission_if e.next b → g ≡ emission f.next p → (out : List ℕ) →
     emitted s (list_of a ++ list_of b ++ (p ∷ [])) out ≡ kept g.next (lay g.at g.run (lay f.at f.run (lay e.at e.run out)))
 emitted_three s a b p e f g i j k out =
     let j' = j ∙ ap (λ (x : Emission). emission_if x.next b) i in

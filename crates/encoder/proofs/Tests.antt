@@ -1,4 +1,5 @@
 -- Laws of the tests: a point of the box, a point that is taken, a state that a stretch starts from.
+use Rattle.std.specs.Prelude.{Option, Some, None}
 use mathlib.Core.Path.{◌≡◌, refl, sym, subst}
 use mathlib.Core.Bool.{Bool, true, false, cond, not, ◌&&◌, ◌||◌}
 use Prim.Native.Nat.{ℕ, ◌+◌, ◌≤◌, ◌<◌}
@@ -22,8 +23,6 @@ use Rattle.whole.proofs.Cases.{by_lt}
 use Rattle.clip.proofs.Callers.{coord_is, good_facts, good_proper}
 use Rattle.whole.proofs.Parts.{zarith}
 use mathlib.Core.Logic.{⊎_elim}
-use Rattle.encoder.specs.declared.points.MaybePt.{MaybePt}
-use Rattle.encoder.specs.declared.points.MaybePt.TheVariants.{Nowhere, At}
 use Rattle.encoder.specs.declared.GeomEncoder.{GeomEncoder}
 use Rattle.encoder.specs.Points.{clamp_to, clamped, same_pt, last_of, missing}
 use Rattle.encoder.specs.Boundary.{outside}
@@ -73,26 +72,6 @@ neither false false e = (refl, refl)
 neither true u e = absurd (let z : ◌≡◌ {A = ℕ} 0 1 = cc in omega arith)
 neither false true e = absurd (let z : ◌≡◌ {A = ℕ} 0 1 = cc in omega arith)
 
--- ---- the returns of `is_taken_out`
-module _ (ring b : Bool) where
-  pub no_ring : not ring ≡ true → false ≡ (ring && b)
-  no_ring h = rw (not-true ring h)
-
-  pub a_ring : not ring ≡ false → (r : Bool) → r ≡ b → r ≡ (ring && b)
-  a_ring h r e = rw (not-false ring h) e
-
--- ---- the returns of `is_plain`
-module _ (used room : ℕ) (p : Pt) where
-  pub plain_room : room < used + 6 → false ≡ (leb (used + 6) room && is_coord p)
-  plain_room h = rw (lt-leb (used + 6) room h)
-
-  module _ (h : used + 6 ≤ room) where
-    pub plain_coord : (r : Bool) → r ≡ is_coord p → r ≡ (leb (used + 6) room && is_coord p)
-    plain_coord r e = rw (le-leb (used + 6) room h) e
-
-    pub plain_inside : is_coord p ≡ true → true ≡ (leb (used + 6) room && is_coord p)
-    plain_inside c = rw (le-leb (used + 6) room h, c)
-
 -- ---- a state to start from
 pub record Start (s : GeomEncoder) : Type 0 where
   pub kind : s.kind ≡ 1 → ⊥
@@ -112,9 +91,9 @@ start_facts s e =
     record { kind = eqb-false s.kind 1 (not-true (eqb s.kind 1) f); two = leb-true 2 s.count g; end = end; at0 = at0; at1 = at1 }
 
 -- its pen loses nothing
-there : (m : MaybePt) → not (missing m) ≡ true → At (last_of m) ≡ m
-there Nowhere e = absurd (let z : ◌≡◌ {A = ℕ} 0 1 = cc in omega arith)
-there (At p) e = refl
+there : (m : Option Pt) → not (missing m) ≡ true → Some (last_of m) ≡ m
+there None e = absurd (let z : ◌≡◌ {A = ℕ} 0 1 = cc in omega arith)
+there (Some p) e = refl
 
 pub pen_whole : (s : GeomEncoder) → is_start (draft_of s) ≡ true → state_of s (pen_of s) ≡ s
 pen_whole s e = let S = start_facts s e in rw (there s.xy_end S.end, there s.pt0 S.at0, there s.pt1 S.at1)

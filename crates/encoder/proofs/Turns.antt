@@ -1,4 +1,5 @@
 -- The loops of the job, over plain lists and numbers: what is left to do gives the rest of the answer.
+use Rattle.std.specs.Prelude.{Result, Ok, Err}
 use mathlib.Core.Path.{◌≡◌, refl, sym, ◌∙◌, ap}
 use mathlib.Core.Bool.{Bool, true, false, cond}
 use mathlib.Core.List.{List, [], ◌∷◌}
@@ -10,22 +11,18 @@ use lib.IntN.{ℤ}
 use lib.ListN.{length, drop, get_or, drop_of_length-le}
 use lib.Seq.{drop-cons}
 use Rattle.promise.specs.Answers.{Gives}
-use Rattle.refusal.specs.declared.Refusal.{Refusal}
 use Rattle.clip.specs.declared.Pt.{Pt}
 use Rattle.encoder.specs.declared.GeomEncoder.{GeomEncoder}
-use Rattle.encoder.specs.declared.Drawn.{Drawn}
 use Rattle.encoder.specs.declared.Edges.{Edges}
-use Rattle.encoder.specs.declared.Drawn.TheVariants.{Done, Refused as NotDrawn}
 use Rattle.encoder.specs.Answers.{said_drawn, turned}
 use Rattle.encoder.specs.Completing.{completed}
 use Rattle.encoder.specs.Calls.{complete, call, part_calls}
 use Rattle.encoder.specs.Stretches.{point_in}
-use Rattle.encoder.specs.declared.whole_job.Course.{Course}
-use Rattle.encoder.specs.declared.whole_job.Course.TheVariants.{On, Off}
 use Rattle.encoder.specs.Jobs.{points_of, ends_at, is_job_of, part, job_calls, on, go, outcome_of}
 use Rattle.encoder.specs.States.{Sound}
 use Rattle.encoder.proofs.Within.{go_sound}
 use Rattle.encoder.proofs.Courses.{go_on, go_off, off_list, then, go_then}
+use Rattle.refusal.specs.declared.Refused.{Refused}
 
 -- the element at j, and those behind it
 pub next : {A : Type 0} (l : List A) (j k : ℕ) (d : A) → k ≡ suc j → j < length l → drop j l ≡ get_or l j d ∷ drop k l
@@ -88,17 +85,17 @@ pub add_start : (l : List ℤ) (from to : ℕ) (out : List ℕ) (s : GeomEncoder
 add_start l from to out s h S = record { upto = h; long = refl; sound = S; rest = refl }
 
 module _ (l : List ℤ) (from to : ℕ) (out₀ : List ℕ) (s : GeomEncoder) (out : List ℕ) (q : GeomEncoder) (i : ℕ) (I : Adding l from to out₀ s out q i) where
-  module _ (h : to ≤ i) (r : Drawn) (o : List ℕ) (g : Gives (completed q out) (said_drawn r) o) where
+  module _ (h : to ≤ i) (r : Result (GeomEncoder × Edges) (Refused GeomEncoder)) (o : List ℕ) (g : Gives (completed q out) (said_drawn r) o) where
     over : go (part_calls (part (points_of l) from to)) from s out₀ ≡ go (complete ∷ []) to q out
     over = let e : i ≡ to = omega (arith, I.upto) in I.rest ∙ rw (part_over (points_of l) i to e, e)
 
-    pub part_done : (t : GeomEncoder) (n : Edges) → r ≡ Done t n → Gives (go (part_calls (part (points_of l) from to)) from s out₀) (outcome_of to (On t)) o
+    pub part_done : (t : GeomEncoder) (n : Edges) → r ≡ Ok (t, n) → Gives (go (part_calls (part (points_of l) from to)) from s out₀) (outcome_of to (Ok t)) o
     part_done t v e = rw (over ∙ go_on complete [] to q t out o (rw e at g)) (record { answer = refl; memory = refl })
 
-    pub part_stop : (x : Refusal) (t : GeomEncoder) → r ≡ NotDrawn x t → Gives (go (part_calls (part (points_of l) from to)) from s out₀) (outcome_of to (Off x to)) o
-    part_stop x t e =
-        let g' : Gives (call complete q out) (turned x t) o = rw e at g in
-        rw (over ∙ go_off complete [] to q t out o x g') (record { answer = refl; memory = off_list complete [] to q t out o x g' })
+    pub part_stop : (x : Refused GeomEncoder) → r ≡ Err x → Gives (go (part_calls (part (points_of l) from to)) from s out₀) (outcome_of to (Err (record { refusal = x.refusal; kept = to }))) o
+    part_stop x e =
+        let g' : Gives (call complete q out) (turned x.refusal x.kept) o = rw e at g in
+        rw (over ∙ go_off complete [] to q x.kept out o x.refusal g') (record { answer = refl; memory = off_list complete [] to q x.kept out o x.refusal g' })
 
 -- ---- the parts: `add_parts`
 pub ends_more : (from x : ℕ) (es : List ℕ) (n : ℕ) → ends_at from (x ∷ es) n ≡ true → (from ≤ x) × (ends_at x es n ≡ true)
@@ -123,7 +120,7 @@ pub parts_start : (l : List ℤ) (ends out : List ℕ) (s : GeomEncoder) → end
 parts_start l ends out s e S = record { at = omega arith; long = refl; sound = S; good = e; rest = refl }
 
 module _ (l : List ℤ) (ends out₀ : List ℕ) (s : GeomEncoder) (out : List ℕ) (q : GeomEncoder) (from j : ℕ) (I : Going l ends out₀ s out q from j) where
-  pub parts_all : length ends ≤ j → Gives (go (job_calls (points_of l) 0 ends) 0 s out₀) (outcome_of (length l / 2) (On q)) out
+  pub parts_all : length ends ≤ j → Gives (go (job_calls (points_of l) 0 ends) 0 s out₀) (outcome_of (length l / 2) (Ok q)) out
   parts_all h =
       let d = drop_of_length-le ends h in
       let e : from ≡ length l / 2 = eqb-true from (length l / 2) (rw d at I.good) in
@@ -139,18 +136,18 @@ module _ (l : List ℤ) (ends out₀ : List ℕ) (s : GeomEncoder) (out : List �
     pub part_asked : (from ≤ get_or ends j 0) × ((get_or ends j 0 ≤ length l / 2) × Sound q (length out))
     part_asked = (told.0, (ends_le (get_or ends j 0) (drop (j + 1) ends) (length l / 2) told.1, I.sound))
 
-    module _ (r : Course) (o : List ℕ) (g : Gives (go (part_calls (part (points_of l) from (get_or ends j 0))) from q out) (outcome_of (get_or ends j 0) r) o) where
+    module _ (r : Result GeomEncoder (Refused ℕ)) (o : List ℕ) (g : Gives (go (part_calls (part (points_of l) from (get_or ends j 0))) from q out) (outcome_of (get_or ends j 0) r) o) where
       behind : go (job_calls (points_of l) 0 ends) 0 s out₀ ≡ then (outcome_of (get_or ends j 0) r) (job_calls (points_of l) (get_or ends j 0) (drop (j + 1) ends)) o
       behind = I.rest ∙ rw here (go_then (job_calls (points_of l) (get_or ends j 0) (drop (j + 1) ends)) (part_calls (part (points_of l) from (get_or ends j 0))) from q out ∙
           (λ k. then (sym g.answer k) (job_calls (points_of l) (get_or ends j 0) (drop (j + 1) ends)) (sym g.memory k)))
 
-      sound_after : (t : GeomEncoder) → r ≡ On t → Sound t (length o)
+      sound_after : (t : GeomEncoder) → r ≡ Ok t → Sound t (length o)
       sound_after t e =
           let a : (go (part_calls (part (points_of l) from (get_or ends j 0))) from q out).answer ≡ on (get_or ends j 0) t = sym g.answer ∙ ap (outcome_of (get_or ends j 0)) e in
           rw g.memory (go_sound (part_calls (part (points_of l) from (get_or ends j 0))) from q out I.sound (get_or ends j 0) t a)
 
-      pub parts_turn : (t : GeomEncoder) → r ≡ On t → length o ≡ length out → Going l ends out₀ s o t (get_or ends j 0) (j + 1)
+      pub parts_turn : (t : GeomEncoder) → r ≡ Ok t → length o ≡ length out → Going l ends out₀ s o t (get_or ends j 0) (j + 1)
       parts_turn t e f = record { at = omega arith; long = f ∙ I.long; sound = sound_after t e; good = told.1; rest = rw e at behind }
 
-      pub parts_stop : (x : Refusal) (n : ℕ) → r ≡ Off x n → Gives (go (job_calls (points_of l) 0 ends) 0 s out₀) (outcome_of (length l / 2) (Off x n)) o
-      parts_stop x n e = rw (behind, e) (record { answer = refl; memory = refl })
+      pub parts_stop : (x : Refused ℕ) → r ≡ Err x → Gives (go (job_calls (points_of l) 0 ends) 0 s out₀) (outcome_of (length l / 2) (Err x)) o
+      parts_stop x e = rw (behind, e) (record { answer = refl; memory = refl })

@@ -1,4 +1,5 @@
 -- Laws of the whole job: what each `return` of `finish` and of `encode` gives; and an answer is known by what it says. `good_ends`, `start_refused` and `start_fresh` are for every job, whatever it writes.
+use Rattle.std.specs.Prelude.{Result, Ok, Err}
 use mathlib.Core.Path.{◌≡◌, refl, sym, ◌∙◌, ap, subst}
 use mathlib.Core.Bool.{Bool, true, false, cond, not}
 use mathlib.Core.List.{List, [], ◌∷◌}
@@ -8,7 +9,6 @@ use lib.Dec.{eqb}
 use lib.IntN.{ℤ}
 use lib.ListN.{length}
 use Rattle.promise.specs.Answers.{Written, Gives, kept}
-use Rattle.promise.proofs.Cases.{gives_kept}
 use Rattle.refusal.specs.declared.Refusal.{Refusal}
 use Rattle.refusal.specs.declared.Refusal.TheVariants.{Job, Kind, Box}
 use Rattle.refusal.specs.Said.{Said, accepted, refused}
@@ -17,43 +17,38 @@ use Rattle.clip.specs.declared.BBox.{BBox}
 use Rattle.clip.specs.Domain.{is_good}
 use Rattle.words.specs.Geometries.{is_kind}
 use Rattle.encoder.specs.declared.GeomEncoder.{GeomEncoder}
-use Rattle.encoder.specs.declared.Started.{Started}
-use Rattle.encoder.specs.declared.Started.TheVariants.{Fresh, Refused as NotStarted}
 use Rattle.encoder.specs.States.{fresh, Sound}
 use Rattle.encoder.specs.Answers.{said_started, started}
 use Rattle.encoder.proofs.States.{yes_of, no_of}
 use Rattle.encoder.proofs.Courses.{never_on, same_state}
 use Rattle.encoder.proofs.Reached.{fresh_sound}
-use Rattle.encoder.specs.declared.whole_job.Encoded.{Encoded}
-use Rattle.encoder.specs.declared.whole_job.Encoded.TheVariants.{Words, Refused}
-use Rattle.encoder.specs.declared.whole_job.Course.{Course}
-use Rattle.encoder.specs.declared.whole_job.Course.TheVariants.{On, Off}
-use Rattle.encoder.specs.Jobs.{Outcome, on, off, points_of, ends_at, is_job, job_calls, outcome, outcome_of, end_of, go_all, run, encoded_job, finished_job, said_encoded}
+use Rattle.encoder.specs.Jobs.{Outcome, on, off, points_of, ends_at, is_job, job_calls, outcome, outcome_of, end_of, go_all, run, job_started, encoded_job, finished_job, said_encoded}
+use Rattle.refusal.specs.declared.Refused.{Refused}
 
 -- ---- one value for each answer
-pub one_encoded : (r r' : Encoded) → said_encoded r ≡ said_encoded r' → r ≡ r'
-one_encoded (Words n) (Words m) e = ap (λ (s : Said ℕ). Words s.values) e
-one_encoded (Words n) (Refused r m) e = absurd (never_both r e)
-one_encoded (Refused r n) (Words m) e = absurd (never_both r (sym e))
-one_encoded (Refused r n) (Refused r' m) e =
-    let i : r ≡ r' = one_refusal r r' e in
-    let j : n ≡ m = ap (λ (s : Said ℕ). s.values) e in
-    λ k. Refused (i k) (j k)
+pub one_encoded : (r r' : Result ℕ (Refused ℕ)) → said_encoded r ≡ said_encoded r' → r ≡ r'
+one_encoded (Ok n) (Ok m) e = ap (λ (s : Said ℕ). Ok s.values) e
+one_encoded (Ok n) (Err x) e = absurd (never_both x.refusal e)
+one_encoded (Err x) (Ok m) e = absurd (never_both x.refusal (sym e))
+one_encoded (Err x) (Err y) e =
+    let i : x.refusal ≡ y.refusal = one_refusal x.refusal y.refusal e in
+    let j : x.kept ≡ y.kept = ap (λ (s : Said ℕ). s.values) e in
+    λ k. Err (record { refusal = i k; kept = j k })
 
 said_of_lem : Said ℕ → Outcome → Said ℕ
 said_of_lem d (on n s) = d
 said_of_lem d (off a) = a
 
-pub one_course : (n : ℕ) (r r' : Course) → outcome_of n r ≡ outcome_of n r' → r ≡ r'
+pub one_course : (n : ℕ) (r r' : Result GeomEncoder (Refused ℕ)) → outcome_of n r ≡ outcome_of n r' → r ≡ r'
 unfolding said_of_lem
-one_course n (On s) (On t) e = ap On (same_state e)
-one_course n (On s) (Off r k) e = absurd (never_on (sym e))
-one_course n (Off r k) (On s) e = absurd (never_on e)
-one_course n (Off r k) (Off r' m) e =
-    let f : refused r k ≡ refused r' m = ap (said_of_lem (accepted k)) e in
-    let i : r ≡ r' = one_refusal r r' f in
-    let j : k ≡ m = ap (λ (s : Said ℕ). s.values) f in
-    λ x. Off (i x) (j x)
+one_course n (Ok s) (Ok t) e = ap Ok (same_state e)
+one_course n (Ok s) (Err x) e = absurd (never_on (sym e))
+one_course n (Err x) (Ok s) e = absurd (never_on e)
+one_course n (Err x) (Err y) e =
+    let f : refused x.refusal x.kept ≡ refused y.refusal y.kept = ap (said_of_lem (accepted x.kept)) e in
+    let i : x.refusal ≡ y.refusal = one_refusal x.refusal y.refusal f in
+    let j : x.kept ≡ y.kept = ap (λ (s : Said ℕ). s.values) f in
+    λ k. Err (record { refusal = i k; kept = j k })
 
 -- ---- what the checks tell
 pub good_ends : (points : List ℤ) (ends : List ℕ) → is_job points ends ≡ true → ends_at 0 ends (length points / 2) ≡ true
@@ -66,9 +61,9 @@ good_ends points ends = by (eqb (length ends) 0) (eqb (length points % 2) 0)
     by false false e = absurd (let z : ◌≡◌ {A = ℕ} 0 1 = cc in omega arith)
 
 -- KIND and BOX are those of a fresh encoder: b is what `new` answers
-module _ (kind : ℕ) (bbox : BBox) (b : Started) (f : said_started b ≡ started kind bbox) where
+module _ (kind : ℕ) (bbox : BBox) (b : Result GeomEncoder Refusal) (f : said_started b ≡ started kind bbox) where
   -- f is what an answer is made of what is said
-  pub start_turned : {A M : Type 0} (f : Said ℕ → A) (x : Refusal) → b ≡ NotStarted x → (w : Written A M) (out : M) → Gives (cond (is_kind kind) (cond (is_good bbox) w (kept (f (refused Box 0)) out)) (kept (f (refused Kind 0)) out)) (f (refused x 0)) out
+  pub start_turned : {A M : Type 0} (f : Said ℕ → A) (x : Refusal) → b ≡ Err x → (w : Written A M) (out : M) → Gives (cond (is_kind kind) (cond (is_good bbox) w (kept (f (refused Box 0)) out)) (kept (f (refused Kind 0)) out)) (f (refused x 0)) out
   start_turned f' x g w out = by (is_kind kind) (is_good bbox) (sym (ap said_started g) ∙ f)
     where
       by : (k h : Bool) → refused x [] ≡ cond k (cond h (accepted (fresh kind bbox ∷ [])) (refused Box [])) (refused Kind []) →
@@ -77,10 +72,10 @@ module _ (kind : ℕ) (bbox : BBox) (b : Started) (f : said_started b ≡ starte
       by true false e = record { answer = ap (λ (r : Refusal). f' (refused r 0)) (one_refusal x Box e); memory = refl }
       by false h e = record { answer = ap (λ (r : Refusal). f' (refused r 0)) (one_refusal x Kind e); memory = refl }
 
-  pub start_refused : {M : Type 0} (x : Refusal) → b ≡ NotStarted x → (w : Written (Said ℕ) M) (out : M) → Gives (cond (is_kind kind) (cond (is_good bbox) w (kept (refused Box 0) out)) (kept (refused Kind 0) out)) (refused x 0) out
+  pub start_refused : {M : Type 0} (x : Refusal) → b ≡ Err x → (w : Written (Said ℕ) M) (out : M) → Gives (cond (is_kind kind) (cond (is_good bbox) w (kept (refused Box 0) out)) (kept (refused Kind 0) out)) (refused x 0) out
   start_refused x g w out = start_turned (λ a. a) x g w out
 
-  pub start_fresh : (s : GeomEncoder) → b ≡ Fresh s → (is_kind kind ≡ true) × ((is_good bbox ≡ true) × (s ≡ fresh kind bbox))
+  pub start_fresh : (s : GeomEncoder) → b ≡ Ok s → (is_kind kind ≡ true) × ((is_good bbox ≡ true) × (s ≡ fresh kind bbox))
   start_fresh s g = by (is_kind kind) (is_good bbox) refl refl (sym (ap said_started g) ∙ f)
     where
       by : (k h : Bool) → is_kind kind ≡ k → is_good bbox ≡ h → accepted (s ∷ []) ≡ cond k (cond h (accepted (fresh kind bbox ∷ [])) (refused Box [])) (refused Kind []) →
@@ -89,31 +84,49 @@ module _ (kind : ℕ) (bbox : BBox) (b : Started) (f : said_started b ≡ starte
       by true false i j e = absurd (never_both Box e)
       by false h i j e = absurd (never_both Kind e)
 
--- ---- the returns of `finish`
-module _ (kind : ℕ) (bbox : BBox) (points : List ℤ) (ends out : List ℕ) (v : Bool) (e : v ≡ is_job points ends) where
-  pub job_none : not v ≡ true → Gives (finished_job kind bbox points ends out) (end_of points (Off Job 0)) out
+-- ---- the returns of `start`
+module _ (kind : ℕ) (bbox : BBox) (points : List ℤ) (ends : List ℕ) (v : Bool) (e : v ≡ is_job points ends) where
+  pub start_none : not v ≡ true → refused Job [] ≡ job_started kind bbox points ends
+  start_none h = rw (no_of v (is_job points ends) e h)
+
+  pub start_some : not v ≡ false → (b : Result GeomEncoder Refusal) → said_started b ≡ started kind bbox → said_started b ≡ job_started kind bbox points ends
+  start_some h b f = f ∙ rw (yes_of v (is_job points ends) e h)
+
+-- ---- the returns of `finish`: b is what `start` answers
+module _ (kind : ℕ) (bbox : BBox) (points : List ℤ) (ends out : List ℕ) (b : Result GeomEncoder Refusal) (f : said_started b ≡ job_started kind bbox points ends) where
+  module _ (s : GeomEncoder) (g : b ≡ Ok s) where
+    job_yes : is_job points ends ≡ true
+    job_yes = by (is_job points ends) (sym (ap said_started g) ∙ f)
+      where
+        by : (t : Bool) → accepted (s ∷ []) ≡ cond t (started kind bbox) (refused Job []) → t ≡ true
+        by true e = refl
+        by false e = absurd (never_both Job e)
+
+    job_fresh : (is_kind kind ≡ true) × ((is_good bbox ≡ true) × (s ≡ fresh kind bbox))
+    job_fresh = start_fresh kind bbox b (f ∙ rw job_yes) s g
+
+    pub job_asked : (ends_at 0 ends (length points / 2) ≡ true) × Sound s (length out)
+    job_asked =
+        let (i, (j, q)) = job_fresh in
+        (good_ends points ends job_yes, rw q (fresh_sound kind bbox (length out) i j))
+
+    pub job_ran : (r : Result GeomEncoder (Refused ℕ)) (o : List ℕ) → Gives (go_all points ends s out) (end_of points r) o → Gives (finished_job kind bbox points ends out) (end_of points r) o
+    unfolding finished_job
+    job_ran r o k =
+        let (i, (j, q)) = job_fresh in
+        rw (job_yes, i, j) (subst (λ (x : GeomEncoder). Gives (go_all points ends x out) (end_of points r) o) q k)
+
+  pub job_start : (x : Refusal) → b ≡ Err x → Gives (finished_job kind bbox points ends out) (end_of points (Err (record { refusal = x; kept = 0 }))) out
   unfolding finished_job
-  job_none h = rw (no_of v (is_job points ends) e h) (gives_kept (off (refused Job 0)) out)
+  job_start x g = by (is_job points ends) (sym (ap said_started g) ∙ f)
+    where
+      w : Written Outcome (List ℕ)
+      w = go_all points ends (fresh kind bbox) out
 
-  module _ (h : not v ≡ false) where
-    job_ends : ends_at 0 ends (length points / 2) ≡ true
-    job_ends = good_ends points ends (yes_of v (is_job points ends) e h)
-
-    module _ (b : Started) (f : said_started b ≡ started kind bbox) where
-      pub job_asked : (s : GeomEncoder) → b ≡ Fresh s → (ends_at 0 ends (length points / 2) ≡ true) × Sound s (length out)
-      job_asked s g =
-          let (i, (j, q)) = start_fresh kind bbox b f s g in
-          (job_ends, rw q (fresh_sound kind bbox (length out) i j))
-
-      pub job_start : (x : Refusal) → b ≡ NotStarted x → Gives (finished_job kind bbox points ends out) (end_of points (Off x 0)) out
-      unfolding finished_job
-      job_start x g = rw (yes_of v (is_job points ends) e h) (start_turned kind bbox b f off x g (go_all points ends (fresh kind bbox) out) out)
-
-      pub job_ran : (s : GeomEncoder) → b ≡ Fresh s → (r : Course) (o : List ℕ) → Gives (go_all points ends s out) (end_of points r) o → Gives (finished_job kind bbox points ends out) (end_of points r) o
-      unfolding finished_job
-      job_ran s g r o k =
-          let (i, (j, q)) = start_fresh kind bbox b f s g in
-          rw (yes_of v (is_job points ends) e h, i, j) (subst (λ (x : GeomEncoder). Gives (go_all points ends x out) (end_of points r) o) q k)
+      by : (t : Bool) → refused x [] ≡ cond t (started kind bbox) (refused Job []) →
+          Gives (cond t (cond (is_kind kind) (cond (is_good bbox) w (kept (off (refused Box 0)) out)) (kept (off (refused Kind 0)) out)) (kept (off (refused Job 0)) out)) (off (refused x 0)) out
+      by true e = start_turned kind bbox (Err x) e off x refl w out
+      by false e = record { answer = ap (λ (r : Refusal). off (refused r 0)) (one_refusal x Job e); memory = refl }
 
 -- ---- the words of a job are those of the state behind it
 module _ (kind : ℕ) (bbox : BBox) (points : List ℤ) (ends out : List ℕ) where
@@ -132,25 +145,21 @@ module _ (kind : ℕ) (bbox : BBox) (points : List ℤ) (ends out : List ℕ) wh
       by true false c = refl
       by false b c = refl
 
-  module _ (r : Course) (o : List ℕ) (g : Gives (finished_job kind bbox points ends out) (end_of points r) o) where
+  module _ (r : Result GeomEncoder (Refused ℕ)) (o : List ℕ) (g : Gives (finished_job kind bbox points ends out) (end_of points r) o) where
     told : Gives (encoded_job kind bbox points ends out) (outcome (end_of points r)) o
     told = rw encoded_finished (record { answer = ap outcome g.answer; memory = g.memory })
 
 -- ---- the returns of `encode`
-module _ (kind : ℕ) (bbox : BBox) (points : List ℤ) (ends out : List ℕ) (v : Bool) (e : v ≡ is_job points ends) where
-  pub words_none : not v ≡ true → Gives (encoded_job kind bbox points ends out) (refused Job 0) out
-  words_none h = told kind bbox points ends out (Off Job 0) out (job_none kind bbox points ends out v e h)
+module _ (kind : ℕ) (bbox : BBox) (points : List ℤ) (ends out : List ℕ) (b : Result GeomEncoder Refusal) (f : said_started b ≡ job_started kind bbox points ends) where
+  pub words_start : (x : Refusal) → b ≡ Err x → Gives (encoded_job kind bbox points ends out) (refused x 0) out
+  words_start x g = told kind bbox points ends out (Err (record { refusal = x; kept = 0 })) out (job_start kind bbox points ends out b f x g)
 
-  module _ (h : not v ≡ false) (b : Started) (f : said_started b ≡ started kind bbox) where
-    pub words_start : (x : Refusal) → b ≡ NotStarted x → Gives (encoded_job kind bbox points ends out) (refused x 0) out
-    words_start x g = told kind bbox points ends out (Off x 0) out (job_start kind bbox points ends out v e h b f x g)
+  module _ (s : GeomEncoder) (g : b ≡ Ok s) (r : Result GeomEncoder (Refused ℕ)) (o : List ℕ) (k : Gives (go_all points ends s out) (end_of points r) o) where
+    ran : Gives (encoded_job kind bbox points ends out) (outcome (end_of points r)) o
+    ran = told kind bbox points ends out r o (job_ran kind bbox points ends out b f s g r o k)
 
-    module _ (s : GeomEncoder) (g : b ≡ Fresh s) (r : Course) (o : List ℕ) (k : Gives (go_all points ends s out) (end_of points r) o) where
-      ran : Gives (encoded_job kind bbox points ends out) (outcome (end_of points r)) o
-      ran = told kind bbox points ends out r o (job_ran kind bbox points ends out v e h b f s g r o k)
+    pub words_all : (t : GeomEncoder) → r ≡ Ok t → Gives (encoded_job kind bbox points ends out) (accepted t.used) o
+    words_all t i = subst (λ (x : Result GeomEncoder (Refused ℕ)). Gives (encoded_job kind bbox points ends out) (outcome (end_of points x)) o) i ran
 
-      pub words_all : (t : GeomEncoder) → r ≡ On t → Gives (encoded_job kind bbox points ends out) (accepted t.used) o
-      words_all t i = subst (λ (x : Course). Gives (encoded_job kind bbox points ends out) (outcome (end_of points x)) o) i ran
-
-      pub words_stop : (x : Refusal) (n : ℕ) → r ≡ Off x n → Gives (encoded_job kind bbox points ends out) (refused x n) o
-      words_stop x n i = subst (λ (y : Course). Gives (encoded_job kind bbox points ends out) (outcome (end_of points y)) o) i ran
+    pub words_stop : (x : Refused ℕ) → r ≡ Err x → Gives (encoded_job kind bbox points ends out) (refused x.refusal x.kept) o
+    words_stop x i = subst (λ (y : Result GeomEncoder (Refused ℕ)). Gives (encoded_job kind bbox points ends out) (outcome (end_of points y)) o) i ran

@@ -26,7 +26,7 @@ use Rattle.encoder.specs.Calls.{Call, add, complete, call}
 use Rattle.words.proofs.Rooms.{room_length}
 use Rattle.encoder.proofs.Courses.{never_on, same_state}
 use Rattle.encoder.proofs.Reached.{fresh_sound, add_sound, complete_sound}
-use Rattle.encoder.specs.Jobs.{Outcome, on, off, points_of, is_job, job_calls, taken, stopped, go, outcome, run, encoded_job}
+use Rattle.encoder.specs.Jobs.{on, off, points_of, is_job, job_calls, taken, stopped, go, outcome, run, encoded_job}
 
 -- ---- a call whose number is zero says that it is done
 abbrev pub Answered : Type 0

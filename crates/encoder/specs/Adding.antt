@@ -1,5 +1,5 @@
 -- Document 01, "Adding a point": the boundary points, the point itself, and the whole call.
-use Rattle.std.specs.Prelude.{ℕ, cond, List, [], ◌∷◌, ◌++◌, eqb, ℤ, length}
+use Rattle.std.specs.Prelude.{ℕ, cond, List, [], ◌∷◌, ◌++◌, eqb, ℤ, length, Option, Some, None}
 use Rattle.promise.specs.Answers.{Written, kept}
 use Rattle.promise.specs.Laid.{lay}
 use Rattle.refusal.specs.declared.Refusal.TheVariants.{State, Coord}
@@ -8,8 +8,6 @@ use Rattle.clip.specs.declared.Pt.{Pt}
 use Rattle.clip.specs.declared.BBox.{BBox}
 use Rattle.clip.specs.Domain.{is_coord}
 use Rattle.clip.specs.Cutting.{clip}
-use Rattle.encoder.specs.declared.points.MaybePt.{MaybePt}
-use Rattle.encoder.specs.declared.points.MaybePt.TheVariants.{Nowhere, At}
 use Rattle.encoder.specs.Boundary.{moved_ends, named_by}
 use Rattle.encoder.specs.declared.GeomEncoder.{GeomEncoder}
 use Rattle.encoder.specs.States.{valid}
@@ -19,18 +17,18 @@ use Rattle.encoder.specs.Emitting.{emission}
 use Rattle.encoder.specs.Tallies.{took_points}
 
 -- ---- "clip the raw segment. Emit the first end if it moved, then the second if it moved."
-abbrev pub cut_from : BBox → MaybePt → Pt → List Pt
-cut_from b Nowhere p = []
-cut_from b (At q) p = moved_ends (record { p0 = q; p1 = p }) (clip b (record { p0 = q; p1 = p })).seg
+abbrev pub cut_from : BBox → Option Pt → Pt → List Pt
+cut_from b None p = []
+cut_from b (Some q) p = moved_ends (record { p0 = q; p1 = p }) (clip b (record { p0 = q; p1 = p })).seg
 
 -- "For lines and polygons with an earlier raw point in this part"
 unfoldable pub boundary : GeomEncoder → Pt → List Pt
 boundary s p = cond (eqb s.kind 1) [] (cut_from s.bbox s.xy_end p)
 
 -- document 02, request (v): the edges of the raw segment that ends in the point; where no segment is clipped, none
-abbrev pub edges_from : BBox → MaybePt → Pt → Edges
-edges_from b Nowhere p = none
-edges_from b (At q) p = named_by (clip b (record { p0 = q; p1 = p }))
+abbrev pub edges_from : BBox → Option Pt → Pt → Edges
+edges_from b None p = none
+edges_from b (Some q) p = named_by (clip b (record { p0 = q; p1 = p }))
 
 unfoldable pub edges : GeomEncoder → Pt → Edges
 edges s p = cond (eqb s.kind 1) none (edges_from s.bbox s.xy_end p)
@@ -50,7 +48,7 @@ ended s p = record {
   tally = s.tally;
   kind = s.kind;
   bbox = s.bbox;
-  xy_end = cond (eqb s.kind 1) s.xy_end (At p);
+  xy_end = cond (eqb s.kind 1) s.xy_end (Some p);
   pt0 = s.pt0;
   pt1 = s.pt1;
   cmd_offset = s.cmd_offset;

@@ -1,7 +1,7 @@
 -- Document 01's number and values for each answer of the encoder. An accepted call's count is that of the words used after it; a refused one has "its
 -- number, count zero and the given state".
 -- A fresh encoder has no given state, so a refusal there comes with none.
-use Rattle.std.specs.Prelude.{ℕ, cond, List, [], ◌∷◌, leb, eqb, length}
+use Rattle.std.specs.Prelude.{ℕ, cond, List, [], ◌∷◌, leb, eqb, length, Result, Ok, Err}
 use Rattle.promise.specs.Answers.{Written, kept}
 use Rattle.refusal.specs.declared.Refusal.{Refusal}
 use Rattle.refusal.specs.declared.Refusal.TheVariants.{Kind, Box, Room}
@@ -10,14 +10,11 @@ use Rattle.clip.specs.declared.BBox.{BBox}
 use Rattle.clip.specs.Domain.{is_good}
 use Rattle.words.specs.Geometries.{is_kind, room}
 use Rattle.encoder.specs.declared.GeomEncoder.{GeomEncoder}
-use Rattle.encoder.specs.declared.Started.{Started}
-use Rattle.encoder.specs.declared.Started.TheVariants.{Fresh, Refused as NotStarted}
 use Rattle.clip.specs.declared.Edge.TheVariants.{Stayed}
 use Rattle.encoder.specs.declared.Edges.{Edges}
-use Rattle.encoder.specs.declared.Drawn.{Drawn}
-use Rattle.encoder.specs.declared.Drawn.TheVariants.{Done, Refused as NotDrawn}
 use Rattle.encoder.specs.States.{fresh}
 use Rattle.encoder.specs.Tallies.{counts_fit}
+use Rattle.refusal.specs.declared.Refused.{Refused}
 
 pub record Counted : Type 0 where
   pub count : ℕ
@@ -29,17 +26,17 @@ done s = accepted (record { count = s.used; state = s })
 abbrev pub turned : Refusal → GeomEncoder → Said Counted
 turned r s = refused r (record { count = 0; state = s })
 
-abbrev pub said_drawn : Drawn → Said Counted
-said_drawn (Done s e) = done s
-said_drawn (NotDrawn r s) = turned r s
+abbrev pub said_drawn : Result (GeomEncoder × Edges) (Refused GeomEncoder) → Said Counted
+said_drawn (Ok (s, e)) = done s
+said_drawn (Err e) = turned e.refusal e.kept
 
 -- the edges of an answer: those of the accepted point, and of a refused call none (document 02, request (v))
 abbrev pub none : Edges
 none = record { first = Stayed; second = Stayed }
 
-abbrev pub edges_of : Drawn → Edges
-edges_of (Done s e) = e
-edges_of (NotDrawn r s) = none
+abbrev pub edges_of : Result (GeomEncoder × Edges) (Refused GeomEncoder) → Edges
+edges_of (Ok (s, e)) = e
+edges_of (Err e) = none
 
 abbrev pub passed : Said Counted → Edges → Edges
 passed a e = cond (eqb a.number 0) e none
@@ -53,9 +50,9 @@ abbrev pub roomy : GeomEncoder → List ℕ → Written GeomEncoder (List ℕ) �
 roomy s out w = cond (counts_fit w.answer.tally) (fitting s out w) (kept (turned Room s) out)
 
 -- ---- a fresh encoder: KIND, BOX
-abbrev pub said_started : Started → Said (List GeomEncoder)
-said_started (Fresh s) = accepted (s ∷ [])
-said_started (NotStarted r) = refused r []
+abbrev pub said_started : Result GeomEncoder Refusal → Said (List GeomEncoder)
+said_started (Ok s) = accepted (s ∷ [])
+said_started (Err r) = refused r []
 
 abbrev pub started : ℕ → BBox → Said (List GeomEncoder)
 started kind bbox = cond (is_kind kind) (cond (is_good bbox) (accepted (fresh kind bbox ∷ [])) (refused Box [])) (refused Kind [])

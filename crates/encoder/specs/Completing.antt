@@ -1,10 +1,9 @@
 -- Document 01, "Adding a point", "Completing".
-use Rattle.std.specs.Prelude.{ℕ, ◌+◌, Bool, cond, ◌&&◌, List, eqb, length}
+use Rattle.std.specs.Prelude.{ℕ, ◌+◌, Bool, cond, ◌&&◌, List, eqb, length, None}
 use Rattle.promise.specs.Laid.{lay}
 use Rattle.promise.specs.Answers.{Written, kept}
 use Rattle.refusal.specs.declared.Refusal.TheVariants.{State, Empty}
 use Rattle.refusal.specs.Said.{Said}
-use Rattle.encoder.specs.declared.points.MaybePt.TheVariants.{Nowhere}
 use Rattle.encoder.specs.Pushed.{count_word, close_word}
 use Rattle.encoder.specs.declared.GeomEncoder.{GeomEncoder}
 use Rattle.encoder.specs.States.{valid}
@@ -25,8 +24,8 @@ cleared s place used = record {
   tally = s.tally;
   kind = s.kind;
   bbox = s.bbox;
-  xy_end = Nowhere;
-  pt0 = Nowhere;
+  xy_end = None;
+  pt0 = None;
   pt1 = s.pt1;
   cmd_offset = place;
   count = 0;

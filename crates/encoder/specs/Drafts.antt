@@ -1,18 +1,16 @@
 -- What the code's drafts stand for: the state, and the state and the words after each emission of a point.
-use Rattle.std.specs.Prelude.{ℕ, ◌+◌, ◌≤◌, ◌≡◌, Bool, true, false, not, ◌&&◌, List, [], leb, eqb, length}
+use Rattle.std.specs.Prelude.{ℕ, ◌+◌, ◌≤◌, ◌≡◌, Bool, true, not, ◌&&◌, List, [], leb, eqb, length, Option, Some, None}
 use Rattle.promise.specs.Laid.{lay}
 use Rattle.clip.specs.declared.Pt.{Pt}
 use Rattle.clip.specs.Domain.{is_coord}
 use Rattle.encoder.specs.declared.GeomEncoder.{GeomEncoder}
 use Rattle.encoder.specs.declared.boundary.Ends.{Ends}
-use Rattle.encoder.specs.declared.commands.MaybeWord.{MaybeWord}
-use Rattle.encoder.specs.declared.commands.MaybeWord.TheVariants.{NoWord, Word}
 use Rattle.encoder.specs.declared.draft.Draft.{Draft}
 use Rattle.encoder.specs.declared.plan.Plan.{Plan}
 use Rattle.encoder.specs.declared.pen.Pen.{Pen}
 use Rattle.words.specs.Geometries.{max_words}
 use Rattle.encoder.specs.Adding.{boundary, counted}
-use Rattle.encoder.specs.Points.{missing, clamped}
+use Rattle.encoder.specs.Points.{missing, clamped, in_limit}
 use Rattle.encoder.specs.Boundary.{maybe}
 use Rattle.encoder.specs.Emitting.{Emission, emitted_at}
 use Rattle.encoder.specs.Planning.{plan_limit, Ready, Few}
@@ -86,14 +84,14 @@ behind pen = record {
   taken_out = pen.taken_out;
 }
 
-abbrev pub pushed_by : MaybeWord → Draft → Pen → Pt → Draft
-pushed_by NoWord d base q = pushed_to d base q d.place
-pushed_by (Word w) d base q = pushed_to d (behind base) q base.used
+abbrev pub pushed_by : Option ℕ → Draft → Pen → Pt → Draft
+pushed_by None d base q = pushed_to d base q d.place
+pushed_by (Some w) d base q = pushed_to d (behind base) q base.used
 
 -- ---- a point taken, with the ends that moved
-abbrev pub one_if : Bool → ℕ
-one_if true = 1
-one_if false = 0
+abbrev pub one_if : Option Pt → ℕ
+one_if (Some p) = 1
+one_if None = 0
 
 abbrev pub taken_by : Draft → Ends → Draft
 taken_by d e = record {
@@ -105,23 +103,23 @@ taken_by d e = record {
   has1 = d.has1;
   place = d.place;
   taken = d.taken + 1;
-  boundary = d.boundary + (one_if e.moved0 + one_if e.moved1);
+  boundary = d.boundary + (one_if e.end0 + one_if e.end1);
 }
 
 -- ---- the emissions of a point: the ends that moved, then q
-abbrev pub emitted_if : Bool → GeomEncoder → Pt → Emission
-emitted_if true s q = emitted_at s q
-emitted_if false s q = record { next = s; at = s.used; run = [] }
+abbrev pub emitted_if : GeomEncoder → Option Pt → Emission
+emitted_if s (Some q) = emitted_at s q
+emitted_if s None = record { next = s; at = s.used; run = [] }
 
 -- each is a coordinate
 pub record Near (e : Ends) (q : Pt) : Type 0 where
-  pub end0 : e.moved0 ≡ true → is_coord e.end0 ≡ true
-  pub end1 : e.moved1 ≡ true → is_coord e.end1 ≡ true
+  pub end0 : in_limit e.end0 ≡ true
+  pub end1 : in_limit e.end1 ≡ true
   pub last : is_coord q ≡ true
 
 pub record Planned (r : Plan) (d : Draft) (e : Ends) (q : Pt) : Type 0 where
-  pub first : state_in r.first ≡ (emitted_if e.moved0 (state_in d) e.end0).next
-  pub second : state_in r.second ≡ (emitted_if e.moved1 (state_in r.first) e.end1).next
+  pub first : state_in r.first ≡ (emitted_if (state_in d) e.end0).next
+  pub second : state_in r.second ≡ (emitted_if (state_in r.first) e.end1).next
   pub last : state_in r.last ≡ (emitted_at (state_in r.second) q).next
 
 -- ---- what writing asks: the next draft is the one after q, and a list of length n holds its words
@@ -131,9 +129,13 @@ pub record Writable (d next : Draft) (q : Pt) (n : ℕ) : Type 0 where
   pub ready : Ready plan_limit (state_in d)
   pub coord : is_coord q ≡ true
 
+-- the same of an end that may have moved
+abbrev pub WritableIf : Draft → Draft → Option Pt → ℕ → Type 0
+WritableIf d next end n = (q : Pt) → end ≡ Some q → Writable d next q n
+
 pub record EndsFit (d : Draft) (plan : Plan) (e : Ends) (n : ℕ) : Type 0 where
-  pub first : e.moved0 ≡ true → Writable d plan.first e.end0 n
-  pub second : e.moved1 ≡ true → Writable plan.first plan.second e.end1 n
+  pub first : WritableIf d plan.first e.end0 n
+  pub second : WritableIf plan.first plan.second e.end1 n
 
 pub record AllFit (d : Draft) (plan : Plan) (e : Ends) (q : Pt) (n : ℕ) : Type 0 where
   pub ends : EndsFit d plan e n
@@ -143,7 +145,7 @@ abbrev lay_of : Emission → List ℕ → List ℕ
 lay_of e out = lay e.at e.run out
 
 abbrev pub laid_ends : Draft → Plan → Ends → List ℕ → List ℕ
-laid_ends d plan e out = lay_of (emitted_if e.moved1 (state_in plan.first) e.end1) (lay_of (emitted_if e.moved0 (state_in d) e.end0) out)
+laid_ends d plan e out = lay_of (emitted_if (state_in plan.first) e.end1) (lay_of (emitted_if (state_in d) e.end0) out)
 
 abbrev pub laid_all : Draft → Plan → Ends → Pt → List ℕ → List ℕ
 laid_all d plan e q out = lay_of (emitted_at (state_in plan.second) q) (laid_ends d plan e out)

@@ -1,9 +1,8 @@
 -- Document 01, "Adding a point", "Emitting": what one point gives, as the next state and a run of words laid at a place. Nothing here looks at the words
 -- that stand in the list, and no room is asked for.
-use Rattle.std.specs.Prelude.{ℕ, ◌+◌, ◌-◌, Bool, cond, List, [], ◌∷◌, ◌++◌, eqb, ◌-ℤ◌, length}
+use Rattle.std.specs.Prelude.{ℕ, ◌+◌, ◌-◌, Bool, cond, List, [], ◌∷◌, ◌++◌, eqb, ◌-ℤ◌, length, Some}
 use Rattle.clip.specs.declared.Pt.{Pt}
 use Rattle.words.specs.Params.{param}
-use Rattle.encoder.specs.declared.points.MaybePt.TheVariants.{At}
 use Rattle.encoder.specs.Points.{clamped, is_last, out_before, last_of}
 use Rattle.encoder.specs.Pushed.{command}
 use Rattle.encoder.specs.Tallies.{skipped_one, out_one}
@@ -47,7 +46,7 @@ advanced s p place used = record {
   bbox = s.bbox;
   xy_end = s.xy_end;
   pt0 = s.pt1;
-  pt1 = At p;
+  pt1 = Some p;
   cmd_offset = place;
   count = s.count + 1;
   used = used;

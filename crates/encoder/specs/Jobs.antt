@@ -1,5 +1,5 @@
 -- The whole job: document 01, "Job file" (its lists), the conditions of JOB, and the calls in order.
-use Rattle.std.specs.Prelude.{ℕ, ◌+◌, ◌-◌, ◌/◌, ◌%◌, Bool, false, cond, List, [], ◌∷◌, ◌++◌, leb, eqb, ℤ, length, take, drop}
+use Rattle.std.specs.Prelude.{ℕ, ◌+◌, ◌-◌, ◌/◌, ◌%◌, Bool, false, cond, List, [], ◌∷◌, ◌++◌, leb, eqb, ℤ, length, take, drop, Result, Ok, Err}
 use Rattle.promise.specs.Answers.{Written, Gives, kept}
 use Rattle.refusal.specs.declared.Refusal.TheVariants.{Job, Kind, Box}
 use Rattle.refusal.specs.Said.{Said, accepted, refused}
@@ -8,14 +8,11 @@ use Rattle.clip.specs.declared.BBox.{BBox}
 use Rattle.clip.specs.Domain.{is_good}
 use Rattle.words.specs.Geometries.{is_kind}
 use Rattle.encoder.specs.declared.GeomEncoder.{GeomEncoder}
-use Rattle.encoder.specs.declared.whole_job.Encoded.{Encoded}
-use Rattle.encoder.specs.declared.whole_job.Encoded.TheVariants.{Words, Refused}
-use Rattle.encoder.specs.declared.whole_job.Course.{Course}
-use Rattle.encoder.specs.declared.whole_job.Course.TheVariants.{On, Off}
 use Rattle.encoder.specs.States.{fresh}
-use Rattle.encoder.specs.Answers.{Counted}
+use Rattle.encoder.specs.Answers.{Counted, started}
 use Rattle.encoder.specs.Adding.{point_at}
 use Rattle.encoder.specs.Calls.{Call, add, complete, call, part_calls}
+use Rattle.refusal.specs.declared.Refused.{Refused}
 
 -- ---- "points are a lent list of signed 32-bit numbers, x and y by turns"
 abbrev pub points_of : List ℤ → List Pt
@@ -81,6 +78,10 @@ add_calls (p ∷ ps) = add p ∷ add_calls ps
 unfoldable pub added_run : GeomEncoder → List ℤ → List ℕ → Written Outcome (List ℕ)
 added_run s points out = go (add_calls (points_of points)) 0 s out
 
+-- what the code's start of a job says: JOB, then KIND and BOX of a fresh encoder
+abbrev pub job_started : ℕ → BBox → List ℤ → List ℕ → Said (List GeomEncoder)
+job_started kind bbox points ends = cond (is_job points ends) (started kind bbox) (refused Job [])
+
 -- ---- the whole job: JOB, KIND, BOX, then the calls, which give w; an answer is made by f of what is said
 abbrev pub checked : {A M : Type 0} → (Said ℕ → A) → ℕ → BBox → List ℤ → List ℕ → M → Written A M → Written A M
 checked f kind bbox points ends m w =
@@ -100,22 +101,22 @@ unfoldable pub finished_job : ℕ → BBox → List ℤ → List ℕ → List �
 finished_job kind bbox points ends out = checked off kind bbox points ends out (go (job_calls (points_of points) 0 ends) 0 (fresh kind bbox) out)
 
 -- document 01's number and values for each answer: the words used, or the refusal with the count of accepted points
-abbrev pub said_encoded : Encoded → Said ℕ
-said_encoded (Words n) = accepted n
-said_encoded (Refused r n) = refused r n
+abbrev pub said_encoded : Result ℕ (Refused ℕ) → Said ℕ
+said_encoded (Ok n) = accepted n
+said_encoded (Err e) = refused e.refusal e.kept
 
 -- what the code's course stands for, once n points are accepted
-abbrev pub outcome_of : ℕ → Course → Outcome
-outcome_of n (On s) = on n s
-outcome_of n (Off r k) = off (refused r k)
+abbrev pub outcome_of : ℕ → Result GeomEncoder (Refused ℕ) → Outcome
+outcome_of n (Ok s) = on n s
+outcome_of n (Err e) = off (refused e.refusal e.kept)
 
 -- all calls of a job, from a state on; and what the code's course stands for behind them
 abbrev pub go_all : List ℤ → List ℕ → GeomEncoder → List ℕ → Written Outcome (List ℕ)
 go_all points ends s out = go (job_calls (points_of points) 0 ends) 0 s out
 
-abbrev pub end_of : List ℤ → Course → Outcome
+abbrev pub end_of : List ℤ → Result GeomEncoder (Refused ℕ) → Outcome
 end_of points r = outcome_of (length points / 2) r
 
 -- what `finish` promises of its answer and of the list after the call
-abbrev pub Finishes : ℕ → BBox → List ℤ → List ℕ → List ℕ → Course → List ℕ → Type 0
+abbrev pub Finishes : ℕ → BBox → List ℤ → List ℕ → List ℕ → Result GeomEncoder (Refused ℕ) → List ℕ → Type 0
 Finishes kind bbox points ends words r after = Gives (finished_job kind bbox points ends words) (end_of points r) after

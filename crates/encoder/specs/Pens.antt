@@ -1,5 +1,5 @@
 -- What the code's pen stands for: the state with the pen's points and figures, and what a point makes of a pen where no command is pushed.
-use Rattle.std.specs.Prelude.{ℕ, ◌+◌, ◌-◌, ◌/◌, ◌≤◌, ◌≡◌, Bool, true, cond, ◌&&◌, List, [], ◌∷◌, ◌++◌}
+use Rattle.std.specs.Prelude.{ℕ, ◌+◌, ◌-◌, ◌/◌, ◌≤◌, ◌≡◌, Bool, true, cond, ◌&&◌, List, [], ◌∷◌, ◌++◌, Option, Some, None}
 use Rattle.promise.specs.Answers.{Written, kept}
 use Rattle.promise.specs.Laid.{lay}
 use Rattle.clip.specs.declared.Pt.{Pt}
@@ -8,7 +8,6 @@ use Rattle.clip.specs.Domain.{is_coord}
 use Rattle.clip.specs.Facts.{Coord}
 use Rattle.clip.specs.Cutting.{clip}
 use Rattle.words.specs.Geometries.{max_words}
-use Rattle.encoder.specs.declared.points.MaybePt.TheVariants.{At}
 use Rattle.encoder.specs.declared.GeomEncoder.{GeomEncoder}
 use Rattle.encoder.specs.Points.{clamped, same_pt, between, last_of}
 use Rattle.encoder.specs.Emitting.{steps}
@@ -34,9 +33,9 @@ state_of s pen =
       tally = record { taken = s.tally.taken; boundary = s.tally.boundary; skipped = pen.skipped; taken_out = pen.taken_out };
       kind = s.kind;
       bbox = s.bbox;
-      xy_end = At pen.raw;
-      pt0 = At pen.pt0;
-      pt1 = At pen.pt1;
+      xy_end = Some pen.raw;
+      pt0 = Some pen.pt0;
+      pt1 = Some pen.pt1;
       cmd_offset = s.cmd_offset;
       count = pen.count;
       used = pen.used;
@@ -115,13 +114,14 @@ unfoldable pub marked : Bool → Pen → Pt → List ℕ → Written Pen (List �
 marked ring pen q out = laid (mark ring pen q) out
 
 -- an end, emitted if it moved; and both ends of a segment
-unfoldable pub marked_if : Bool → Bool → Pen → Pt → List ℕ → Written Pen (List ℕ)
-marked_if moved ring pen end out = cond moved (marked ring pen end out) (kept pen out)
+abbrev pub marked_if : Bool → Pen → Option Pt → List ℕ → Written Pen (List ℕ)
+marked_if ring pen None out = kept pen out
+marked_if ring pen (Some q) out = marked ring pen q out
 
 unfoldable pub marked_ends : Bool → Pen → Ends → List ℕ → Written Pen (List ℕ)
 marked_ends ring pen e out =
-    let w : Written Pen (List ℕ) = marked_if e.moved0 ring pen e.end0 out in
-    marked_if e.moved1 ring w.answer e.end1 w.memory
+    let w : Written Pen (List ℕ) = marked_if ring pen e.end0 out in
+    marked_if ring w.answer e.end1 w.memory
 
 -- ---- points emitted one after the other, and the whole of a point
 abbrev pub marks : BBox → Bool → Pen → List Pt → List ℕ → Written Pen (List ℕ)

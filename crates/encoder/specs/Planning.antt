@@ -1,18 +1,17 @@
 -- Planning: the emissions of a call are reckoned before the room is asked for; what a state must be for the next one to be reckoned.
-use Rattle.std.specs.Prelude.{ℕ, ◌+◌, ◌/◌, ◌≤◌, ◌≡◌, true, []}
+use Rattle.std.specs.Prelude.{ℕ, ◌+◌, ◌/◌, ◌≤◌, ◌≡◌, true, [], Option, Some, None}
 use Rattle.clip.specs.Domain.{is_good}
 use Rattle.words.specs.Geometries.{max_words}
-use Rattle.encoder.specs.declared.points.MaybePt.{MaybePt}
-use Rattle.encoder.specs.declared.points.MaybePt.TheVariants.{Nowhere, At}
 use Rattle.encoder.specs.Points.{in_limit}
 use Rattle.encoder.specs.declared.GeomEncoder.{GeomEncoder}
 use Rattle.encoder.specs.Emitting.{Emission, emission}
 use Rattle.encoder.specs.Tallies.{max_tally}
+use Rattle.clip.specs.declared.Pt.{Pt}
 
 -- a point that may be there, emitted
-abbrev pub emission_if : GeomEncoder → MaybePt → Emission
-emission_if s Nowhere = record { next = s; at = s.used; run = [] }
-emission_if s (At p) = emission s p
+abbrev pub emission_if : GeomEncoder → Option Pt → Emission
+emission_if s None = record { next = s; at = s.used; run = [] }
+emission_if s (Some p) = emission s p
 
 -- the words used before the third of a call's emissions are at most these
 abbrev pub plan_limit : ℕ

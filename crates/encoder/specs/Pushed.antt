@@ -1,14 +1,12 @@
 -- Document 01, "Adding a point": the commands that a point and a part's completion bring, each a list of one word or none.
-use Rattle.std.specs.Prelude.{ℕ, ◌-◌, cond, ◌&&◌, List, [], ◌∷◌, ltb, eqb}
+use Rattle.std.specs.Prelude.{ℕ, ◌-◌, cond, ◌&&◌, List, [], ◌∷◌, ltb, eqb, Option, Some, None}
 use Rattle.words.specs.Commands.{command_word, id_of}
 use Rattle.words.specs.declared.command.Command.TheVariants.{MoveTo, LineTo, ClosePath}
-use Rattle.encoder.specs.declared.commands.MaybeWord.{MaybeWord}
-use Rattle.encoder.specs.declared.commands.MaybeWord.TheVariants.{NoWord, Word}
 
 -- what the code's value stands for
-abbrev pub word_of : MaybeWord → List ℕ
-word_of NoWord = []
-word_of (Word w) = w ∷ []
+abbrev pub word_of : Option ℕ → List ℕ
+word_of None = []
+word_of (Some w) = w ∷ []
 
 abbrev pub move_to : ℕ
 move_to = id_of MoveTo

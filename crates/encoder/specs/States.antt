@@ -1,23 +1,22 @@
 -- The encoder's state: a fresh one, and document 01's "Encoder STATE".
-use Rattle.std.specs.Prelude.{ℕ, ◌+◌, ◌/◌, ◌≤◌, ◌<◌, ◌≡◌, Bool, true, false, ◌&&◌, ltb}
+use Rattle.std.specs.Prelude.{ℕ, ◌+◌, ◌/◌, ◌≤◌, ◌<◌, ◌≡◌, Bool, true, false, ◌&&◌, ltb, Option, Some, None}
 use Rattle.clip.specs.declared.BBox.{BBox}
 use Rattle.clip.specs.Domain.{is_good}
 use Rattle.words.specs.Geometries.{is_kind, room}
-use Rattle.encoder.specs.declared.points.MaybePt.{MaybePt}
-use Rattle.encoder.specs.declared.points.MaybePt.TheVariants.{Nowhere, At}
 use Rattle.encoder.specs.Points.{in_limit, in_limits}
 use Rattle.encoder.specs.Figures.{figures_fit}
 use Rattle.encoder.specs.Tallies.{untouched, balanced}
 use Rattle.encoder.specs.declared.GeomEncoder.{GeomEncoder}
+use Rattle.clip.specs.declared.Pt.{Pt}
 
 abbrev pub fresh : ℕ → BBox → GeomEncoder
 fresh kind bbox = record {
   tally = untouched;
   kind = kind;
   bbox = bbox;
-  xy_end = Nowhere;
-  pt0 = Nowhere;
-  pt1 = Nowhere;
+  xy_end = None;
+  pt0 = None;
+  pt1 = None;
   cmd_offset = 0;
   count = 0;
   used = 0;
@@ -44,15 +43,15 @@ pub record Valid (s : GeomEncoder) (n : ℕ) : Type 0 where
   pub balanced : s.tally.skipped + s.tally.taken_out ≤ s.tally.taken + s.tally.boundary
 
 -- and the rule that is missing among them: what accepted calls keep of a fresh state
-abbrev pub is_there : MaybePt → Bool
-is_there Nowhere = false
-is_there (At p) = true
+abbrev pub is_there : Option Pt → Bool
+is_there None = false
+is_there (Some p) = true
 
 pub record Sound (s : GeomEncoder) (n : ℕ) : Type 0 where
   pub valid : Valid s n
   pub points : is_there s.pt1 ≡ true → s.cmd_offset < s.used
 
 -- the same rule as a test: where there is a last point, the last command's place is below the used words
-abbrev pub is_placed : MaybePt → ℕ → ℕ → Bool
-is_placed Nowhere place used = true
-is_placed (At p) place used = ltb place used
+abbrev pub is_placed : Option Pt → ℕ → ℕ → Bool
+is_placed None place used = true
+is_placed (Some p) place used = ltb place used

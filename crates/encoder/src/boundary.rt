@@ -10,16 +10,14 @@ ghost use Rattle.encoder.specs.Points.{in_limit};
 
 use crate::draft::Draft;
 use crate::points::is_same;
-use clip::{BBox, Clipped, ClippedSeg, Pt, Seg};
+use clip::{BBox, ClippedSeg, Pt, Seg};
 use words::geometry::Geometry;
 
-// The ends of a clipped segment, and whether each has moved.
+// The ends of a clipped segment that have moved.
 #[derive(Clone, Copy)]
 pub(crate) struct Ends {
-    pub moved0: bool,
-    pub moved1: bool,
-    pub end0: Pt,
-    pub end1: Pt,
+    pub end0: Option<Pt>,
+    pub end1: Option<Pt>,
 }
 
 // The raw segment cut at the box, and the edges. The clip of a good box and two coordinates is never refused.
@@ -28,11 +26,9 @@ fn clip_named(raw: Seg, bbox: BBox) -> ClippedSeg
     requires raw_value { are_coords raw ≡ true }
     ensures { result ≡ clip bbox raw }
 {
-    let p0 = raw.p0;
-    let p1 = raw.p1;
-    match clip::clip_between(p0, p1, bbox) {
-        Clipped::Done(c) => c,
-        Clipped::Refused(_) => clip::stay(raw),
+    match clip::clip_between(raw.p0, raw.p1, bbox) {
+        Ok(c) => c,
+        Err(_) => clip::stay(raw),
     }
 }
 
@@ -42,21 +38,14 @@ pub(crate) fn clip_raw(raw: Seg, bbox: BBox) -> Seg
     requires raw_value { are_coords raw ≡ true }
     ensures { result ≡ (clip bbox raw).seg }
 {
-    let c = clip_named(raw, bbox);
-    c.seg
+    clip_named(raw, bbox).seg
 }
 
 // Whether a point lies strictly outside an edge.
 pub(crate) fn is_outside(p: Pt, b: BBox) -> bool
     ensures { result ≡ outside b p }
 {
-    let x = p.x;
-    let y = p.y;
-    let left = b.x_min;
-    let right = b.x_max;
-    let bottom = b.y_min;
-    let top = b.y_max;
-    (x < left) | (right < x) | (y < bottom) | (top < y)
+    (p.x < b.x_min) | (b.x_max < p.x) | (p.y < b.y_min) | (b.y_max < p.y)
 }
 
 // The ends of the segment from raw to p, once it is cut, by the points.
@@ -68,10 +57,8 @@ pub(crate) fn moved_ends(raw: Pt, p: Pt, cut: Seg) -> Ends
     let same0 = is_same(raw, c0);
     let same1 = is_same(p, c1);
     Ends {
-        moved0: !same0,
-        moved1: !same1,
-        end0: c0,
-        end1: c1,
+        end0: (!same0).then_some(c0),
+        end1: (!same1).then_some(c1),
     }
 }
 
@@ -79,16 +66,9 @@ pub(crate) fn moved_ends(raw: Pt, p: Pt, cut: Seg) -> Ends
 pub(crate) fn ends_of(cut: ClippedSeg) -> Ends
     ensures { result ≡ ends_in cut }
 {
-    let s = cut.seg;
-    let end0 = s.p0;
-    let end1 = s.p1;
-    let first = cut.first;
-    let second = cut.second;
     Ends {
-        moved0: first.is_moved(),
-        moved1: second.is_moved(),
-        end0: end0,
-        end1: end1,
+        end0: cut.first.is_moved().then_some(cut.seg.p0),
+        end1: cut.second.is_moved().then_some(cut.seg.p1),
     }
 }
 
@@ -100,13 +80,11 @@ pub(crate) fn add_boundary_points(d: Draft, p: Pt) -> ClippedSeg
     requires p_value { is_coord p ≡ true }
     ensures { BroughtBy d.bbox (boundary (state_in d) p) (edges (state_in d) p) result }
 {
-    let bbox = d.bbox;
-    let pen = d.pen;
-    let raw = pen.raw;
-    let out0 = is_outside(raw, bbox);
-    let out1 = is_outside(p, bbox);
+    let raw = d.pen.raw;
+    let out0 = is_outside(raw, d.bbox);
+    let out1 = is_outside(p, d.bbox);
     if (d.kind != Geometry::POINT) & d.joins & (out0 | out1) {
-        return clip_named(Seg { p0: raw, p1: p }, bbox);
+        return clip_named(Seg { p0: raw, p1: p }, d.bbox);
     }
     clip::stay(Seg { p0: p, p1: p })
 }

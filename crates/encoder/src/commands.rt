@@ -8,15 +8,8 @@ ghost use Rattle.encoder.specs.Figures.{figures_fit};
 ghost use Rattle.encoder.specs.Pushed.{word_of, command, count_word, close_word};
 ghost use Rattle.encoder.specs.Ends.{Fitting, EndFits, lay_end};
 
-use words::command::{Command, CommandInt, CommandWord};
+use words::command::{Command, CommandInt};
 use words::geometry::Geometry;
-
-// A word that may be missing.
-#[derive(Clone, Copy)]
-pub enum MaybeWord {
-    NoWord,
-    Word(u32),
-}
 
 // Whether the figures of a state, with a lent list of that length, keep the rules of STATE.
 pub(crate) fn figures_fit(used: usize, count: u32, cmd_offset: usize, length: usize) -> bool
@@ -33,64 +26,56 @@ fn command_word(id: Command, count: u32) -> u32
     requires { count ≤ max_count }
     ensures { result ≡ command_word (id_of id) count }
 {
-    let c = CommandInt {
-        id: id,
-        count: count,
-    };
-    match c.encode() {
-        CommandWord::Word(w) => w,
-        CommandWord::Refused(_) => 0,
-    }
+    CommandInt { id, count }.encode().unwrap_or(0)
 }
 
 // The command that a point at this count is pushed with, if one is.
-pub(crate) fn push_command(kind: u32, count: usize) -> MaybeWord
+pub(crate) fn push_command(kind: u32, count: usize) -> Option<u32>
     ensures { word_of result ≡ command kind count }
 {
     if count == 0 {
-        return MaybeWord::Word(command_word(Command::MoveTo, 1));
+        return Some(command_word(Command::MoveTo, 1));
     }
     if count == 1 {
         if kind == Geometry::POINT {
-            return MaybeWord::NoWord;
+            return None;
         }
-        return MaybeWord::Word(command_word(Command::LineTo, 1));
+        return Some(command_word(Command::LineTo, 1));
     }
-    MaybeWord::NoWord
+    None
 }
 
 // The word that sets the last command's count, if it is set.
-fn set_command_count(kind: u32, count: u32) -> MaybeWord
+fn set_command_count(kind: u32, count: u32) -> Option<u32>
     requires { count ≤ max_count }
     ensures { word_of result ≡ count_word kind count }
 {
     if kind == Geometry::POINT {
-        return MaybeWord::Word(command_word(Command::MoveTo, count));
+        return Some(command_word(Command::MoveTo, count));
     }
     if 1 < count {
-        return MaybeWord::Word(command_word(Command::LineTo, count - 1));
+        return Some(command_word(Command::LineTo, count - 1));
     }
-    MaybeWord::NoWord
+    None
 }
 
 // The word that closes a polygon, if it is closed.
-fn close_path(kind: u32, count: u32) -> MaybeWord
+fn close_path(kind: u32, count: u32) -> Option<u32>
     ensures { word_of result ≡ close_word kind count }
 {
     if (kind == Geometry::POLYGON) & (1 < count) {
-        return MaybeWord::Word(command_word(Command::ClosePath, 1));
+        return Some(command_word(Command::ClosePath, 1));
     }
-    MaybeWord::NoWord
+    None
 }
 
 // ---- writing
-fn write_word(at: usize, word: MaybeWord, words: &mut [u32])
+fn write_word(at: usize, word: Option<u32>, words: &mut [u32])
     requires { Fitting at (word_of word) (length words.old) }
     ensures { words.new ≡ lay at (word_of word) words.old }
 {
-    match word {
-        MaybeWord::NoWord => {}
-        MaybeWord::Word(w) => words[at] = w,
+    if let Some(w) = word {
+        words[at] = w;
     }
 }
 
@@ -99,8 +84,6 @@ pub(crate) fn write_end(kind: u32, count: u32, cmd_offset: usize, used: usize, w
     requires { EndFits kind count cmd_offset used (length words.old) }
     ensures { words.new ≡ lay_end kind count cmd_offset used words.old }
 {
-    let counted = set_command_count(kind, count);
-    let close = close_path(kind, count);
-    write_word(cmd_offset, counted, words);
-    write_word(used, close, words)
+    write_word(cmd_offset, set_command_count(kind, count), words);
+    write_word(used, close_path(kind, count), words)
 }

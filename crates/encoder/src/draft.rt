@@ -5,15 +5,14 @@ ghost use Rattle.encoder.specs.Adding.{ended};
 ghost use Rattle.encoder.specs.Emitting.{begun, skipped, emitted_at};
 ghost use Rattle.encoder.specs.Planning.{plan_limit, Ready, Few};
 ghost use Rattle.encoder.specs.Points.{is_last};
-ghost use Rattle.encoder.specs.Boundary.{maybe};
-ghost use Rattle.encoder.specs.Drafts.{draft_of, state_in, with_pen, ringing, pushed_to, pushed_by, one_if, taken_by};
+ghost use Rattle.encoder.specs.Drafts.{draft_of, state_in, ringing, pushed_to, pushed_by, one_if, taken_by};
 ghost use Rattle.encoder.specs.Tallies.{max_tally, counts_fit};
 
 use crate::GeomEncoder;
 use crate::boundary::Ends;
-use crate::commands::{MaybeWord, push_command};
+use crate::commands::push_command;
 use crate::pen::{Pen, advance, before_push, pass_point, set_raw};
-use crate::points::{MaybePt, is_missing, is_same, last_of};
+use crate::points::{is_same, last_of};
 use crate::tally::Tally;
 use clip::{BBox, Pt};
 use words::geometry::Geometry;
@@ -36,50 +35,25 @@ pub(crate) struct Draft {
 pub(crate) fn draft_of(s: GeomEncoder) -> Draft
     ensures { result ≡ draft_of s }
 {
-    let bbox = s.bbox;
-    let xy_end = s.xy_end;
-    let pt0 = s.pt0;
-    let pt1 = s.pt1;
-    let raw = last_of(xy_end);
-    let before = last_of(pt0);
-    let last = last_of(pt1);
-    let no_raw = is_missing(xy_end);
-    let no_before = is_missing(pt0);
-    let no_last = is_missing(pt1);
-    let count = s.count as usize;
-    let tally = s.tally;
-    let skipped = tally.skipped as usize;
-    let taken_out = tally.taken_out as usize;
-    let taken = tally.taken as usize;
-    let boundary = tally.boundary as usize;
     Draft {
         kind: s.kind,
-        bbox: bbox,
+        bbox: s.bbox,
         pen: Pen {
-            raw: raw,
-            pt0: before,
-            pt1: last,
-            count: count,
+            raw: last_of(s.xy_end),
+            pt0: last_of(s.pt0),
+            pt1: last_of(s.pt1),
+            count: s.count as usize,
             used: s.used,
-            skipped: skipped,
-            taken_out: taken_out,
+            skipped: s.tally.skipped as usize,
+            taken_out: s.tally.taken_out as usize,
         },
-        joins: !no_raw,
-        has0: !no_before,
-        has1: !no_last,
+        joins: s.xy_end.is_some(),
+        has0: s.pt0.is_some(),
+        has1: s.pt1.is_some(),
         place: s.cmd_offset,
-        taken: taken,
-        boundary: boundary,
+        taken: s.tally.taken as usize,
+        boundary: s.tally.boundary as usize,
     }
-}
-
-pub(crate) fn point_if(there: bool, p: Pt) -> MaybePt
-    ensures { result ≡ maybe there p }
-{
-    if there {
-        return MaybePt::At(p);
-    }
-    MaybePt::Nowhere
 }
 
 pub(crate) fn state_of(d: Draft) -> GeomEncoder
@@ -87,59 +61,37 @@ pub(crate) fn state_of(d: Draft) -> GeomEncoder
     requires d_value { counts_fit (state_in d).tally ≡ true }
     ensures { result ≡ state_in d }
 {
-    let bbox = d.bbox;
-    let pen = d.pen;
-    let raw = point_if(d.joins, pen.raw);
-    let before = point_if(d.has0, pen.pt0);
-    let last = point_if(d.has1, pen.pt1);
-    let count = pen.count as u32;
+    let count = d.pen.count as u32;
     let taken = d.taken as u32;
     let boundary = d.boundary as u32;
-    let skipped = pen.skipped as u32;
-    let taken_out = pen.taken_out as u32;
+    let skipped = d.pen.skipped as u32;
+    let taken_out = d.pen.taken_out as u32;
     GeomEncoder {
         kind: d.kind,
-        bbox: bbox,
-        xy_end: raw,
-        pt0: before,
-        pt1: last,
+        bbox: d.bbox,
+        xy_end: d.joins.then_some(d.pen.raw),
+        pt0: d.has0.then_some(d.pen.pt0),
+        pt1: d.has1.then_some(d.pen.pt1),
         cmd_offset: d.place,
-        count: count,
-        used: pen.used,
+        count,
+        used: d.pen.used,
         tally: Tally {
-            taken: taken,
-            boundary: boundary,
-            skipped: skipped,
-            taken_out: taken_out,
+            taken,
+            boundary,
+            skipped,
+            taken_out,
         },
     }
 }
 
-fn with_pen(d: Draft, pen: Pen) -> Draft
-    ensures { result ≡ with_pen d pen }
-{
-    let bbox = d.bbox;
-    Draft {
-        kind: d.kind,
-        bbox: bbox,
-        pen: pen,
-        joins: d.joins,
-        has0: d.has0,
-        has1: d.has1,
-        place: d.place,
-        taken: d.taken,
-        boundary: d.boundary,
-    }
-}
-
 // ---- a point taken
-fn one_if(b: bool) -> usize
-    ensures { result ≡ one_if b }
+fn one_if(end: Option<Pt>) -> usize
+    ensures { result ≡ one_if end }
 {
-    if b {
-        return 1;
+    match end {
+        None => 0,
+        Some(_) => 1,
     }
-    0
 }
 
 // One more point, and the boundary points that it brings.
@@ -148,20 +100,12 @@ pub(crate) fn take_point(d: Draft, ends: Ends) -> Draft
     requires boundary_le_max_tally { d.boundary ≤ max_tally }
     ensures { result ≡ taken_by d ends }
 {
-    let bbox = d.bbox;
-    let pen = d.pen;
-    let first = one_if(ends.moved0);
-    let second = one_if(ends.moved1);
+    let first = one_if(ends.end0);
+    let second = one_if(ends.end1);
     Draft {
-        kind: d.kind,
-        bbox: bbox,
-        pen: pen,
-        joins: d.joins,
-        has0: d.has0,
-        has1: d.has1,
-        place: d.place,
         taken: d.taken + 1,
         boundary: d.boundary + (first + second),
+        ..d
     }
 }
 
@@ -170,19 +114,14 @@ pub(crate) fn take_point(d: Draft, ends: Ends) -> Draft
 pub(crate) fn is_again(d: Draft, q: Pt) -> bool
     ensures { result ≡ is_last (state_in d).pt1 q }
 {
-    let pen = d.pen;
-    let pt1 = pen.pt1;
-    let same = is_same(pt1, q);
+    let same = is_same(d.pen.pt1, q);
     d.has1 & same
 }
 
 fn begin(count: usize) -> usize
     ensures { result ≡ begun count }
 {
-    if count == 0 {
-        return 1;
-    }
-    count
+    count.max(1)
 }
 
 // A point equal to the last one is counted; a count of 0 becomes 1, nothing else.
@@ -190,17 +129,21 @@ fn skip_point(d: Draft) -> Draft
     requires { Few 1 (state_in d) }
     ensures { state_in result ≡ (skipped (state_in d)).next }
 {
-    let mut pen = pass_point(d.pen);
-    pen.count = begin(pen.count);
-    with_pen(d, pen)
+    let pen = pass_point(d.pen);
+    Draft {
+        pen: Pen {
+            count: begin(pen.count),
+            ..pen
+        },
+        ..d
+    }
 }
 
 // Whether the last point may be taken out.
 fn is_ring(d: Draft) -> bool
     ensures { result ≡ ringing d }
 {
-    let pen = d.pen;
-    (d.kind == Geometry::POLYGON) & (2 <= pen.count) & d.has0 & d.has1
+    (d.kind == Geometry::POLYGON) & (2 <= d.pen.count) & d.has0 & d.has1
 }
 
 // The draft after q is pushed from this pen, with the last command at that place.
@@ -209,34 +152,29 @@ fn push_to(d: Draft, base: Pen, q: Pt, place: usize) -> Draft
     requires used_bound { base.used ≤ plan_limit + 1 }
     ensures { result ≡ pushed_to d base q place }
 {
-    let bbox = d.bbox;
-    let pen = advance(base, q);
     Draft {
-        kind: d.kind,
-        bbox: bbox,
-        pen: pen,
-        joins: d.joins,
+        pen: advance(base, q),
         has0: d.has1,
         has1: true,
-        place: place,
-        taken: d.taken,
-        boundary: d.boundary,
+        place,
+        ..d
     }
 }
 
 // The two steps to q, behind a command or not.
-fn push_point(word: MaybeWord, d: Draft, base: Pen, q: Pt) -> Draft
+fn push_point(word: Option<u32>, d: Draft, base: Pen, q: Pt) -> Draft
     requires count_le_plan_limit { base.count ≤ plan_limit }
     requires used_le_plan_limit { base.used ≤ plan_limit }
     ensures { result ≡ pushed_by word d base q }
 {
-    let mut behind = base;
-    let place = base.used;
     match word {
-        MaybeWord::NoWord => push_to(d, base, q, d.place),
-        MaybeWord::Word(_) => {
-            behind.used = place + 1;
-            push_to(d, behind, q, place)
+        None => push_to(d, base, q, d.place),
+        Some(_) => {
+            let behind = Pen {
+                used: base.used + 1,
+                ..base
+            };
+            push_to(d, behind, q, base.used)
         }
     }
 }
@@ -250,10 +188,9 @@ pub(crate) fn emit_point(d: Draft, q: Pt) -> Draft
     if is_again(d, q) {
         return skip_point(d);
     }
-    let pen = d.pen;
     let ring = is_ring(d);
-    let base = before_push(ring, pen, q);
-    let word = push_command(d.kind, pen.count);
+    let base = before_push(ring, d.pen, q);
+    let word = push_command(d.kind, d.pen.count);
     push_point(word, d, base, q)
 }
 
@@ -264,17 +201,9 @@ pub(crate) fn set_end(d: Draft, p: Pt) -> Draft
     if d.kind == Geometry::POINT {
         return d;
     }
-    let bbox = d.bbox;
-    let pen = set_raw(d.pen, p);
     Draft {
-        kind: d.kind,
-        bbox: bbox,
-        pen: pen,
+        pen: set_raw(d.pen, p),
         joins: true,
-        has0: d.has0,
-        has1: d.has1,
-        place: d.place,
-        taken: d.taken,
-        boundary: d.boundary,
+        ..d
     }
 }

@@ -19,10 +19,10 @@ use crate::boundary::{add_boundary_points, ends_of};
 use crate::commands::{figures_fit, write_end};
 use crate::draft::{Draft, draft_of, emit_point, set_end, state_of, take_point};
 use crate::plan::{plan_point, write_plan, write_point};
-use crate::points::{MaybePt, are_in_limit, make_point};
+use crate::points::{are_in_limit, make_point};
 use crate::tally::{Tally, are_counts};
 use clip::{BBox, ClippedSeg, Edge, Pt};
-use refusal::Refusal;
+use refusal::{Refusal, Refused};
 use words::geometry::Geometry;
 
 mod boundary;
@@ -42,18 +42,12 @@ pub struct GeomEncoder {
     pub tally: Tally, // what became of the points
     pub kind: u32,
     pub bbox: BBox,
-    pub xy_end: MaybePt, // the last raw point of this part
-    pub pt0: MaybePt, // the emitted point before the last
-    pub pt1: MaybePt, // the last emitted point
+    pub xy_end: Option<Pt>, // the last raw point of this part
+    pub pt0: Option<Pt>, // the emitted point before the last
+    pub pt1: Option<Pt>, // the last emitted point
     pub cmd_offset: usize, // the last command's place
     pub count: u32,
     pub used: usize,
-}
-
-#[derive(Clone, Copy)]
-pub enum Started {
-    Fresh(GeomEncoder),
-    Refused(Refusal),
 }
 
 // What became of the ends of the raw segment that a point ends: the first, which is the point before it, and the second.
@@ -63,11 +57,8 @@ pub struct Edges {
     pub second: Edge,
 }
 
-#[derive(Clone, Copy)]
-pub enum Drawn {
-    Done(GeomEncoder, Edges),
-    Refused(Refusal, GeomEncoder),
-}
+// An accepted call's state, and what became of the ends; a refused one leaves the given state.
+pub type Drawn = Result<(GeomEncoder, Edges), Refused<GeomEncoder>>;
 
 // ---- the state
 // Whether a state, with a lent list of that length, keeps every rule of STATE.
@@ -75,16 +66,11 @@ pub fn is_valid(s: GeomEncoder, length: usize) -> bool
     ensures { result ≡ valid s length }
 {
     let kind = Geometry { kind: s.kind };
-    let bbox = s.bbox;
-    let xy_end = s.xy_end;
-    let pt0 = s.pt0;
-    let pt1 = s.pt1;
     let fits = figures_fit(s.used, s.count, s.cmd_offset, length);
     let kinds = kind.is_good();
-    let boxes = BBox::is_good(bbox);
-    let tally = s.tally;
-    let limits = are_in_limit(xy_end, pt0, pt1);
-    let balances = tally.is_balanced();
+    let boxes = BBox::is_good(s.bbox);
+    let limits = are_in_limit(s.xy_end, s.pt0, s.pt1);
+    let balances = s.tally.is_balanced();
     fits & kinds & boxes & limits & balances
 }
 
@@ -93,19 +79,13 @@ pub fn is_valid(s: GeomEncoder, length: usize) -> bool
 fn clear(s: GeomEncoder, place: usize, used: usize) -> GeomEncoder
     ensures { result ≡ cleared s place used }
 {
-    let bbox = s.bbox;
-    let pt1 = s.pt1;
-    let tally = s.tally;
     GeomEncoder {
-        kind: s.kind,
-        bbox: bbox,
-        xy_end: MaybePt::Nowhere,
-        pt0: MaybePt::Nowhere,
-        pt1: pt1,
+        xy_end: None,
+        pt0: None,
         cmd_offset: place,
         count: 0,
-        used: used,
-        tally: tally,
+        used,
+        ..s
     }
 }
 
@@ -114,15 +94,13 @@ fn finish(s: GeomEncoder) -> GeomEncoder
     requires { s.used ≤ max_words }
     ensures { result ≡ finished s }
 {
-    let used = s.used;
-    let place = s.cmd_offset;
     if s.kind == Geometry::POINT {
         return s;
     }
     if (s.kind == Geometry::POLYGON) & (1 < s.count) {
-        return clear(s, used, used + 1);
+        return clear(s, s.used, s.used + 1);
     }
-    clear(s, place, used)
+    clear(s, s.cmd_offset, s.used)
 }
 
 // ---- the edges
@@ -130,11 +108,9 @@ fn finish(s: GeomEncoder) -> GeomEncoder
 fn named(cut: ClippedSeg) -> Edges
     ensures { result ≡ named_by cut }
 {
-    let first = cut.first;
-    let second = cut.second;
     Edges {
-        first: first,
-        second: second,
+        first: cut.first,
+        second: cut.second,
     }
 }
 
@@ -157,14 +133,20 @@ fn draw_alone(s: GeomEncoder, d: Draft, p: Pt, q: Pt, words: &mut [u32]) -> Draw
     let last = emit_point(d, q);
     let pen = last.pen;
     if !are_counts(last.taken, last.boundary, pen.skipped, pen.taken_out) {
-        return Drawn::Refused(Refusal::Room, s);
+        return Err(Refused {
+            refusal: Refusal::Room,
+            kept: s,
+        });
     }
     let room = Geometry::room(words.len());
     if room < pen.used {
-        return Drawn::Refused(Refusal::Room, s);
+        return Err(Refused {
+            refusal: Refusal::Room,
+            kept: s,
+        });
     }
     write_point(d, last, q, words);
-    Drawn::Done(state_of(set_end(last, p)), no_edges())
+    Ok((state_of(set_end(last, p)), no_edges()))
 }
 
 // A coordinate added to a state that breaks no rule: ROOM; then everything that is written.
@@ -175,26 +157,33 @@ fn draw(s: GeomEncoder, p: Pt, words: &mut [u32]) -> Drawn
     ensures edges { edges_of result ≡ passed (roomy s words.old (drawn s p words.old)).answer (edges s p) }
 {
     let d = draft_of(s);
-    let bbox = d.bbox;
     let cut = add_boundary_points(d, p);
     let ends = ends_of(cut);
-    let q = make_point(p, bbox);
+    let q = make_point(p, d.bbox);
     let t = take_point(d, ends);
-    if !(ends.moved0 | ends.moved1) {
+    let stayed0 = ends.end0.is_none();
+    let stayed1 = ends.end1.is_none();
+    if stayed0 & stayed1 {
         return draw_alone(s, t, p, q, words);
     }
     let plan = plan_point(t, ends, q);
     let last = plan.last;
     let pen = last.pen;
     if !are_counts(last.taken, last.boundary, pen.skipped, pen.taken_out) {
-        return Drawn::Refused(Refusal::Room, s);
+        return Err(Refused {
+            refusal: Refusal::Room,
+            kept: s,
+        });
     }
     let room = Geometry::room(words.len());
     if room < pen.used {
-        return Drawn::Refused(Refusal::Room, s);
+        return Err(Refused {
+            refusal: Refusal::Room,
+            kept: s,
+        });
     }
     write_plan(t, plan, ends, q, words);
-    Drawn::Done(state_of(set_end(last, p)), named(cut))
+    Ok((state_of(set_end(last, p)), named(cut)))
 }
 
 // A point added to a state that breaks no rule: COORD, ROOM.
@@ -204,7 +193,10 @@ pub(crate) fn add_valid(s: GeomEncoder, p: Pt, words: &mut [u32]) -> Drawn
     ensures edges { edges_of result ≡ passed (added s p words.old).answer (edges s p) }
 {
     if !BBox::is_coord(p) {
-        return Drawn::Refused(Refusal::Coord, s);
+        return Err(Refused {
+            refusal: Refusal::Coord,
+            kept: s,
+        });
     }
     draw(s, p, words)
 }
@@ -216,35 +208,41 @@ pub(crate) fn complete_valid(s: GeomEncoder, words: &mut [u32]) -> Drawn
     ensures edges { edges_of result ≡ none }
 {
     if (s.kind == Geometry::POINT) & (s.count == 0) {
-        return Drawn::Refused(Refusal::Empty, s);
+        return Err(Refused {
+            refusal: Refusal::Empty,
+            kept: s,
+        });
     }
     let next = finish(s);
     let room = Geometry::room(words.len());
     if room < next.used {
-        return Drawn::Refused(Refusal::Room, s);
+        return Err(Refused {
+            refusal: Refusal::Room,
+            kept: s,
+        });
     }
     write_end(s.kind, s.count, s.cmd_offset, s.used, words);
-    Drawn::Done(next, no_edges())
+    Ok((next, no_edges()))
 }
 
 impl GeomEncoder {
     // A fresh encoder for a geometry of that kind in a box: KIND, BOX.
-    pub fn new(kind: u32, bbox: BBox) -> Started
+    pub fn new(kind: u32, bbox: BBox) -> Result<GeomEncoder, Refusal>
         ensures { said_started result ≡ started kind bbox }
     {
-        let geometry = Geometry { kind: kind };
+        let geometry = Geometry { kind };
         if !geometry.is_good() {
-            return Started::Refused(Refusal::Kind);
+            return Err(Refusal::Kind);
         }
         if !BBox::is_good(bbox) {
-            return Started::Refused(Refusal::Box);
+            return Err(Refusal::Box);
         }
-        Started::Fresh(GeomEncoder {
-            kind: kind,
-            bbox: bbox,
-            xy_end: MaybePt::Nowhere,
-            pt0: MaybePt::Nowhere,
-            pt1: MaybePt::Nowhere,
+        Ok(GeomEncoder {
+            kind,
+            bbox,
+            xy_end: None,
+            pt0: None,
+            pt1: None,
             cmd_offset: 0,
             count: 0,
             used: 0,
@@ -272,9 +270,12 @@ impl GeomEncoder {
         ensures edges { edges_of result ≡ passed (added self (point_at x y) words.old).answer (edges self (point_at x y)) }
     {
         if !is_valid(self, words.len()) {
-            return Drawn::Refused(Refusal::State, self);
+            return Err(Refused {
+                refusal: Refusal::State,
+                kept: self,
+            });
         }
-        add_valid(self, Pt { x: x, y: y }, words)
+        add_valid(self, Pt { x, y }, words)
     }
 
     // Completes a part: STATE, EMPTY, ROOM.
@@ -283,7 +284,10 @@ impl GeomEncoder {
         ensures edges { edges_of result ≡ none }
     {
         if !is_valid(self, words.len()) {
-            return Drawn::Refused(Refusal::State, self);
+            return Err(Refused {
+                refusal: Refusal::State,
+                kept: self,
+            });
         }
         complete_valid(self, words)
     }

@@ -3,7 +3,7 @@
 ghost use Rattle.std.specs.Prelude.{◌≡◌, true, ◌&&◌, ◌+◌, ◌≤◌, ◌-ℤ◌, length};
 ghost use Rattle.promise.specs.Answers.{Gives};
 ghost use Rattle.promise.specs.Laid.{lay};
-ghost use Rattle.clip.specs.Facts.{Coord};
+ghost use Rattle.clip.specs.Facts.{Coord, Within};
 ghost use Rattle.words.specs.Params.{param};
 ghost use Rattle.encoder.specs.Points.{between};
 ghost use Rattle.encoder.specs.Emitting.{steps};
@@ -28,26 +28,13 @@ pub(crate) struct Pen {
 }
 
 // ---- writing
-// The parameter word of a step along x, and of one along y. Two points within the limit are less than 2^31 apart.
-fn step_x(from: Pt, to: Pt) -> u32
-    requires coord { Coord from }
-    requires coord_2 { Coord to }
-    ensures { result ≡ param (to.x -ℤ from.x) }
+// The parameter word of a step along x, or along y. Two numbers within the limit are less than 2^31 apart.
+fn step(from: i32, to: i32) -> u32
+    requires from_within { Within from }
+    requires to_within { Within to }
+    ensures { result ≡ param (to -ℤ from) }
 {
-    let d = ParamInt {
-        value: to.x - from.x,
-    };
-    d.encode()
-}
-
-fn step_y(from: Pt, to: Pt) -> u32
-    requires coord { Coord from }
-    requires coord_2 { Coord to }
-    ensures { result ≡ param (to.y -ℤ from.y) }
-{
-    let d = ParamInt {
-        value: to.y - from.y,
-    };
+    let d = ParamInt { value: to - from };
     d.encode()
 }
 
@@ -57,8 +44,8 @@ pub(crate) fn write_steps(at: usize, from: Pt, to: Pt, words: &mut [u32])
     requires coord_2 { Coord to }
     ensures { words.new ≡ lay at (steps from to) words.old }
 {
-    let dx = step_x(from, to);
-    let dy = step_y(from, to);
+    let dx = step(from.x, to.x);
+    let dy = step(from.y, to.y);
     words[at] = dx;
     words[at + 1] = dy;
 }
@@ -80,16 +67,12 @@ fn pop_point(pen: Pen) -> Pen
     requires taken_out_bound { pen.taken_out ≤ max_tally + 6 }
     ensures { result ≡ taken pen }
 {
-    let raw = pen.raw;
-    let pt0 = pen.pt0;
     Pen {
-        raw: raw,
-        pt0: pt0,
-        pt1: pt0,
+        pt1: pen.pt0,
         count: pen.count - 1,
         used: pen.used - 2,
-        skipped: pen.skipped,
         taken_out: pen.taken_out + 1,
+        ..pen
     }
 }
 
@@ -99,9 +82,7 @@ pub(crate) fn before_push(ring: bool, pen: Pen, q: Pt) -> Pen
     requires taken_out_bound { pen.taken_out ≤ max_tally + 6 }
     ensures { result ≡ before_push ring pen q }
 {
-    let pt0 = pen.pt0;
-    let pt1 = pen.pt1;
-    if is_taken_out(ring, pt0, pt1, q) {
+    if is_taken_out(ring, pen.pt0, pen.pt1, q) {
         return pop_point(pen);
     }
     pen
@@ -113,16 +94,12 @@ pub(crate) fn advance(pen: Pen, q: Pt) -> Pen
     requires used_bound { pen.used ≤ plan_limit + 1 }
     ensures { result ≡ (onward pen q).pen }
 {
-    let raw = pen.raw;
-    let pt1 = pen.pt1;
     Pen {
-        raw: raw,
-        pt0: pt1,
+        pt0: pen.pt1,
         pt1: q,
         count: pen.count + 1,
         used: pen.used + 2,
-        skipped: pen.skipped,
-        taken_out: pen.taken_out,
+        ..pen
     }
 }
 
@@ -132,8 +109,7 @@ fn push_point(pen: Pen, q: Pt, words: &mut [u32]) -> Pen
     requires coord { Coord q }
     ensures { Gives (laid (onward pen q) words.old) result words.new }
 {
-    let pt1 = pen.pt1;
-    write_steps(pen.used, pt1, q, words);
+    write_steps(pen.used, pen.pt1, q, words);
     advance(pen, q)
 }
 
@@ -142,9 +118,10 @@ pub(crate) fn pass_point(pen: Pen) -> Pen
     requires { pen.skipped ≤ max_tally + 6 }
     ensures { result ≡ again pen }
 {
-    let mut next = pen;
-    next.skipped = pen.skipped + 1;
-    next
+    Pen {
+        skipped: pen.skipped + 1,
+        ..pen
+    }
 }
 
 // A point of the box.
@@ -153,8 +130,7 @@ pub(crate) fn emit(ring: bool, pen: Pen, q: Pt, words: &mut [u32]) -> Pen
     requires coord { Coord q }
     ensures { Gives (marked ring pen q words.old) result words.new }
 {
-    let pt1 = pen.pt1;
-    if is_same(pt1, q) {
+    if is_same(pen.pt1, q) {
         return pass_point(pen);
     }
     let base = before_push(ring, pen, q);
@@ -164,15 +140,5 @@ pub(crate) fn emit(ring: bool, pen: Pen, q: Pt, words: &mut [u32]) -> Pen
 pub(crate) fn set_raw(pen: Pen, p: Pt) -> Pen
     ensures { result ≡ with_raw pen p }
 {
-    let pt0 = pen.pt0;
-    let pt1 = pen.pt1;
-    Pen {
-        raw: p,
-        pt0: pt0,
-        pt1: pt1,
-        count: pen.count,
-        used: pen.used,
-        skipped: pen.skipped,
-        taken_out: pen.taken_out,
-    }
+    Pen { raw: p, ..pen }
 }

@@ -2,19 +2,12 @@
 // another one, between two others.
 // Functions of points alone: they know no state and no words.
 ghost use Rattle.std.specs.Prelude.{◌≡◌};
-ghost use Rattle.encoder.specs.Points.{in_limit, in_limits, clamp_to, clamped, same_pt, strictly, between, last_of, missing};
+ghost use Rattle.encoder.specs.Points.{in_limit, in_limits, clamp_to, clamped, same_pt, strictly, between, last_of};
 
 use clip::{BBox, Pt};
 
-// A point that may be missing.
-#[derive(Clone, Copy)]
-pub enum MaybePt {
-    Nowhere,
-    At(Pt),
-}
-
 // Whether no stored point would be refused as COORD.
-pub(crate) fn are_in_limit(l: MaybePt, m: MaybePt, n: MaybePt) -> bool
+pub(crate) fn are_in_limit(l: Option<Pt>, m: Option<Pt>, n: Option<Pt>) -> bool
     ensures { result ≡ in_limits l m n }
 {
     let a = is_in_limit(l);
@@ -23,15 +16,13 @@ pub(crate) fn are_in_limit(l: MaybePt, m: MaybePt, n: MaybePt) -> bool
     a & b & c
 }
 
-fn is_in_limit(m: MaybePt) -> bool
+fn is_in_limit(m: Option<Pt>) -> bool
     ensures { result ≡ in_limit m }
 {
-    match m {
-        MaybePt::Nowhere => true,
-        MaybePt::At(p) => BBox::is_coord(p),
-    }
+    m.is_none_or(|p| BBox::is_coord(p))
 }
 
+// Not `z.clamp(lo, hi)`, which is for lo at most hi: the box is asked nothing here.
 fn clamp(z: i32, lo: i32, hi: i32) -> i32
     ensures { result ≡ clamp_to lo hi z }
 {
@@ -50,18 +41,14 @@ pub(crate) fn make_point(p: Pt, b: BBox) -> Pt
 {
     let x = clamp(p.x, b.x_min, b.x_max);
     let y = clamp(p.y, b.y_min, b.y_max);
-    Pt { x: x, y: y }
+    Pt { x, y }
 }
 
 // Whether two points are one.
 pub(crate) fn is_same(p: Pt, q: Pt) -> bool
     ensures { result ≡ same_pt p q }
 {
-    let px = p.x;
-    let py = p.y;
-    let qx = q.x;
-    let qy = q.y;
-    (px == qx) & (py == qy)
+    (p.x == q.x) & (p.y == q.y)
 }
 
 fn is_strictly(a: i32, m: i32, b: i32) -> bool
@@ -74,33 +61,14 @@ fn is_strictly(a: i32, m: i32, b: i32) -> bool
 pub(crate) fn is_between(a: Pt, m: Pt, b: Pt) -> bool
     ensures { result ≡ between a m b }
 {
-    let ax = a.x;
-    let ay = a.y;
-    let mx = m.x;
-    let my = m.y;
-    let bx = b.x;
-    let by = b.y;
-    let up = is_strictly(ay, my, by);
-    let along = is_strictly(ax, mx, bx);
-    ((ax == mx) & (mx == bx) & up) | ((ay == my) & (my == by) & along)
+    let up = is_strictly(a.y, m.y, b.y);
+    let along = is_strictly(a.x, m.x, b.x);
+    ((a.x == m.x) & (m.x == b.x) & up) | ((a.y == m.y) & (m.y == b.y) & along)
 }
 
 // The last point, (0, 0) at the start.
-pub(crate) fn last_of(m: MaybePt) -> Pt
+pub(crate) fn last_of(m: Option<Pt>) -> Pt
     ensures { result ≡ last_of m }
 {
-    match m {
-        MaybePt::Nowhere => Pt { x: 0, y: 0 },
-        MaybePt::At(p) => p,
-    }
-}
-
-// Whether there is no point.
-pub(crate) fn is_missing(m: MaybePt) -> bool
-    ensures { result ≡ missing m }
-{
-    match m {
-        MaybePt::Nowhere => true,
-        MaybePt::At(_) => false,
-    }
+    m.unwrap_or(Pt { x: 0, y: 0 })
 }

@@ -5,11 +5,11 @@ ghost use Rattle.promise.specs.Answers.{Gives};
 ghost use Rattle.encoder.specs.States.{Sound, is_placed};
 ghost use Rattle.encoder.specs.Jobs.{points_of, part, go, add_calls, added_run, outcome_of, end_of};
 
-use crate::points::MaybePt;
 use crate::stretch::add_stretch;
 use crate::whole_job::Course;
-use crate::{Drawn, GeomEncoder, add_valid, is_valid};
+use crate::{GeomEncoder, add_valid, is_valid};
 use clip::Pt;
+use refusal::Refused;
 
 // Adds the points from `from` up to `to`: a stretch where the part has two points, and behind it one point by itself, which may be any. The one call of a
 // stretch stands here, for whole jobs and for pieces of one, so that the compiler puts its loop in.
@@ -28,6 +28,7 @@ pub(crate) fn add_run(
     let mut q = s;
     let mut i = from;
     let mut tried = false;
+    // No `for`: a stretch takes many points in one turn.
     while i < to {
         if (2 <= q.count) & !tried {
             let plain = add_stretch(q, points, i, to, words);
@@ -38,51 +39,50 @@ pub(crate) fn add_run(
         }
         let x = points[2 * i];
         let y = points[2 * i + 1];
-        match add_valid(q, Pt { x: x, y: y }, words) {
-            Drawn::Done(t, _) => q = t,
-            Drawn::Refused(r, _) => return Course::Off(r, i),
+        match add_valid(q, Pt { x, y }, words) {
+            Ok((t, _)) => q = t,
+            Err(e) => return Err(Refused {
+                refusal: e.refusal,
+                kept: i,
+            }),
         }
         tried = false;
         i += 1;
     }
-    Course::On(q)
+    Ok(q)
 }
 
 // The rule that STATE lacks, and that accepted calls keep of a fresh state: where there is a last point, the last command's place is below the used words.
-fn is_placed(last: MaybePt, place: usize, used: usize) -> bool
+fn is_placed(last: Option<Pt>, place: usize, used: usize) -> bool
     ensures { result ≡ is_placed last place used }
 {
-    match last {
-        MaybePt::Nowhere => true,
-        MaybePt::At(_) => place < used,
-    }
+    last.is_none_or(|_| place < used)
 }
 
 // Each point by itself, from a state that may be bad: STATE is asked every time.
 fn add_each(s: GeomEncoder, points: &[i32], words: &mut [u32]) -> Course
     ensures { Gives (added_run s points.now words.old) (end_of points.now result) words.new }
 {
-    let to = points.len() / 2;
     let mut q = s;
-    let mut i = 0;
-    while i < to {
+    for i in 0..points.len() / 2 {
         let x = points[2 * i];
         let y = points[2 * i + 1];
         match q.add_point(x, y, words) {
-            Drawn::Done(t, _) => q = t,
-            Drawn::Refused(r, _) => return Course::Off(r, i),
+            Ok((t, _)) => q = t,
+            Err(e) => return Err(Refused {
+                refusal: e.refusal,
+                kept: i,
+            }),
         }
-        i += 1;
     }
-    Course::On(q)
+    Ok(q)
 }
 
 // Adds the points of a list one after the other. Where one is refused, its refusal, and how many of the list were accepted.
 pub fn add_points(s: GeomEncoder, points: &[i32], words: &mut [u32]) -> Course
     ensures { Gives (added_run s points.now words.old) (end_of points.now result) words.new }
 {
-    let last = s.pt1;
-    if is_valid(s, words.len()) & is_placed(last, s.cmd_offset, s.used) {
+    if is_valid(s, words.len()) & is_placed(s.pt1, s.cmd_offset, s.used) {
         return add_run(s, points, 0, points.len() / 2, words);
     }
     add_each(s, points, words)

@@ -5,6 +5,7 @@ ghost use Rattle.promise.specs.Answers.{Gives};
 ghost use Rattle.clip.specs.Domain.{is_coord, is_good};
 ghost use Rattle.words.specs.Geometries.{max_words};
 ghost use Rattle.encoder.specs.Boundary.{outside};
+ghost use Rattle.encoder.specs.Points.{in_limit};
 ghost use Rattle.encoder.specs.Stretches.{is_start, Ongoing, emissions_by, reckoned, spare_of, Counting, run, last_point, stretched};
 ghost use Rattle.number.specs.Least.{smaller};
 ghost use Rattle.encoder.specs.Tallies.{max_tally, counts_fit};
@@ -27,28 +28,26 @@ pub struct Stretch {
 }
 
 // An end that may have moved. A moved end lies on an edge of the box, so it is not clamped.
-fn emit_if(moved: bool, ring: bool, pen: Pen, end: Pt, words: &mut [u32]) -> Pen
+fn emit_if(ring: bool, pen: Pen, end: Option<Pt>, words: &mut [u32]) -> Pen
     requires able { Able 2 pen (length words.old) }
-    requires end_value { is_coord end ≡ true }
-    ensures { Gives (marked_if moved ring pen end words.old) result words.new }
+    requires end_value { in_limit end ≡ true }
+    ensures { Gives (marked_if ring pen end words.old) result words.new }
 {
-    if !moved {
-        return pen;
+    match end {
+        None => pen,
+        Some(q) => emit(ring, pen, q, words),
     }
-    emit(ring, pen, end, words)
 }
 
 // Each end that moved, in order.
 fn emit_ends(ring: bool, pen: Pen, ends: Ends, words: &mut [u32]) -> Pen
     requires able { Able 4 pen (length words.old) }
-    requires end0_value { is_coord ends.end0 ≡ true }
-    requires end1_value { is_coord ends.end1 ≡ true }
+    requires end0_value { in_limit ends.end0 ≡ true }
+    requires end1_value { in_limit ends.end1 ≡ true }
     ensures { Gives (marked_ends ring pen ends words.old) result words.new }
 {
-    let c0 = ends.end0;
-    let c1 = ends.end1;
-    let first = emit_if(ends.moved0, ring, pen, c0, words);
-    emit_if(ends.moved1, ring, first, c1, words)
+    let first = emit_if(ring, pen, ends.end0, words);
+    emit_if(ring, first, ends.end1, words)
 }
 
 // A segment that has an end outside: each moved end, then the point itself.
@@ -58,9 +57,8 @@ fn cross(b: BBox, ring: bool, pen: Pen, p: Pt, words: &mut [u32]) -> Pen
     requires p_value { is_coord p ≡ true }
     ensures { Gives (drawn_by b ring pen p words.old) result words.new }
 {
-    let raw = pen.raw;
-    let cut = clip_raw(Seg { p0: raw, p1: p }, b);
-    let moved = moved_ends(raw, p, cut);
+    let cut = clip_raw(Seg { p0: pen.raw, p1: p }, b);
+    let moved = moved_ends(pen.raw, p, cut);
     let ends = emit_ends(ring, pen, moved, words);
     let q = make_point(p, b);
     let last = emit(ring, ends, q, words);
@@ -86,8 +84,7 @@ fn draw(b: BBox, ring: bool, pen: Pen, p: Pt, crossing: bool, words: &mut [u32])
 fn is_start(d: Draft) -> bool
     ensures { result ≡ is_start d }
 {
-    let pen = d.pen;
-    (d.kind != Geometry::POINT) & (2 <= pen.count) & d.joins & d.has0 & d.has1
+    (d.kind != Geometry::POINT) & (2 <= d.pen.count) & d.joins & d.has0 & d.has1
 }
 
 // The state that the pen has come to with so many points more. Each emission is a vertex more, a point skipped or one taken out; those that are not
@@ -100,16 +97,14 @@ fn state_with(s: GeomEncoder, start: Pen, pen: Pen, points: usize) -> GeomEncode
     requires points_bound { emissions_by start + points ≤ emissions_by pen }
     ensures { result ≡ reckoned s start pen points }
 {
-    let bbox = s.bbox;
-    let tally = s.tally;
-    let taken = tally.taken as usize;
-    let boundary = tally.boundary as usize;
+    let taken = s.tally.taken as usize;
+    let boundary = s.tally.boundary as usize;
     let before = start.count + start.skipped + start.taken_out;
     let after = pen.count + pen.skipped + pen.taken_out;
     state_of(Draft {
         kind: s.kind,
-        bbox: bbox,
-        pen: pen,
+        bbox: s.bbox,
+        pen,
         joins: true,
         has0: true,
         has1: true,
@@ -151,14 +146,14 @@ fn draw_all(
     let bbox = s.bbox;
     let ring = s.kind == Geometry::POLYGON;
     let room = Geometry::room(words.len());
-    let raw = start.raw;
     let mut pen = start;
-    let mut out = is_outside(raw, bbox);
+    let mut out = is_outside(start.raw, bbox);
     let mut i = from;
+    // No `for`: how far it came is asked behind it, and where `from` is beyond `end` that is `from`.
     while i < end {
         let x = points[2 * i];
         let y = points[2 * i + 1];
-        let p = Pt { x: x, y: y };
+        let p = Pt { x, y };
         let next = is_outside(p, bbox);
         if !is_plain(pen.used, room, p, next) {
             return Stretch {
@@ -179,10 +174,7 @@ fn draw_all(
 fn last_point(length: usize, to: usize) -> usize
     ensures { result ≡ last_point length to }
 {
-    if to <= length / 2 {
-        return to;
-    }
-    length / 2
+    to.min(length / 2)
 }
 
 // So many points can be taken before a count could be too large: each brings at most three emissions.
@@ -190,10 +182,7 @@ fn spare(t: Tally) -> usize
     ensures { result ≡ spare_of t }
 {
     let given = t.taken as usize + t.boundary as usize;
-    if Tally::MAX < given {
-        return 0;
-    }
-    (Tally::MAX - given) / 3
+    Tally::MAX.saturating_sub(given) / 3
 }
 
 // The end, or so many points from `from` on.
@@ -227,8 +216,6 @@ pub(crate) fn add_stretch(
             reached: from,
         };
     }
-    let tally = s.tally;
-    let end = within(from, last_point(points.len(), to), spare(tally));
-    let pen = d.pen;
-    draw_all(s, pen, points, from, end, words)
+    let end = within(from, last_point(points.len(), to), spare(s.tally));
+    draw_all(s, d.pen, points, from, end, words)
 }

@@ -2,47 +2,39 @@
 // by none of them: a fresh state is sound, and accepted calls keep it so.
 ghost use Rattle.std.specs.Prelude.{◌≡◌, true, ◌*◌, ◌/◌, ◌≤◌, length};
 ghost use Rattle.promise.specs.Answers.{Gives};
+ghost use Rattle.encoder.specs.Answers.{said_started};
 ghost use Rattle.encoder.specs.Calls.{part_calls};
 ghost use Rattle.encoder.specs.States.{Sound};
-ghost use Rattle.encoder.specs.Jobs.{points_of, is_job, is_job_of, ends_at, part, go, go_all, end_of, encoded_job, said_encoded, outcome_of, Finishes};
+ghost use Rattle.encoder.specs.Jobs.{points_of, is_job, is_job_of, ends_at, part, go, go_all, end_of, job_started, encoded_job, said_encoded, outcome_of, Finishes};
 
 use crate::run::add_run;
-use crate::{Drawn, GeomEncoder, Started, complete_valid};
+use crate::{GeomEncoder, complete_valid};
 use clip::BBox;
-use refusal::Refusal;
+use refusal::{Refusal, Refused};
 
-#[derive(Clone, Copy)]
-pub enum Encoded {
-    Words(usize),
-    Refused(Refusal, usize), // and the count of accepted points
-}
+// How many words there are; or the refusal and how many points were accepted.
+pub type Encoded = Result<usize, Refused<usize>>;
 
-// The calls went on to a state, its counts among it, or one was refused after so many accepted points.
-#[derive(Clone, Copy)]
-pub enum Course {
-    On(GeomEncoder),
-    Off(Refusal, usize),
-}
+// The state that the calls went on to, its counts among it; or the refusal of one and how many points were accepted before it.
+pub type Course = Result<GeomEncoder, Refused<usize>>;
 
 // JOB of a list of coordinates of that length, whatever they are.
 pub fn is_job_of(length: usize, ends: &[u32]) -> bool
     ensures { result ≡ is_job_of length ends.now }
 {
-    if ends.len() == 0 {
+    if ends.is_empty() {
         return false;
     }
     if length % 2 != 0 {
         return false;
     }
     let mut from = 0;
-    let mut j = 0;
-    while j < ends.len() {
-        let end = ends[j] as usize;
+    for end in ends {
+        let end = *end as usize;
         if end < from {
             return false;
         }
         from = end;
-        j += 1;
     }
     from == length / 2
 }
@@ -60,12 +52,13 @@ fn add_part(s: GeomEncoder, points: &[i32], from: usize, to: usize, words: &mut 
     requires sound { Sound s (length words.old) }
     ensures { Gives (go (part_calls (part (points_of points.now) from to)) from s words.old) (outcome_of to result) words.new }
 {
-    match add_run(s, points, from, to, words) {
-        Course::Off(r, n) => Course::Off(r, n),
-        Course::On(q) => match complete_valid(q, words) {
-            Drawn::Done(t, _) => Course::On(t),
-            Drawn::Refused(r, _) => Course::Off(r, to),
-        },
+    let q = add_run(s, points, from, to, words)?;
+    match complete_valid(q, words) {
+        Ok((t, _)) => Ok(t),
+        Err(e) => Err(Refused {
+            refusal: e.refusal,
+            kept: to,
+        }),
     }
 }
 
@@ -77,29 +70,31 @@ fn add_parts(s: GeomEncoder, points: &[i32], ends: &[u32], words: &mut [u32]) ->
 {
     let mut q = s;
     let mut from = 0;
-    let mut j = 0;
-    while j < ends.len() {
-        let end = ends[j] as usize;
-        match add_part(q, points, from, end, words) {
-            Course::On(t) => q = t,
-            Course::Off(r, n) => return Course::Off(r, n),
-        }
+    for end in ends {
+        let end = *end as usize;
+        q = add_part(q, points, from, end, words)?;
         from = end;
-        j += 1;
     }
-    Course::On(q)
+    Ok(q)
+}
+
+// A fresh encoder for the job: JOB, KIND, BOX.
+fn start(kind: u32, bbox: BBox, points: &[i32], ends: &[u32]) -> Result<GeomEncoder, Refusal>
+    ensures { said_started result ≡ job_started kind bbox points.now ends.now }
+{
+    if !is_job(points, ends) {
+        return Err(Refusal::Job);
+    }
+    GeomEncoder::new(kind, bbox)
 }
 
 // JOB, KIND, BOX, then the calls; at the first refused one its number and the accepted points.
 pub fn finish(kind: u32, bbox: BBox, points: &[i32], ends: &[u32], words: &mut [u32]) -> Course
     ensures { Finishes kind bbox points.now ends.now words.old result words.new }
 {
-    if !is_job(points, ends) {
-        return Course::Off(Refusal::Job, 0);
-    }
-    match GeomEncoder::new(kind, bbox) {
-        Started::Refused(r) => Course::Off(r, 0),
-        Started::Fresh(s) => add_parts(s, points, ends, words),
+    match start(kind, bbox, points, ends) {
+        Ok(s) => add_parts(s, points, ends, words),
+        Err(refusal) => Err(Refused { refusal, kept: 0 }),
     }
 }
 
@@ -107,14 +102,10 @@ pub fn finish(kind: u32, bbox: BBox, points: &[i32], ends: &[u32], words: &mut [
 pub fn encode(kind: u32, bbox: BBox, points: &[i32], ends: &[u32], words: &mut [u32]) -> Encoded
     ensures { Gives (encoded_job kind bbox points.now ends.now words.old) (said_encoded result) words.new }
 {
-    if !is_job(points, ends) {
-        return Encoded::Refused(Refusal::Job, 0);
-    }
-    match GeomEncoder::new(kind, bbox) {
-        Started::Refused(r) => Encoded::Refused(r, 0),
-        Started::Fresh(s) => match add_parts(s, points, ends, words) {
-            Course::On(t) => Encoded::Words(t.used),
-            Course::Off(r, n) => Encoded::Refused(r, n),
-        },
-    }
+    let s = match start(kind, bbox, points, ends) {
+        Ok(s) => s,
+        Err(refusal) => return Err(Refused { refusal, kept: 0 }),
+    };
+    let t = add_parts(s, points, ends, words)?;
+    Ok(t.used)
 }

@@ -1,6 +1,6 @@
 -- The bytes of a layer, as crate `tile` reads them out of the lists, are MVT's message of the drawing that stands there.
 use mathlib.Core.Path.{◌≡◌}
-use Rattle.layer.specs.declared.Open.TheVariants.{Shut}
+use Rattle.std.specs.Prelude.{None}
 use Rattle.layer.specs.Held.{Seen}
 use Rattle.tile.specs.Texts.{text_field}
 use Rattle.tile.specs.Layers.{layer_bytes}
@@ -12,7 +12,7 @@ use Rattle.given.proofs.Values.{value_fields_lem}
 use Rattle.given.proofs.Records.{feature_fields_lem}
 use Rattle.given.proofs.Standing.{none_open}
 
-pub layer_bytes_lem : (v : Seen) (d : Drawing) → Stands v d → v.layer.feature ≡ Shut → layer_bytes v.layer v.held ≡ layer_message d
+pub layer_bytes_lem : (v : Seen) (d : Drawing) → Stands v d → v.layer.feature ≡ None → layer_bytes v.layer v.held ≡ layer_message d
 unfolding layer_bytes layer_message text_field
 layer_bytes_lem v d S s =
     let fs = d.features in

@@ -7,8 +7,7 @@ use mathlib.Core.List.{List, ◌++◌}
 use native.Mathlib.Omega.{arith}
 use lib.ListN.{length, drop, length-append, length-drop}
 use lib.Seq.{take-append-le, drop-append-le, take-append_seam, drop-append_seam}
-use Rattle.table.specs.declared.Found.{Found}
-use Rattle.table.specs.declared.Found.TheVariants.{At, Nothing}
+use Rattle.std.specs.Prelude.{Option, Some, None}
 use Rattle.table.specs.Texts.{same_text}
 use Rattle.table.specs.Keys.{find_key}
 use Rattle.tile.specs.Texts.{text_field}
@@ -42,12 +41,12 @@ pub text_found : (texts : List ℕ) (start len : ℕ) (t : List ℕ) → TextSta
 text_found texts start len t T key = text_bytes texts start len key T.within ∙ ap (λ (x : List ℕ). same_bytes x key) T.there
 
 -- what is found at index j on
-abbrev pub found_at : ℕ → Bool → ℕ → Found
-found_at j b place = cond b (At (j + place)) Nothing
+abbrev pub found_at : ℕ → Bool → ℕ → Option ℕ
+found_at j b place = cond b (Some (j + place)) None
 
-pub found_next : (j : ℕ) (t b : Bool) (place : ℕ) → cond t (At j) (found_at (suc j) b place) ≡ found_at j (cond t true b) (cond t 0 (suc place))
-found_next j true b place = ap At (omega arith)
-found_next j false b place = ap (λ (n : ℕ). cond b (At n) Nothing) (omega arith)
+pub found_next : (j : ℕ) (t b : Bool) (place : ℕ) → cond t (Some j) (found_at (suc j) b place) ≡ found_at j (cond t true b) (cond t 0 (suc place))
+found_next j true b place = ap Some (omega arith)
+found_next j false b place = ap (λ (n : ℕ). cond b (Some n) None) (omega arith)
 
 -- ---- keys
 module _ (texts : List ℕ) where

@@ -8,7 +8,7 @@ use native.Mathlib.Omega.{arith}
 use lib.ListN.{length, get_or, length-append, length-take, length-set}
 use lib.Seq.{take_all, take_at, take-append-le, take-set-le}
 use Rattle.promise.specs.Laid.{lay}
-use Rattle.table.specs.declared.Found.{Found}
+use Rattle.std.specs.Prelude.{Option as OptionOf}
 use Rattle.table.specs.declared.Value.{Value}
 use Rattle.layer.specs.declared.Figures.{Figures}
 use Rattle.layer.specs.Held.{Memory, held_by}
@@ -117,10 +117,10 @@ module _ (u : Figures) (n : ℕ) (h : Memory) (name : List ℕ) (keys : List (Li
         }
 
     module _ (M : Met keys values (all_tags fs)) (N : Met keys values f.tags) (key : List ℕ) (c : Content) (g : Fine c) (o : Figures) (l : o.features ≡ at) where
-      abbrev pub kf : Found
+      abbrev pub kf : OptionOf ℕ
       kf = found_at 0 (among same_bytes key keys) (place_of same_bytes key keys)
 
-      abbrev pub vf : Found
+      abbrev pub vf : OptionOf ℕ
       vf = found_at 0 (among same c values) (place_of same c values)
 
       abbrev new_tag : Tag
@@ -194,7 +194,7 @@ module _ (o : Figures) (n : ℕ) (h : Memory) (name : List ℕ) (fs : List Featu
   pub cut_marked : (run : List ℕ) → o.features + 1 + length run ≤ length h.features → held_by o (with_features h (lay (o.features + 1) run h.features)) ≡ held_by o h
   cut_marked run k = rw (take_lay_before o.features (o.features + 1) run h.features (omega arith) k)
 
-  pub cut_tagged : (u : Figures) (x : Stored) (kf vf : Found) → held_by o (held_with u o h x kf vf) ≡ held_by o h
+  pub cut_tagged : (u : Figures) (x : Stored) (kf vf : OptionOf ℕ) → held_by o (held_with u o h x kf vf) ≡ held_by o h
   cut_tagged u x kf vf =
       let pair = index_of kf u.keys ∷ index_of vf u.values ∷ [] in
       rw (

@@ -14,7 +14,7 @@ use Rattle.promise.proofs.Joined.{never, same, both, cond_both}
 use Rattle.table.specs.Texts.{inside, text_of}
 use Rattle.table.specs.Values.{value_ok}
 use Rattle.layer.specs.declared.Figures.{Figures}
-use Rattle.layer.specs.declared.Open.TheVariants.{Since}
+use Rattle.std.specs.Prelude.{Some}
 use Rattle.layer.specs.declared.Layer.{Layer}
 use Rattle.layer.specs.declared.whole_feature.Head.{Head}
 use Rattle.layer.specs.Held.{Memory, Seen, seen, Change, refuses, holds, held_by}
@@ -78,7 +78,7 @@ last_indices before kind id geometry indices =
     let n : length (before ++ r) - length indices ≡ length before + (6 + length geometry) = omega (arith, length-append before r, length-append geometry indices) in
     rw (g, n, drop-append-add before r (6 + length geometry)) (drop_at (kind ∷ get_or r 1 0 ∷ get_or r 2 0 ∷ get_or r 3 0 ∷ length indices ∷ length geometry ∷ geometry) indices (6 + length geometry) (omega arith))
 
-module _ (v : Seen) (d : Drawing) (S : Stands v d) (o : Figures) (s : v.layer.feature ≡ Since o) where
+module _ (v : Seen) (d : Drawing) (S : Stands v d) (o : Figures) (s : v.layer.feature ≡ Some o) where
   tags_there : (f : Feature) → HeldAs v.layer.used v.layer.name v.held d.name (d.features ++ (f ∷ [])) → HeldAs o v.layer.name (held_by o v.held) d.name d.features → (key : List ℕ) → has_key v.held.keys v.held.texts (last_tags v.held.features o.features) key ≡ amongKeys key (map key_of f.tags)
   tags_there f A B key =
       let ks = keys_of (d.features ++ (f ∷ [])) in
@@ -137,7 +137,7 @@ module _ (s : Layer) (m : Memory) (d : Drawing) (I : OnceIn s m d) where
   marked_once n (some f) a = a
 
   -- a tag that was not refused as AGAIN has a key of its own
-  module _ (key : List ℕ) (c : Content) (o : Figures) (f : s.feature ≡ Since o) (a : takes_key s.strict (seen s m).held o.features (tag_of key c).key ≡ true) where
+  module _ (key : List ℕ) (c : Content) (o : Figures) (f : s.feature ≡ Some o) (a : takes_key s.strict (seen s m).held o.features (tag_of key c).key ≡ true) where
     not_there : has_key (seen s m).held.keys (seen s m).held.texts (last_tags (seen s m).held.features o.features) key ≡ false
     not_there =
         let k : (tag_of key c).key ≡ key = ap (λ (t : Stored). t.key) (tag_parts key c) in

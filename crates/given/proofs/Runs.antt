@@ -14,7 +14,7 @@ use Rattle.refusal.specs.Said.{Said, accepted}
 use Rattle.table.specs.Texts.{short_text}
 use Rattle.utf8.specs.Utf8.{is_utf8}
 use Rattle.layer.specs.declared.Layer.{Layer}
-use Rattle.layer.specs.declared.Open.TheVariants.{Shut}
+use Rattle.std.specs.Prelude.{None}
 use Rattle.layer.specs.Held.{Memory, mem, Seen, seen, Change, refuses, holds, next, smaller, max_texts}
 use Rattle.layer.specs.State.{valid}
 use Rattle.layer.specs.Calls.{is_shut, created}
@@ -121,7 +121,7 @@ page_stands p s = all_stand p.calls s.fine (begun p) (begun_stands p s.creates)
 
 -- ---- the tile
 -- what is accepted has no feature open
-accepted_shut : (t : Tile) (v : Seen) (m : TileMemory) → eqb (add_layer t v m).answer.number 0 ≡ true → v.layer.feature ≡ Shut
+accepted_shut : (t : Tile) (v : Seen) (m : TileMemory) → eqb (add_layer t v m).answer.number 0 ≡ true → v.layer.feature ≡ None
 unfolding add_layer
 accepted_shut t v m e = is_shut_lem v.layer.feature (by (valid_tile t m) (valid v) (is_shut v.layer.feature) refl refl refl)
   where

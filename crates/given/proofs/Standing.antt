@@ -12,8 +12,7 @@ use Rattle.refusal.specs.declared.Refusal.TheVariants.{Kind, State, Room, Turn}
 use Rattle.table.specs.Keys.{find_key}
 use Rattle.words.specs.Geometries.{is_kind, max_words}
 use Rattle.layer.specs.declared.Figures.{Figures}
-use Rattle.layer.specs.declared.Open.{Open}
-use Rattle.layer.specs.declared.Open.TheVariants.{Shut, Since}
+use Rattle.std.specs.Prelude.{Option as OptionOf, Some, None}
 use Rattle.layer.specs.Held.{Memory, Seen, Change, holds, fits, held_by, next}
 use Rattle.layer.specs.State.{valid}
 use Rattle.layer.specs.Calls.{Tag as Stored, is_shut, more_words, with_used, with_features, record_with, key_found, value_found, tag_put}
@@ -34,15 +33,15 @@ use Rattle.given.proofs.Holding.{key_words_lem, value_words_lem, record_held, re
 
 -- ---- by whether a feature is open
 module _ (u : Figures) (n : ℕ) (h : Memory) (name : List ℕ) (fs : List Feature) where
-  pub none_open : (x : Open) (y : Option Feature) → x ≡ Shut → OpenAs u n h name fs x y → (y ≡ none) × HeldAs u n h name fs
-  none_open Shut none e P = (refl, P)
-  none_open Shut (some f) e P = absurd P
-  none_open (Since o) y e P = absurd (let z : ◌≡◌ {A = ℕ} 0 1 = cc in omega arith)
+  pub none_open : (x : OptionOf Figures) (y : Option Feature) → x ≡ None → OpenAs u n h name fs x y → (y ≡ none) × HeldAs u n h name fs
+  none_open None none e P = (refl, P)
+  none_open None (some f) e P = absurd P
+  none_open (Some o) y e P = absurd (let z : ◌≡◌ {A = ℕ} 0 1 = cc in omega arith)
 
-  pub one_open : (o : Figures) (x : Open) (y : Option Feature) → x ≡ Since o → OpenAs u n h name fs x y → (f : Feature) × (y ≡ some f) × HeldAs u n h name (fs ++ (f ∷ [])) × HeldAs o n (held_by o h) name fs
-  one_open o Shut y e P = absurd (let z : ◌≡◌ {A = ℕ} 0 1 = cc in omega arith)
-  one_open o (Since p) none e P = absurd P
-  one_open o (Since p) (some f) e P = let q : p ≡ o = cc in (f, refl, P.0, subst (λ (r : Figures). HeldAs r n (held_by r h) name fs) q P.1)
+  pub one_open : (o : Figures) (x : OptionOf Figures) (y : Option Feature) → x ≡ Some o → OpenAs u n h name fs x y → (f : Feature) × (y ≡ some f) × HeldAs u n h name (fs ++ (f ∷ [])) × HeldAs o n (held_by o h) name fs
+  one_open o None y e P = absurd (let z : ◌≡◌ {A = ℕ} 0 1 = cc in omega arith)
+  one_open o (Some p) none e P = absurd P
+  one_open o (Some p) (some f) e P = let q : p ≡ o = cc in (f, refl, P.0, subst (λ (r : Figures). HeldAs r n (held_by r h) name fs) q P.1)
 
 -- ---- the tags of features
 pub tags_last : (fs : List Feature) (f : Feature) → all_tags (fs ++ (f ∷ [])) ≡ all_tags fs ++ f.tags
@@ -50,12 +49,12 @@ tags_last [] f = append-nil f.tags
 tags_last (g ∷ fs) f = rw (tags_last fs f) (sym (append_assoc g.tags (all_tags fs) f.tags))
 
 -- ---- opening
-module _ (v : Seen) (d : Drawing) (S : Stands v d) (s : v.layer.feature ≡ Shut) (kind : ℕ) (id : Option ℕ) (words : List ℕ) where
+module _ (v : Seen) (d : Drawing) (S : Stands v d) (s : v.layer.feature ≡ None) (kind : ℕ) (id : Option ℕ) (words : List ℕ) where
   abbrev opening : Feature
   opening = record { kind = kind; id = id; geometry = words; tags = [] }
 
   abbrev pub begun : Seen
-  begun = next (holds (with_used v.layer (more_words v.layer.used (6 + length words)) (Since v.layer.used)) (with_features v.held (v.held.features ++ record_with kind (mark_of id) (number_of id) words))) v
+  begun = next (holds (with_used v.layer (more_words v.layer.used (6 + length words)) (Some v.layer.used)) (with_features v.held (v.held.features ++ record_with kind (mark_of id) (number_of id) words))) v
 
   pub opened_stands : Stands begun (drawn d d.features (some opening))
   opened_stands =
@@ -70,7 +69,7 @@ module _ (v : Seen) (d : Drawing) (S : Stands v d) (s : v.layer.feature ≡ Shut
       }
 
 -- ---- with a feature open
-module _ (v : Seen) (d : Drawing) (S : Stands v d) (o : Figures) (s : v.layer.feature ≡ Since o) where
+module _ (v : Seen) (d : Drawing) (S : Stands v d) (o : Figures) (s : v.layer.feature ≡ Some o) where
   abbrev pub there : (f : Feature) × (d.pending ≡ some f) × HeldAs v.layer.used v.layer.name v.held d.name (d.features ++ (f ∷ [])) × HeldAs o v.layer.name (held_by o v.held) d.name d.features
   there = one_open v.layer.used v.layer.name v.held d.name d.features o v.layer.feature d.pending s S.parts
 
@@ -93,14 +92,14 @@ module _ (v : Seen) (d : Drawing) (S : Stands v d) (o : Figures) (s : v.layer.fe
     pub met : Met keys values (all_tags d.features ++ f.tags)
     met = rw (← tags_last d.features f) (all_met [] [] (all_tags (d.features ++ (f ∷ []))))
 
-    id_parts : (n : ℕ) → OpenAs v.layer.used v.layer.name (with_features v.held (lay (o.features + 1) (1 ∷ n % 4294967296 ∷ n / 4294967296 ∷ []) v.held.features)) d.name d.features (Since o) (some (identified n f))
+    id_parts : (n : ℕ) → OpenAs v.layer.used v.layer.name (with_features v.held (lay (o.features + 1) (1 ∷ n % 4294967296 ∷ n / 4294967296 ∷ []) v.held.features)) d.name d.features (Some o) (some (identified n f))
     id_parts n =
         let t : all_tags (d.features ++ (identified n f ∷ [])) ≡ all_tags (d.features ++ (f ∷ [])) = tags_last d.features (identified n f) ∙ sym (tags_last d.features f) in (
           rw t (id_held v.layer.used v.layer.name v.held d.name keys values d.features f A o.features starts n),
           rw (cut_marked o v.layer.name v.held d.name d.features B (1 ∷ n % 4294967296 ∷ n / 4294967296 ∷ []) four) B,
         )
 
-    tag_parted : (key : List ℕ) (c : Content) → Fine c → OpenAs (tag_put o (tag_of key c) v).layer.used v.layer.name (tag_put o (tag_of key c) v).held d.name d.features (Since o) (some (tagged (record { key = key; value = c }) f))
+    tag_parted : (key : List ℕ) (c : Content) → Fine c → OpenAs (tag_put o (tag_of key c) v).layer.used v.layer.name (tag_put o (tag_of key c) v).held d.name d.features (Some o) (some (tagged (record { key = key; value = c }) f))
     tag_parted key c g =
         let u = v.layer.used in
         let n = v.layer.name in
@@ -123,10 +122,10 @@ module _ (v : Seen) (d : Drawing) (S : Stands v d) (o : Figures) (s : v.layer.fe
   pub tag_stands : (key : List ℕ) (c : Content) → Fine c → Stands (tag_put o (tag_of key c) v) (after (tags key c) d)
   tag_stands key c g = let (f, p, A, B) = there in record { extent_is = S.extent_is; parts = rw (s, p) (tag_parted f A B key c g) }
 
-  pub closed_stands : Stands (next (holds (with_used v.layer v.layer.used Shut) v.held) v) (after closes d)
+  pub closed_stands : Stands (next (holds (with_used v.layer v.layer.used None) v.held) v) (after closes d)
   closed_stands = let (f, p, A, B) = there in record { extent_is = S.extent_is; parts = rw p A }
 
-  pub abandoned_stands : Stands (next (holds (with_used v.layer o Shut) (held_by o v.held)) v) (after abandons d)
+  pub abandoned_stands : Stands (next (holds (with_used v.layer o None) (held_by o v.held)) v) (after abandons d)
   abandoned_stands = let (f, p, A, B) = there in record { extent_is = S.extent_is; parts = B }
 
 -- ---- parts as long as the figures say
@@ -142,11 +141,11 @@ stands_lengths v d S = by v.layer.feature d.pending S.parts
           features = H.word_count;
         }
 
-    by : (x : Open) (y : Option Feature) → OpenAs v.layer.used v.layer.name v.held d.name d.features x y → Lengths v
-    by Shut none P = from d.features P
-    by Shut (some f) P = absurd P
-    by (Since o) none P = absurd P
-    by (Since o) (some f) P = from (d.features ++ (f ∷ [])) P.0
+    by : (x : OptionOf Figures) (y : Option Feature) → OpenAs v.layer.used v.layer.name v.held d.name d.features x y → Lengths v
+    by None none P = from d.features P
+    by None (some f) P = absurd P
+    by (Some o) none P = absurd P
+    by (Some o) (some f) P = from (d.features ++ (f ∷ [])) P.0
 
 -- ---- one law a call: where it is accepted, the drawing after it stands, within the room
 pub record Stays (w : Seen) (d : Drawing) : Type 0 where
@@ -158,7 +157,7 @@ Kept d v x = All (λ w. Stays w d) x v
 
 module _ (v : Seen) (d : Drawing) (S : Stands v d) where
   -- figures at opening fit where the present ones do
-  cut_room : (o : Figures) → v.layer.feature ≡ Since o → valid v ≡ true → fits o v.room ≡ true
+  cut_room : (o : Figures) → v.layer.feature ≡ Some o → valid v ≡ true → fits o v.room ≡ true
   cut_room o f e = fits_before o v.layer.used v.room (opening_in v (sound v e (stands_lengths v d S)) o f) (valid-parts v e).room
 
   pub call_stands : (c : Call) → FineCall c → Kept (after c d) v (asks c v)

@@ -14,7 +14,7 @@ use Rattle.table.specs.Values.{value_ok}
 use Rattle.whole.specs.Twos.{wide, signed64}
 use Rattle.whole.proofs.Twos.{twos_high}
 use Rattle.layer.specs.declared.Figures.{Figures}
-use Rattle.layer.specs.declared.Open.TheVariants.{Shut, Since}
+use Rattle.std.specs.Prelude.{Some, None}
 use Rattle.layer.specs.declared.whole_feature.Head.{Head}
 use Rattle.layer.specs.Held.{Seen}
 use Rattle.layer.specs.Calls.{Tag as Stored, bits_of, bit_of, tag_put}
@@ -98,7 +98,7 @@ tagged_more : (t : Tag) (ts : List Tag) (p : Option Feature) → on_open (tagged
 tagged_more t ts none = refl
 tagged_more t ts (some f) = rw (append_assoc f.tags (t ∷ []) ts)
 
-tags_stand : (bytes ws : List ℕ) → tags_ok (length bytes) ws ≡ true → Words ws → (o : Figures) (v : Seen) (d : Drawing) → v.layer.feature ≡ Since o → Stands v d → Stands (tags_put o (tags_of bytes ws) v) (drawn d d.features (on_open (tagged_all (tags_given bytes ws)) d.pending))
+tags_stand : (bytes ws : List ℕ) → tags_ok (length bytes) ws ≡ true → Words ws → (o : Figures) (v : Seen) (d : Drawing) → v.layer.feature ≡ Some o → Stands v d → Stands (tags_put o (tags_of bytes ws) v) (drawn d d.features (on_open (tagged_all (tags_given bytes ws)) d.pending))
 tags_stand bytes [] e w o v d s S = rw (tagged_none d.pending) S
 tags_stand bytes (a ∷ []) e w o v d s S = never e
 tags_stand bytes (a ∷ b ∷ []) e w o v d s S = never e
@@ -125,7 +125,7 @@ number_is true n = refl
 number_is false n = refl
 
 module _ (f : Head) (words ws bytes : List ℕ) (g : Words ws) (v : Seen) (d : Drawing) (S : Stands v d) where
-  put_stands : tags_ok (length bytes) ws ≡ true → v.layer.feature ≡ Shut → Stands (feature_put f words (tags_of bytes ws) v) (added (feature_given f words ws bytes) d)
+  put_stands : tags_ok (length bytes) ws ≡ true → v.layer.feature ≡ None → Stands (feature_put f words (tags_of bytes ws) v) (added (feature_given f words ws bytes) d)
   put_stands e s =
       let o = v.layer.used in
       let id = id_given f.has_id f.id in

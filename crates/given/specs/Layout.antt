@@ -5,8 +5,7 @@
 use Rattle.std.specs.Prelude.{ℕ, ◌+◌, ◌%◌, ◌/◌, ◌≤◌, ◌≡◌, cond, List, [], ◌∷◌, ◌++◌, length, take, drop}
 use Rattle.std.proofs.Math.Option.{Option, none, some}
 use Rattle.layer.specs.declared.Figures.{Figures}
-use Rattle.layer.specs.declared.Open.{Open}
-use Rattle.layer.specs.declared.Open.TheVariants.{Shut, Since}
+use Rattle.std.specs.Prelude.{Option as OptionOf, Some, None}
 use Rattle.layer.specs.Held.{Memory, Seen, held_by}
 use Rattle.given.specs.Given.{Content, text, float, double, int, uint, sint, bool, bits64, Feature, Drawing, keys_of, values_of}
 use Rattle.given.specs.Messages.{each, tag_indices}
@@ -74,11 +73,11 @@ abbrev pub HeldAs : Figures → ℕ → Memory → List ℕ → List Feature →
 HeldAs u n h name fs = Holds u n h name (keys_of fs) (values_of fs) fs
 
 -- with a feature open, the lists hold it behind those completed, and up to the figures at opening they hold those completed
-abbrev pub OpenAs : Figures → ℕ → Memory → List ℕ → List Feature → Open → Option Feature → Type 0
-OpenAs u n h name fs Shut none = HeldAs u n h name fs
-OpenAs u n h name fs Shut (some f) = ⊥
-OpenAs u n h name fs (Since o) none = ⊥
-OpenAs u n h name fs (Since o) (some f) = HeldAs u n h name (fs ++ (f ∷ [])) × HeldAs o n (held_by o h) name fs
+abbrev pub OpenAs : Figures → ℕ → Memory → List ℕ → List Feature → OptionOf Figures → Option Feature → Type 0
+OpenAs u n h name fs None none = HeldAs u n h name fs
+OpenAs u n h name fs None (some f) = ⊥
+OpenAs u n h name fs (Some o) none = ⊥
+OpenAs u n h name fs (Some o) (some f) = HeldAs u n h name (fs ++ (f ∷ [])) × HeldAs o n (held_by o h) name fs
 
 pub record Stands (v : Seen) (d : Drawing) : Type 0 where
   pub extent_is : v.layer.extent ≡ d.extent

@@ -11,7 +11,7 @@ use borrow.Author.Tests.{ltb-true, ltb-false, eq-eqb}
 use Rattle.promise.specs.Widened.{Wide}
 use Rattle.table.specs.Texts.{text_of}
 use Rattle.promise.proofs.Steps.{next}
-use Rattle.index.specs.Hashes.{Octet, hash_from, hash_text, mixed, hash_stored}
+use Rattle.index.specs.Hashes.{hash_from, hash_text, mixed, hash_stored}
 use Rattle.index.specs.Entries.{key_hash}
 use Rattle.index.specs.Steps.{end_in}
 
@@ -25,12 +25,12 @@ pub start : (text : List ℕ) → Inv text 0 0
 start text = record { at = zero-le; small = omega arith; rest = refl }
 
 module _ (text : List ℕ) (acc i : ℕ) (I : Inv text acc i) where
-  pub further : i < length text → (b : ℕ) → Octet (get_or text i 0) b → Inv text ((acc * 16777619 + b) % 4294967296) (i + 1)
-  further h b o =
+  pub further : i < length text → Inv text ((acc * 16777619 + get_or text i 0) % 4294967296) (i + 1)
+  further h =
       record {
         at = omega arith;
         small = omega arith;
-        rest = rw (next text i (i + 1) (omega arith) h, ← o.same) at I.rest;
+        rest = rw (next text i (i + 1) (omega arith) h) at I.rest;
       }
 
   pub ends : length text ≤ i → acc ≡ hash_text text

@@ -1,40 +1,17 @@
 -- The relation `Indexes`: no entries, one entry more, and an index of which the buckets are said otherwise.
-use Prim.Native.Nat.{ℕ, zero, suc, ◌+◌, ◌-◌, ◌%◌, ◌≤◌, ◌<◌, zero-le}
+use Prim.Native.Nat.{ℕ, zero, suc, ◌+◌, ◌%◌, ◌≤◌, ◌<◌, zero-le}
 use mathlib.Core.Path.{◌≡◌, refl, sym, ap, ◌∙◌, subst}
 use mathlib.Core.Bool.{Bool, true, false, cond}
-use mathlib.Core.List.{List, [], append-nil}
+use mathlib.Core.List.{List}
 use native.Mathlib.Omega.{arith}
 use native.Mathlib.Nat.{mod-lt}
 use native.Mathlib.Numerals.{add-one}
-use lib.ListN.{length, drop, drop_of_length-le, get_or, set, length-set, replicate, length-replicate, get_or-replicate}
+use lib.ListN.{length, get_or, set, length-set, replicate, length-replicate}
 use lib.Seq.{get_or-set_same, get_or-set_other}
 use lib.Dec.{eqb, ltb}
 use borrow.Author.Tests.{eqb-true, eqb-false, lt-ltb}
-use Rattle.promise.specs.Laid.{lay}
-use Rattle.promise.proofs.Copying.{Copied, copy_start, copy_turn, copy_done}
 use Rattle.index.specs.Chains.{slots_in, slots, latest, Indexes, cleared, pushed, max_entry, built, buckets_of}
 use Rattle.index.specs.Entries.{key_count, key_hash, KeyIndex, built_keys, value_count, value_hash, ValueIndex, built_values}
-
--- ---- `clear`
-all_laid : (run l : List ℕ) → length run ≡ length l → lay 0 run l ≡ run
-all_laid run l e =
-    let k : drop (0 + length run) l ≡ [] = drop_of_length-le l {i = 0 + length run} (omega arith) in
-    rw k (append-nil run)
-
-pub zero_start : (l : List ℕ) → Copied (replicate (length l) 0) 0 l l 0
-zero_start l = copy_start (omega (arith, length-replicate {A = ℕ} (length l) 0))
-
-module _ (l₀ l : List ℕ) (i : ℕ) (C : Copied (replicate (length l₀) 0) 0 l₀ l i) where
-  pub zero_turn : i < length l → Copied (replicate (length l₀) 0) 0 l₀ (set l i 0) (i + 1)
-  zero_turn h =
-      let n = length-replicate {A = ℕ} (length l₀) 0 in
-      let k : i < length l₀ = omega (arith, C.long) in
-      copy_turn C i 0 0 (omega arith) (sym (get_or-replicate {A = ℕ} (length l₀) i 0 0 k)) (omega (arith, n))
-
-  pub zero_done : length l ≤ i → l ≡ cleared l₀
-  zero_done h =
-      let n = length-replicate {A = ℕ} (length l₀) 0 in
-      copy_done C (omega (arith, n, C.long)) ∙ all_laid (replicate (length l₀) 0) l₀ n
 
 -- ---- `push`
 pub in_heads : (l : List ℕ) (h n : ℕ) → n < slots l → h % slots l < length l

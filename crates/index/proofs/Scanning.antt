@@ -9,8 +9,7 @@ use native.Mathlib.Nat.{mod-lt}
 use lib.ListN.{length, get_or, drop, length-drop}
 use lib.Dec.{eqb}
 use borrow.Author.Tests.{eq-eqb, ne_eqb, eqb-true, eqb-false, le-leb}
-use Rattle.table.specs.declared.Found.{Found}
-use Rattle.table.specs.declared.Found.TheVariants.{At, Nothing}
+use Rattle.std.specs.Prelude.{Option, Some, None}
 use Rattle.table.specs.declared.Value.{Value}
 use Rattle.table.specs.Keys.{find_key}
 use Rattle.table.specs.Values.{find_value}
@@ -67,7 +66,7 @@ scan_all : (same : ℕ → Bool) (k : ℕ) → scan same k 0 ≡ first_from same
 unfolding scan
 scan_all same k = let z : 0 + k ≡ k = omega arith in rw z at (scan_first same k 0 0)
 
-found_or : (t : Bool) (j x : ℕ) (f : Found) → f ≡ found_at x → cond t (At j) f ≡ found_at (cond t (suc j) x)
+found_or : (t : Bool) (j x : ℕ) (f : Option ℕ) → f ≡ found_at x → cond t (Some j) f ≡ found_at (cond t (suc j) x)
 found_or true j x f e = refl
 found_or false j x f e = e
 
@@ -79,7 +78,7 @@ module _ (l : List ℕ) (bs : ℕ → ℕ) (same : ℕ → Bool) (n h : ℕ) (I 
       ap found_at w
 
 -- ---- keys
-no_key : (j : ℕ) (l ts key : List ℕ) → length l < 2 → find_key j l ts key ≡ Nothing
+no_key : (j : ℕ) (l ts key : List ℕ) → length l < 2 → find_key j l ts key ≡ None
 no_key j [] ts key h = refl
 no_key j (w ∷ []) ts key h = refl
 no_key j (w ∷ v ∷ l) ts key h = absurd (omega arith)
@@ -89,7 +88,7 @@ module _ (ks ts key : List ℕ) where
   unfolding first_from
   find_keys zero j a b = no_key j (drop (j * 2) ks) ts key (rw length-drop (omega arith))
   find_keys (suc k) j a b =
-      let s : find_key j (drop (j * 2) ks) ts key ≡ cond (key_at ks ts key j) (At j) (find_key (suc j) (drop (suc j * 2) ks) ts key) = rw (next ks (j * 2) (j * 2 + 1) (omega arith) (omega arith), next ks (j * 2 + 1) (suc j * 2) (omega arith) (omega arith)) in
+      let s : find_key j (drop (j * 2) ks) ts key ≡ cond (key_at ks ts key j) (Some j) (find_key (suc j) (drop (suc j * 2) ks) ts key) = rw (next ks (j * 2) (j * 2 + 1) (omega arith) (omega arith), next ks (j * 2 + 1) (suc j * 2) (omega arith) (omega arith)) in
       s ∙ found_or (key_at ks ts key j) j (first_from (key_at ks ts key) (suc j) k 0) (find_key (suc j) (drop (suc j * 2) ks) ts key) (find_keys k (suc j) (omega arith) (omega arith))
 
 pub walked_key_is : (l ks ts key : List ℕ) → KeyIndex l ks ts → key_count ks ≤ slots l → walked_key l ks ts key (hash_text key) ≡ find_key 0 ks ts key
@@ -101,7 +100,7 @@ walked_key_is l ks ts key I k =
     ∙ sym (find_keys ks ts key (key_count ks) 0 (omega arith) (omega arith))
 
 -- ---- values
-no_value : (j : ℕ) (l ts : List ℕ) (v : Value) (t : List ℕ) → length l < 3 → find_value j l ts v t ≡ Nothing
+no_value : (j : ℕ) (l ts : List ℕ) (v : Value) (t : List ℕ) → length l < 3 → find_value j l ts v t ≡ None
 no_value j [] ts v t h = refl
 no_value j (a ∷ []) ts v t h = refl
 no_value j (a ∷ b ∷ []) ts v t h = refl
@@ -112,7 +111,7 @@ module _ (vs ts : List ℕ) (v : Value) (t : List ℕ) where
   unfolding first_from
   find_values zero j a b = no_value j (drop (j * 3) vs) ts v t (rw length-drop (omega arith))
   find_values (suc k) j a b =
-      let s : find_value j (drop (j * 3) vs) ts v t ≡ cond (value_at vs ts v t j) (At j) (find_value (suc j) (drop (suc j * 3) vs) ts v t) = rw (next vs (j * 3) (j * 3 + 1) (omega arith) (omega arith), next vs (j * 3 + 1) (j * 3 + 2) (omega arith) (omega arith), next vs (j * 3 + 2) (suc j * 3) (omega arith) (omega arith)) in
+      let s : find_value j (drop (j * 3) vs) ts v t ≡ cond (value_at vs ts v t j) (Some j) (find_value (suc j) (drop (suc j * 3) vs) ts v t) = rw (next vs (j * 3) (j * 3 + 1) (omega arith) (omega arith), next vs (j * 3 + 1) (j * 3 + 2) (omega arith) (omega arith), next vs (j * 3 + 2) (suc j * 3) (omega arith) (omega arith)) in
       s ∙ found_or (value_at vs ts v t j) j (first_from (value_at vs ts v t) (suc j) k 0) (find_value (suc j) (drop (suc j * 3) vs) ts v t) (find_values k (suc j) (omega arith) (omega arith))
 
 pub walked_value_is : (l vs ts : List ℕ) (v : Value) (text : List ℕ) → ValueIndex l vs ts → value_count vs ≤ slots l → walked_value l vs ts v text (hash_value v text) ≡ find_value 0 vs ts v text

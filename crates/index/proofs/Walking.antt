@@ -8,8 +8,7 @@ use native.Mathlib.Nat.{le_refl, mod-lt}
 use lib.ListN.{length, get_or}
 use lib.Dec.{eqb}
 use borrow.Author.Tests.{ne_eqb, eqb-true, eqb-false}
-use Rattle.table.specs.declared.Found.{Found}
-use Rattle.table.specs.declared.Found.TheVariants.{At, Nothing}
+use Rattle.std.specs.Prelude.{Option, Some, None, SomeIff}
 use Rattle.promise.specs.Widened.{Wide}
 use Rattle.table.specs.Texts.{same_text}
 use Rattle.number.specs.Least.{smaller}
@@ -71,9 +70,11 @@ pub key_asked : (keys texts key : List ℕ) (j start len : ℕ) → Wide (get_or
 key_asked keys texts key j start len a b t e = rw (← a.same, ← b.same) e
 
 -- ---- `key_pos`, `val_pos`
-pub found_some : (n : ℕ) → (n ≡ 0 → ⊥) → At (n - 1) ≡ found_at n
-found_some zero h = absurd (h refl)
-found_some (suc n) h = let e : suc n - 1 ≡ n = omega arith in rw e
+pub found_is : (w : ℕ) (r : Option ℕ) → SomeIff r (1 ≤ w) (w - 1) → r ≡ found_at w
+found_is zero None h = refl
+found_is zero (Some j) h = absurd (omega (arith, h.0))
+found_is (suc n) None h = absurd (h (omega arith))
+found_is (suc n) (Some j) h = let e : j ≡ n = omega (arith, h.1) in rw e
 
 pub ahead_keys : (index keys : List ℕ) (limit : ℕ) → limit ≡ smaller (length keys / 2) (slots index) → Ahead limit (length index) 2 (length keys)
 ahead_keys index keys limit e = let r = smaller_le (length keys / 2) (slots index) in record { linked = omega (arith, r.1); listed = omega (arith, r.0) }
@@ -82,7 +83,7 @@ pub ahead_values : (index values : List ℕ) (limit : ℕ) → limit ≡ smaller
 ahead_values index values limit e = let r = smaller_le (length values / 3) (slots index) in record { linked = omega (arith, r.1); listed = omega (arith, r.0) }
 
 -- no slots, no entry
-pub walked_nowhere : (l : List ℕ) (same : ℕ → Bool) (n h : ℕ) → slots l ≡ 0 → Nothing ≡ walked l same n h
+pub walked_nowhere : (l : List ℕ) (same : ℕ → Bool) (n h : ℕ) → slots l ≡ 0 → None ≡ walked l same n h
 walked_nowhere l same n h e =
     let z : smaller n (slots l) ≡ 0 = omega (arith, (smaller_le n (slots l)).1) in
     rw z
@@ -90,7 +91,7 @@ walked_nowhere l same n h e =
 pub in_slots : (l : List ℕ) (h : ℕ) → (slots l ≡ 0 → ⊥) → h % slots l < length l
 in_slots l h e = omega (arith, mod-lt h {m = slots l} (omega arith))
 
-pub walked_is : (l : List ℕ) (same : ℕ → Bool) (n h limit : ℕ) → limit ≡ smaller n (slots l) → (head : ℕ) → Wide (get_or l (h % slots l) 0) head → (w : ℕ) → w ≡ walk l same limit head 0 → (r : Found) → r ≡ found_at w → r ≡ walked l same n h
+pub walked_is : (l : List ℕ) (same : ℕ → Bool) (n h limit : ℕ) → limit ≡ smaller n (slots l) → (head : ℕ) → Wide (get_or l (h % slots l) 0) head → (w : ℕ) → w ≡ walk l same limit head 0 → (r : Option ℕ) → r ≡ found_at w → r ≡ walked l same n h
 walked_is l same n h limit e head g w f r q = rw (q, f, e, g.same)
 
 -- what is found is among the entries
@@ -109,11 +110,11 @@ walk_le l same top (suc j) cur best a b =
     (walk_le l same top j (get_or l (slots l + j) 0) (cond (same j) (suc j) best) (omega arith) (best_le (same j) j best top (omega arith) b))
     (walk_le l same top j cur best (omega arith) b)
 
-found_below : (n i : ℕ) → found_at n ≡ At i → i < n
+found_below : (n i : ℕ) → found_at n ≡ Some i → i < n
 found_below zero i e = absurd (let z : ◌≡◌ {A = ℕ} 0 1 = cc in omega arith)
 found_below (suc n) i e = let q : n ≡ i = cc in omega arith
 
-pub walked_below : (l : List ℕ) (same : ℕ → Bool) (n h i : ℕ) → walked l same n h ≡ At i → i < n
+pub walked_below : (l : List ℕ) (same : ℕ → Bool) (n h i : ℕ) → walked l same n h ≡ Some i → i < n
 walked_below l same n h i e =
     let w : ℕ = walk l same (smaller n (slots l)) (get_or l (h % slots l) 0) 0 in
     let a = walk_le l same n (smaller n (slots l)) (get_or l (h % slots l) 0) 0 (smaller_le n (slots l)).0 (omega arith) in

@@ -1,8 +1,6 @@
 -- An index: a list whose first half is the heads of the buckets and whose second half is the links of the entries. A head or a link is 1 + the number of an
 -- entry, or 0 for none. The head of a bucket is its newest entry, and an entry links to the newest earlier one of its bucket.
-use Rattle.std.specs.Prelude.{ℕ, zero, suc, ◌+◌, ◌/◌, ◌%◌, ◌≤◌, ◌<◌, ◌≡◌, Bool, cond, ◌&&◌, List, length, get_or, set, replicate, leb, ltb, eqb}
-use Rattle.table.specs.declared.Found.{Found}
-use Rattle.table.specs.declared.Found.TheVariants.{At, Nothing}
+use Rattle.std.specs.Prelude.{ℕ, zero, suc, ◌+◌, ◌/◌, ◌%◌, ◌≤◌, ◌<◌, ◌≡◌, Bool, cond, ◌&&◌, List, length, get_or, set, replicate, leb, ltb, eqb, Option, Some, None}
 use Rattle.number.specs.Least.{smaller}
 
 -- how many buckets an index of so many words has, and how many entries it has links for
@@ -59,10 +57,10 @@ walk l same (suc j) cur best =
     (walk l same j (get_or l (slots l + j) 0) (cond (same j) (suc j) best))
     (walk l same j cur best)
 
-abbrev pub found_at : ℕ → Found
-found_at zero = Nothing
-found_at (suc j) = At j
+abbrev pub found_at : ℕ → Option ℕ
+found_at zero = None
+found_at (suc j) = Some j
 
 -- the entry of the bucket of h that is the same, among those of n entries that there are links for
-abbrev pub walked : List ℕ → (ℕ → Bool) → ℕ → ℕ → Found
+abbrev pub walked : List ℕ → (ℕ → Bool) → ℕ → ℕ → Option ℕ
 walked l same n h = found_at (walk l same (smaller n (slots l)) (get_or l (h % slots l) 0) 0)

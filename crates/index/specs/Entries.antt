@@ -1,7 +1,5 @@
 -- The entries of a layer's keys and values by number: which is the same as what is looked up, and the number that chooses its bucket.
-use Rattle.std.specs.Prelude.{ℕ, ◌+◌, ◌*◌, ◌/◌, ◌≡◌, refl, Bool, List, [], ◌∷◌, length, get_or}
-use Rattle.table.specs.declared.Found.{Found}
-use Rattle.table.specs.declared.Found.TheVariants.{At, Nothing}
+use Rattle.std.specs.Prelude.{ℕ, ◌+◌, ◌*◌, ◌/◌, ◌≡◌, refl, Bool, List, [], ◌∷◌, length, get_or, Option, Some, None}
 use Rattle.table.specs.declared.Value.{Value}
 use Rattle.table.specs.Texts.{same_text, text_of}
 use Rattle.table.specs.Values.{same_value}
@@ -25,7 +23,7 @@ KeyIndex l keys texts = Indexes l (buckets_of (key_hash keys texts) (slots l)) (
 abbrev pub built_keys : List ℕ → List ℕ → List ℕ → List ℕ
 built_keys l keys texts = built (cleared l) (key_hash keys texts) (key_count keys)
 
-abbrev pub walked_key : List ℕ → List ℕ → List ℕ → List ℕ → ℕ → Found
+abbrev pub walked_key : List ℕ → List ℕ → List ℕ → List ℕ → ℕ → Option ℕ
 walked_key l keys texts key h = walked l (key_at keys texts key) (key_count keys) h
 
 -- ---- values
@@ -45,7 +43,7 @@ ValueIndex l values texts = Indexes l (buckets_of (value_hash values texts) (slo
 abbrev pub built_values : List ℕ → List ℕ → List ℕ → List ℕ
 built_values l values texts = built (cleared l) (value_hash values texts) (value_count values)
 
-abbrev pub walked_value : List ℕ → List ℕ → List ℕ → Value → List ℕ → ℕ → Found
+abbrev pub walked_value : List ℕ → List ℕ → List ℕ → Value → List ℕ → ℕ → Option ℕ
 walked_value l values texts v text h = walked l (value_at values texts v text) (value_count values) h
 
 abbrev aba : List ℕ
@@ -55,11 +53,11 @@ abbrev nines : List ℕ
 nines = 9 ∷ 9 ∷ 9 ∷ 9 ∷ 9 ∷ 9 ∷ []
 
 -- of the keys a, b and a again in an index of three slots, b is the second and a the first; in an index that holds anything an entry may be missed
-b_second : walked_key (built_keys nines aba (97 ∷ 98 ∷ [])) aba (97 ∷ 98 ∷ []) (98 ∷ []) (hash_text (98 ∷ [])) ≡ At 1
+b_second : walked_key (built_keys nines aba (97 ∷ 98 ∷ [])) aba (97 ∷ 98 ∷ []) (98 ∷ []) (hash_text (98 ∷ [])) ≡ Some 1
 b_second = refl
 
-a_first : walked_key (built_keys nines aba (97 ∷ 98 ∷ [])) aba (97 ∷ 98 ∷ []) (97 ∷ []) (hash_text (97 ∷ [])) ≡ At 0
+a_first : walked_key (built_keys nines aba (97 ∷ 98 ∷ [])) aba (97 ∷ 98 ∷ []) (97 ∷ []) (hash_text (97 ∷ [])) ≡ Some 0
 a_first = refl
 
-missed : walked_key nines (0 ∷ 1 ∷ []) (97 ∷ []) (97 ∷ []) (hash_text (97 ∷ [])) ≡ Nothing
+missed : walked_key nines (0 ∷ 1 ∷ []) (97 ∷ []) (97 ∷ []) (hash_text (97 ∷ [])) ≡ None
 missed = refl

@@ -1,14 +1,9 @@
 -- The number by which an entry's bucket is chosen. Entries that are the same have the same number; any other numbers would serve as well, and only the cost
 -- of looking up would change.
-use Rattle.std.specs.Prelude.{ℕ, ◌+◌, ◌*◌, ◌/◌, ◌%◌, ◌<◌, ◌≡◌, cond, List, [], ◌∷◌, eqb}
+use Rattle.std.specs.Prelude.{ℕ, ◌+◌, ◌*◌, ◌/◌, ◌%◌, cond, List, [], ◌∷◌, eqb}
 use Rattle.table.specs.declared.Value.{Value}
 use Rattle.table.specs.Texts.{text_of}
 use Rattle.table.specs.Values.{text_kind}
-
--- r is the byte x
-pub record Octet (x r : ℕ) : Type 0 where
-  pub same : r ≡ x
-  pub small : r < 256
 
 -- bytes, one after the other
 abbrev pub hash_from : ℕ → List ℕ → ℕ

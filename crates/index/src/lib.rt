@@ -5,31 +5,22 @@
 
 ghost use Rattle.std.specs.Prelude.{◌≡◌, cond, ◌≤◌, length};
 ghost use Rattle.table.specs.Texts.{text_of};
-ghost use Rattle.index.specs.Hashes.{Octet, hash_text, mixed, hash_value, hash_stored};
+ghost use Rattle.index.specs.Hashes.{hash_text, mixed, hash_value, hash_stored};
 ghost use Rattle.index.specs.Chains.{serves, cleared, pushed, walk, found_at};
 ghost use Rattle.index.specs.Entries.{key_at, built_keys, walked_key, value_at, built_values, walked_value};
 ghost use Rattle.index.specs.Steps.{end_in, Ahead};
 
-use number::{smaller, wide};
-use table::{Found, Value, same_text, same_value};
+use number::wide;
+use table::{Value, same_text, same_value};
 
 // ---- the number that chooses a bucket
-fn octet(b: u8) -> usize
-    ensures { Octet b result }
-{
-    b as usize
-}
-
 // The number of a text.
 pub fn hash_text(text: &[u8]) -> usize
     ensures { result ≡ hash_text text.now }
 {
     let mut acc = 0;
-    let mut i = 0;
-    while i < text.len() {
-        let b = octet(text[i]);
-        acc = (acc * 16777619 + b) % 4294967296;
-        i += 1;
+    for &b in text {
+        acc = (acc * 16777619 + usize::from(b)) % 4294967296;
     }
     acc
 }
@@ -39,10 +30,7 @@ fn end_of(bytes: usize, start: usize, len: usize) -> usize
     requires { start ≤ bytes }
     ensures { result ≡ end_in bytes start len }
 {
-    if bytes - start < len {
-        return bytes;
-    }
-    start + len
+    start + len.min(bytes - start)
 }
 
 // The number of the text of len bytes at start, or of what there is of it.
@@ -92,18 +80,14 @@ fn hash_stored(texts: &[u8], kind: u32, low: u32, high: u32) -> usize
 pub fn serves(words: usize, room: usize) -> bool
     ensures { result ≡ serves words room }
 {
-    (0 < words / 2) & (room <= words / 2)
+    0 < words / 2 && room <= words / 2
 }
 
 // An index of no entries.
 pub fn clear(index: &mut [u32])
     ensures { index.new ≡ cleared index.old }
 {
-    let mut i = 0;
-    while i < index.len() {
-        index[i] = 0;
-        i += 1;
-    }
+    index.fill(0);
 }
 
 // Entry n, of this number, goes to the front of its bucket.
@@ -111,10 +95,7 @@ pub fn push(index: &mut [u32], n: usize, hash: usize)
     ensures { index.new ≡ pushed index.old n hash }
 {
     let slots = index.len() / 2;
-    if slots <= n {
-        return;
-    }
-    if 4294967295 <= n {
+    if slots <= n || 4294967295 <= n {
         return;
     }
     let b = hash % slots;
@@ -128,14 +109,11 @@ pub fn build_keys(index: &mut [u32], keys: &[u32], texts: &[u8])
     ensures { index.new ≡ built_keys index.old keys.now texts.now }
 {
     clear(index);
-    let n = keys.len() / 2;
-    let mut j = 0;
-    while j < n {
+    for j in 0..keys.len() / 2 {
         let start = wide(keys[j * 2]);
         let len = wide(keys[j * 2 + 1]);
         let h = hash_part(texts, start, len);
         push(index, j, h);
-        j += 1;
     }
 }
 
@@ -144,34 +122,13 @@ pub fn build_values(index: &mut [u32], values: &[u32], texts: &[u8])
     ensures { index.new ≡ built_values index.old values.now texts.now }
 {
     clear(index);
-    let n = values.len() / 3;
-    let mut j = 0;
-    while j < n {
+    for j in 0..values.len() / 3 {
         let h = hash_stored(texts, values[j * 3], values[j * 3 + 1], values[j * 3 + 2]);
         push(index, j, h);
-        j += 1;
     }
 }
 
 // ---- looking up
-fn choose(b: bool, x: usize, y: usize) -> usize
-    ensures { result ≡ cond b x y }
-{
-    if b {
-        return x;
-    }
-    y
-}
-
-fn found(n: usize) -> Found
-    ensures { result ≡ found_at n }
-{
-    if n == 0 {
-        return Found::Nothing;
-    }
-    Found::At(n - 1)
-}
-
 // 1 + the first key of the bucket whose head is given that is key, or 0. Links go down: what does not ends the bucket.
 fn walk_keys(
     index: &[u32],
@@ -188,14 +145,14 @@ fn walk_keys(
     let mut below = limit;
     let mut cur = head;
     let mut best = 0;
-    while 0 < cur {
-        if below < cur {
-            return best;
-        }
+    // A `while`: each entry has the link to the next one.
+    while 0 < cur && cur <= below {
         let j = cur - 1;
         let start = wide(keys[j * 2]);
         let len = wide(keys[j * 2 + 1]);
-        best = choose(same_text(texts, start, len, key), cur, best);
+        if same_text(texts, start, len, key) {
+            best = cur;
+        }
         below = j;
         cur = wide(index[slots + j]);
     }
@@ -203,16 +160,16 @@ fn walk_keys(
 }
 
 // The index of the first key that is key, as far as the lent index knows.
-pub fn key_pos(index: &[u32], keys: &[u32], texts: &[u8], key: &[u8], hash: usize) -> Found
+pub fn key_pos(index: &[u32], keys: &[u32], texts: &[u8], key: &[u8], hash: usize) -> Option<usize>
     ensures { result ≡ walked_key index.now keys.now texts.now key.now hash }
 {
     let slots = index.len() / 2;
     if slots == 0 {
-        return Found::Nothing;
+        return None;
     }
-    let limit = smaller(keys.len() / 2, slots);
+    let limit = (keys.len() / 2).min(slots);
     let head = wide(index[hash % slots]);
-    found(walk_keys(index, keys, texts, key, limit, head))
+    walk_keys(index, keys, texts, key, limit, head).checked_sub(1)
 }
 
 // 1 + the first value of the bucket whose head is given that is v, or the text beside it, or 0.
@@ -232,17 +189,13 @@ fn walk_values(
     let mut below = limit;
     let mut cur = head;
     let mut best = 0;
-    while 0 < cur {
-        if below < cur {
-            return best;
-        }
+    // A `while`: each entry has the link to the next one.
+    while 0 < cur && cur <= below {
         let j = cur - 1;
         let i = j * 3;
-        best = choose(
-            same_value(texts, values[i], values[i + 1], values[i + 2], v, text),
-            cur,
-            best,
-        );
+        if same_value(texts, values[i], values[i + 1], values[i + 2], v, text) {
+            best = cur;
+        }
         below = j;
         cur = wide(index[slots + j]);
     }
@@ -257,14 +210,14 @@ pub fn val_pos(
     v: Value,
     text: &[u8],
     hash: usize,
-) -> Found
+) -> Option<usize>
     ensures { result ≡ walked_value index.now values.now texts.now v text.now hash }
 {
     let slots = index.len() / 2;
     if slots == 0 {
-        return Found::Nothing;
+        return None;
     }
-    let limit = smaller(values.len() / 3, slots);
+    let limit = (values.len() / 3).min(slots);
     let head = wide(index[hash % slots]);
-    found(walk_values(index, values, texts, v, text, limit, head))
+    walk_values(index, values, texts, v, text, limit, head).checked_sub(1)
 }

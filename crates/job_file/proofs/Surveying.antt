@@ -22,8 +22,7 @@ use Rattle.affine.specs.declared.Affine.{Affine}
 use Rattle.affine.specs.Mapping.{grids_of}
 use Rattle.encoder.proofs.Within.{encoded_within}
 use Rattle.survey_job.specs.Surveys.{surveyed_job}
-use Rattle.job_file.specs.declared.Body.{Body}
-use Rattle.job_file.specs.declared.Body.TheVariants.{Cut}
+use Rattle.std.specs.Prelude.{Option, None}
 use Rattle.job_file.specs.JobFile.{kind_of, box_of, parts_of, ends_of, body_of}
 use Rattle.job_file.specs.SurveyFile.{doubles_of, map_of, behind_table, body_surveyed, survey_file}
 use Rattle.job_file.proofs.Taking.{Whole, cut_file}
@@ -86,8 +85,8 @@ taken file words =
     (kept (refused Job 0) words))
     (kept (refused Job 0) words)
 
-module _ (file : List ℕ) (r : Body) (e : r ≡ body_of file) where
-  pub cut_survey : r ≡ Cut → (words : List ℕ) → Gives (survey_file file words) (refused Job 0) words
+module _ (file : List ℕ) (r : Option ℕ) (e : r ≡ body_of file) where
+  pub cut_survey : r ≡ None → (words : List ℕ) → Gives (survey_file file words) (refused Job 0) words
   unfolding survey_file
   cut_survey h words =
       let none : Written (Said ℕ) (List ℕ) = kept (refused Job 0) words in

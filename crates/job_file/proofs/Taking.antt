@@ -19,18 +19,17 @@ use Rattle.refusal.proofs.Laws.{never_both}
 use Rattle.clip.specs.declared.BBox.{BBox}
 use Rattle.whole.specs.Twos.{signed32}
 use Rattle.encoder.specs.declared.GeomEncoder.{GeomEncoder}
-use Rattle.encoder.specs.declared.whole_job.Course.{Course}
+use Rattle.refusal.specs.declared.Refused.{Refused}
 use Rattle.encoder.specs.Jobs.{Outcome, on, off, outcome, encoded_job, finished_job, end_of}
 use Rattle.encoder.proofs.Within.{encoded_within}
 use Rattle.encoder.proofs.Whole.{encoded_finished}
 use Rattle.encoder.proofs.Courses.{never_on}
 use Rattle.encoder.proofs.Losses.{finished_balanced}
 use Rattle.edge_job.specs.EdgeJobs.{Lists, edge_job}
-use Rattle.job_file.specs.declared.Body.{Body}
-use Rattle.job_file.specs.declared.Body.TheVariants.{At, Cut}
+use Rattle.std.specs.Prelude.{Option, Some, None, Result}
 use Rattle.job_file.specs.JobFile.{kind_of, parts_of, box_of, ends_of, points_in, body_encoded, job_file, body_of, count_in, point_count, body_edges, job_file_edges, body_finished, body_end, job_file_finished, file_end}
 
-at_not_cut : {n : ℕ} → At n ≡ Cut → ⊥
+at_not_cut : {n : ℕ} → Some n ≡ None → ⊥
 at_not_cut e = let z : ◌≡◌ {A = ℕ} 0 1 = cc in omega arith
 
 -- ---- the three bodies: the front of the points' list, once they are laid, is the points
@@ -59,18 +58,18 @@ module _ (file : List ℕ) (points : List ℤ) (body : ℕ) (h : body ≤ length
   encoded_body words l g bbox f answer ws w = rw (laid_points l g, f) at w
 
   pub finished_body : (words : List ℕ) (l : List ℤ) → l ≡ lay 0 (map signed32 (take (length file - body) (drop body file))) points
-      → (bbox : BBox) → bbox ≡ box_of file → (r : Course) (ws : List ℕ)
+      → (bbox : BBox) → bbox ≡ box_of file → (r : Result GeomEncoder (Refused ℕ)) (ws : List ℕ)
       → Gives (finished_job (get_or file 0 0) bbox (take (length file - body) l) (take (body - 6) (drop 6 file)) words) (end_of (take (length file - body) l) r) ws
       → Gives (body_finished file body words) (body_end file body r) ws
   finished_body words l g bbox f r ws w = rw (laid_points l g, f) at w
 
 -- ---- where the points begin
 module _ (file : List ℕ) (a : length file ≤ 16384) (b : 6 ≤ length file) (parts : ℕ) (e : parts ≡ get_or file 5 0) where
-  pub no_body : length file - 6 < parts → Cut ≡ body_of file
+  pub no_body : length file - 6 < parts → None ≡ body_of file
   unfolding body_of
   no_body h = rw (le-leb (length file) 16384 a, le-leb 6 (length file) b, ← e, lt-leb parts (length file - 6) h)
 
-  pub some_body : parts ≤ length file - 6 → At (6 + parts) ≡ body_of file
+  pub some_body : parts ≤ length file - 6 → Some (6 + parts) ≡ body_of file
   unfolding body_of
   some_body h = rw (le-leb (length file) 16384 a, le-leb 6 (length file) b, ← e, le-leb parts (length file - 6) h)
 
@@ -81,26 +80,26 @@ pub record Whole (file : List ℕ) (body : ℕ) : Type 0 where
   pub ends : parts_of file ≤ length file - 6
   pub at : body ≡ 6 + parts_of file
 
-module _ (file : List ℕ) (r : Body) (e : r ≡ body_of file) where
-  pub whole_file : (body : ℕ) → r ≡ At body → Whole file body
+module _ (file : List ℕ) (r : Option ℕ) (e : r ≡ body_of file) where
+  pub whole_file : (body : ℕ) → r ≡ Some body → Whole file body
   unfolding body_of
   whole_file body h = by (leb (length file) 16384) (leb 6 (length file)) (leb (parts_of file) (length file - 6)) refl refl refl (sym h ∙ e)
     where
       by : (a b c : Bool) → leb (length file) 16384 ≡ a → leb 6 (length file) ≡ b → leb (parts_of file) (length file - 6) ≡ c
-          → At body ≡ cond a (cond b (cond c (At (6 + parts_of file)) Cut) Cut) Cut → Whole file body
+          → Some body ≡ cond a (cond b (cond c (Some (6 + parts_of file)) None) None) None → Whole file body
       by false b c f g i w = absurd (at_not_cut w)
       by true false c f g i w = absurd (at_not_cut w)
       by true true false f g i w = absurd (at_not_cut w)
       by true true true f g i w = record { few = leb-true _ _ f; table = leb-true _ _ g; ends = leb-true _ _ i; at = cc }
 
   -- a file without a body is refused, whatever is lent
-  module _ (h : r ≡ Cut) where
+  module _ (h : r ≡ None) where
     pub cut_file : {A : Type 0} (x y : A)
         → cond (leb (length file) 16384) (cond (leb 6 (length file)) (cond (leb (parts_of file) (length file - 6)) x y) y) y ≡ y
     unfolding body_of
     cut_file {A} x y = by (leb (length file) 16384) (leb 6 (length file)) (leb (parts_of file) (length file - 6)) (sym h ∙ e)
       where
-        by : (a b c : Bool) → Cut ≡ cond a (cond b (cond c (At (6 + parts_of file)) Cut) Cut) Cut → cond a (cond b (cond c x y) y) y ≡ y
+        by : (a b c : Bool) → None ≡ cond a (cond b (cond c (Some (6 + parts_of file)) None) None) None → cond a (cond b (cond c x y) y) y ≡ y
         by false b c w = refl
         by true false c w = refl
         by true true false w = refl
@@ -122,7 +121,7 @@ module _ (file : List ℕ) (r : Body) (e : r ≡ body_of file) where
     cut_count = rw (← e, h)
 
   -- the points of a file with a body
-  module _ (body : ℕ) (h : r ≡ At body) where
+  module _ (body : ℕ) (h : r ≡ Some body) where
     pub whole_count : (length file - body) / 2 ≡ point_count file
     whole_count =
         let w = whole_file body h in
@@ -143,7 +142,7 @@ module _ (file : List ℕ) (body : ℕ) (w : Whole file body) where
       let n : 6 + parts_of file - 6 ≡ parts_of file = omega arith in
       rw (le-leb (length file) 16384 w.few, le-leb 6 (length file) w.table, le-leb (parts_of file) (length file - 6) w.ends) (rw (w.at, n) at g)
 
-  pub whole_finished : (words : List ℕ) (r : Course) (ws : List ℕ) → Gives (body_finished file body words) (body_end file body r) ws → Gives (job_file_finished file words) (file_end file r) ws
+  pub whole_finished : (words : List ℕ) (r : Result GeomEncoder (Refused ℕ)) (ws : List ℕ) → Gives (body_finished file body words) (body_end file body r) ws → Gives (job_file_finished file words) (file_end file r) ws
   unfolding job_file_finished
   whole_finished words r ws g =
       let n : 6 + parts_of file - 6 ≡ parts_of file = omega arith in
@@ -153,9 +152,9 @@ module _ (file : List ℕ) (body : ℕ) (w : Whole file body) where
 pub count_within : (file : List ℕ) → 2 * point_count file ≤ length file
 count_within file = by (body_of file)
   where
-    by : (r : Body) → 2 * count_in file r ≤ length file
-    by (At body) = omega (arith, length-map (drop (6 + parts_of file) file) signed32, length-drop (6 + parts_of file) file)
-    by Cut = omega arith
+    by : (r : Option ℕ) → 2 * count_in file r ≤ length file
+    by (Some body) = omega (arith, length-map (drop (6 + parts_of file) file) signed32, length-drop (6 + parts_of file) file)
+    by None = omega arith
 
 -- ---- an accepted file uses no more words than there are
 pub file_within : (file words : List ℕ) (k : ℕ) → (job_file file words).answer ≡ accepted k → k ≤ length words

@@ -1,17 +1,16 @@
 -- RULES 11. Document 01, "Job file": "the contents table comes first: kind, x_min, x_max, y_min, y_max, part count, each part's end (in points,
 -- from the start). Then the bodies".
-use Rattle.std.specs.Prelude.{ℕ, ◌+◌, ◌-◌, ◌/◌, cond, List, map, leb, ℤ, length, take, drop, get_or}
+use Rattle.std.specs.Prelude.{ℕ, ◌+◌, ◌-◌, ◌/◌, cond, List, map, leb, ℤ, length, take, drop, get_or, Option, Some, None, Result}
 use Rattle.promise.specs.Answers.{Written, kept}
 use Rattle.refusal.specs.declared.Refusal.TheVariants.{Job}
 use Rattle.refusal.specs.Said.{Said, refused}
 use Rattle.clip.specs.declared.BBox.{BBox}
 use Rattle.number_file.specs.Numbers.{max_bytes}
 use Rattle.whole.specs.Twos.{signed32}
-use Rattle.encoder.specs.declared.whole_job.Course.{Course}
+use Rattle.refusal.specs.declared.Refused.{Refused}
+use Rattle.encoder.specs.declared.GeomEncoder.{GeomEncoder}
 use Rattle.encoder.specs.Jobs.{Outcome, off, encoded_job, finished_job, end_of}
 use Rattle.edge_job.specs.EdgeJobs.{Lists, edge_job}
-use Rattle.job_file.specs.declared.Body.{Body}
-use Rattle.job_file.specs.declared.Body.TheVariants.{At, Cut}
 
 -- ---- the contents table
 abbrev pub kind_of : List ℕ → ℕ
@@ -74,27 +73,27 @@ job_file_finished file words =
     (kept (off (refused Job 0)) words))
     (kept (off (refused Job 0)) words)
 
-abbrev pub file_end : List ℕ → Course → Outcome
+abbrev pub file_end : List ℕ → Result GeomEncoder (Refused ℕ) → Outcome
 file_end file r = end_of (points_in file) r
 
 abbrev pub body_finished : List ℕ → ℕ → List ℕ → Written Outcome (List ℕ)
 body_finished file body words = finished_job (kind_of file) (box_of file) (map signed32 (drop body file)) (take (body - 6) (drop 6 file)) words
 
-abbrev pub body_end : List ℕ → ℕ → Course → Outcome
+abbrev pub body_end : List ℕ → ℕ → Result GeomEncoder (Refused ℕ) → Outcome
 body_end file body r = end_of (map signed32 (drop body file)) r
 
 -- ---- where the points begin, by the same tests, and how many there are; a file that is refused for its table has none
-unfoldable pub body_of : List ℕ → Body
+unfoldable pub body_of : List ℕ → Option ℕ
 body_of file =
     cond (leb (length file) (max_bytes / 4))
     (cond (leb 6 (length file))
-    (cond (leb (parts_of file) (length file - 6)) (At (6 + parts_of file)) Cut)
-    Cut)
-    Cut
+    (cond (leb (parts_of file) (length file - 6)) (Some (6 + parts_of file)) None)
+    None)
+    None
 
-abbrev pub count_in : List ℕ → Body → ℕ
-count_in file (At body) = length (points_in file) / 2
-count_in file Cut = 0
+abbrev pub count_in : List ℕ → Option ℕ → ℕ
+count_in file (Some body) = length (points_in file) / 2
+count_in file None = 0
 
 abbrev pub point_count : List ℕ → ℕ
 point_count file = count_in file (body_of file)

@@ -15,7 +15,7 @@ use clip::BBox;
 use encoder::whole_job::{Course, Encoded};
 use number::{signed32, wide};
 use number_file::File;
-use refusal::Refusal;
+use refusal::{Refusal, Refused};
 
 pub mod survey;
 
@@ -24,10 +24,8 @@ fn lay_signed(numbers: &[u32], out: &mut [i32])
     requires { length numbers.now ≤ length out.old }
     ensures { out.new ≡ lay 0 (map signed32 numbers.now) out.old }
 {
-    let mut i = 0;
-    while i < numbers.len() {
-        out[i] = signed32(numbers[i]);
-        i += 1;
+    for (i, number) in numbers.iter().enumerate() {
+        out[i] = signed32(*number);
     }
 }
 
@@ -44,30 +42,24 @@ fn box_of(file: &[u32]) -> BBox
     }
 }
 
-// Where a file's points begin.
-#[derive(Clone, Copy)]
-enum Body {
-    At(usize),
-    Cut,
-}
-
-// The contents table is kind, box, part count, each part's end; a file that is longer than may be, or too short for its table, has no body.
-fn body_of(file: &[u32]) -> Body
+// Where a file's points begin. The contents table is kind, box, part count, each part's end; a file that is longer than may be, or too short for its table,
+// has no body.
+fn body_of(file: &[u32]) -> Option<usize>
     ensures { result ≡ body_of file.now }
 {
     let end = file.len();
     if File::MAX_BYTES / 4 < end {
-        return Body::Cut;
+        return None;
     }
     if end < 6 {
-        return Body::Cut;
+        return None;
     }
     let parts = wide(file[5]);
     if end - 6 < parts {
-        return Body::Cut;
+        return None;
     }
     let body = 6 + parts;
-    Body::At(body)
+    Some(body)
 }
 
 // How many raw points a file has.
@@ -75,8 +67,8 @@ pub fn point_count(file: &[u32]) -> usize
     ensures { result ≡ point_count file.now }
 {
     match body_of(file) {
-        Body::Cut => 0,
-        Body::At(body) => (file.len() - body) / 2,
+        Some(body) => (file.len() - body) / 2,
+        None => 0,
     }
 }
 
@@ -96,13 +88,14 @@ fn encode_body(file: &[u32], body: usize, points: &mut [i32], words: &mut [u32])
 pub fn encode_file(file: &[u32], words: &mut [u32]) -> Encoded
     ensures { Gives (job_file file.now words.old) (said_encoded result) words.new }
 {
-    match body_of(file) {
-        Body::Cut => Encoded::Refused(Refusal::Job, 0),
-        Body::At(body) => {
-            let mut points = [0i32; 16384];
-            encode_body(file, body, &mut points, words)
-        }
-    }
+    let Some(body) = body_of(file) else {
+        return Err(Refused {
+            refusal: Refusal::Job,
+            kept: 0,
+        });
+    };
+    let mut points = [0i32; 16384];
+    encode_body(file, body, &mut points, words)
 }
 
 // As `encode_body`, with the edges of each raw point.
@@ -134,13 +127,14 @@ fn encode_body_edges(
 pub fn encode_file_edges(file: &[u32], words: &mut [u32], edges: &mut [u32]) -> Encoded
     ensures { Writes (job_file_edges file.now) (said_encoded result) (mutable words) (mutable edges) }
 {
-    match body_of(file) {
-        Body::Cut => Encoded::Refused(Refusal::Job, 0),
-        Body::At(body) => {
-            let mut points = [0i32; 16384];
-            encode_body_edges(file, body, &mut points, words, edges)
-        }
-    }
+    let Some(body) = body_of(file) else {
+        return Err(Refused {
+            refusal: Refusal::Job,
+            kept: 0,
+        });
+    };
+    let mut points = [0i32; 16384];
+    encode_body_edges(file, body, &mut points, words, edges)
 }
 
 // As `encode_body`, with the state behind the last call, its counts among it.
@@ -159,11 +153,12 @@ fn finish_body(file: &[u32], body: usize, points: &mut [i32], words: &mut [u32])
 pub fn finish_file(file: &[u32], words: &mut [u32]) -> Course
     ensures { Gives (job_file_finished file.now words.old) (file_end file.now result) words.new }
 {
-    match body_of(file) {
-        Body::Cut => Course::Off(Refusal::Job, 0),
-        Body::At(body) => {
-            let mut points = [0i32; 16384];
-            finish_body(file, body, &mut points, words)
-        }
-    }
+    let Some(body) = body_of(file) else {
+        return Err(Refused {
+            refusal: Refusal::Job,
+            kept: 0,
+        });
+    };
+    let mut points = [0i32; 16384];
+    finish_body(file, body, &mut points, words)
 }

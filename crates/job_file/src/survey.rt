@@ -8,11 +8,11 @@ ghost use Rattle.promise.specs.Laid.{lay};
 ghost use Rattle.encoder.specs.Jobs.{said_encoded};
 ghost use Rattle.job_file.specs.SurveyFile.{doubles_of, body_surveyed, survey_file};
 
-use crate::{Body, body_of, box_of};
+use crate::{body_of, box_of};
 use affine::Affine;
 use encoder::whole_job::Encoded;
 use number::of_halves;
-use refusal::Refusal;
+use refusal::{Refusal, Refused};
 
 // The double of a bit pattern. `from_bits` has no meaning at a NaN's, and every NaN is the same here.
 fn double_of(bits: u64) -> f64
@@ -29,11 +29,8 @@ fn lay_doubles(numbers: &[u32], out: &mut [f64])
     requires { length numbers.now / 2 ≤ length out.old }
     ensures { out.new ≡ lay 0 (doubles_of numbers.now) out.old }
 {
-    let n = numbers.len() / 2;
-    let mut i = 0;
-    while i < n {
+    for i in 0..numbers.len() / 2 {
         out[i] = double_of(of_halves(numbers[2 * i], numbers[2 * i + 1]));
-        i += 1;
     }
 }
 
@@ -68,18 +65,25 @@ fn encode_body(file: &[u32], body: usize, doubles: &mut [f64], words: &mut [u32]
 pub fn encode_survey(file: &[u32], words: &mut [u32]) -> Encoded
     ensures { Gives (survey_file file.now words.old) (said_encoded result) words.new }
 {
-    match body_of(file) {
-        Body::Cut => Encoded::Refused(Refusal::Job, 0),
-        Body::At(body) => {
-            let rest = file.len() - body;
-            if rest < 12 {
-                return Encoded::Refused(Refusal::Job, 0);
-            }
-            if rest % 4 != 0 {
-                return Encoded::Refused(Refusal::Job, 0);
-            }
-            let mut doubles = [0.0; 8192];
-            encode_body(file, body, &mut doubles, words)
-        }
+    let Some(body) = body_of(file) else {
+        return Err(Refused {
+            refusal: Refusal::Job,
+            kept: 0,
+        });
+    };
+    let rest = file.len() - body;
+    if rest < 12 {
+        return Err(Refused {
+            refusal: Refusal::Job,
+            kept: 0,
+        });
     }
+    if rest % 4 != 0 {
+        return Err(Refused {
+            refusal: Refusal::Job,
+            kept: 0,
+        });
+    }
+    let mut doubles = [0.0; 8192];
+    encode_body(file, body, &mut doubles, words)
 }

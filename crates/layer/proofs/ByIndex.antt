@@ -1,21 +1,17 @@
 -- A tag whose key and value are looked up by the indexes: what they find is what a scan finds, it has room, and what `put_tag_at` leaves behind.
-use Prim.Native.Nat.{ℕ, ◌*◌, ◌≤◌}
-use mathlib.Core.Path.{◌≡◌, refl, sym, ap, subst, ◌∙◌}
-use mathlib.Core.Bool.{true, false}
+use Prim.Native.Nat.{ℕ, ◌*◌}
+use mathlib.Core.Path.{◌≡◌, sym, ap, subst, ◌∙◌}
+use mathlib.Core.Bool.{true}
 use mathlib.Core.List.{List}
 use native.Mathlib.Omega.{arith}
 use lib.ListN.{length, take}
-use lib.Seq.{length-take-le}
-use Rattle.table.specs.declared.Found.{Found}
+use Rattle.std.specs.Prelude.{Option}
 use Rattle.table.specs.declared.Value.{Value}
-use Rattle.table.specs.Keys.{find_key}
-use Rattle.table.specs.Values.{find_value}
 use Rattle.index.specs.Hashes.{hash_text, hash_value}
 use Rattle.layer.specs.declared.Figures.{Figures}
 use Rattle.layer.specs.declared.Layer.{Layer}
-use Rattle.layer.specs.Held.{Memory, mem, room_of, fits, Seen, seen}
-use Rattle.layer.specs.State.{valid}
-use Rattle.layer.specs.Calls.{Tag, key_found, value_found, index_of, grown_by, tag_put_by, tag_put, with_used}
+use Rattle.layer.specs.Held.{mem, room_of, fits, Seen, seen}
+use Rattle.layer.specs.Calls.{Tag, key_found, value_found, grown_by, tag_put_by, tag_put, with_used}
 use Rattle.layer.specs.Steps.{Small, TagRoom, laid_tag}
 use Rattle.layer.specs.Lookup.{idx, key_by, value_by, noted}
 use Rattle.layer.specs.WholeSteps.{Leaves, MayTag}
@@ -47,7 +43,7 @@ module _ (s : Layer) (o : Figures) (key : List ℕ) (v : Value) (text ks vs ts f
   lengths : Lengths before
   lengths = seen_lengths s (mem ks vs ts fs) M.stands
 
-  module _ (room : Figures) (g : room ≡ room_of (length ks) (length vs) (length ts) (length fs)) (kh vh : ℕ) (p : kh ≡ hash_text key) (q : vh ≡ hash_value v text) (kf vf : Found) (a : kf ≡ key_by ki room.keys (take (s.used.keys * 2) ks) (take s.used.texts ts) key kh) (b : vf ≡ value_by vi room.values (take (s.used.values * 3) vs) (take s.used.texts ts) v text vh) where
+  module _ (room : Figures) (g : room ≡ room_of (length ks) (length vs) (length ts) (length fs)) (kh vh : ℕ) (p : kh ≡ hash_text key) (q : vh ≡ hash_value v text) (kf vf : Option ℕ) (a : kf ≡ key_by ki room.keys (take (s.used.keys * 2) ks) (take s.used.texts ts) key kh) (b : vf ≡ value_by vi room.values (take (s.used.values * 3) vs) (take s.used.texts ts) v text vh) where
     key_is_lem : kf ≡ key_found tag before
     key_is_lem =
         let F = may_fit in
@@ -61,7 +57,7 @@ module _ (s : Layer) (o : Figures) (key : List ℕ) (v : Value) (text ks vs ts f
         c ∙ value_looked before M.stands lengths vi v text F.few_values M.current.values
 
     as_found : tag_put_by o tag before kf vf ≡ tag_put o tag before
-    as_found = ap (λ (x : Found). tag_put_by o tag before x vf) key_is_lem ∙ ap (λ (y : Found). tag_put_by o tag before (key_found tag before) y) value_is_lem
+    as_found = ap (λ (x : Option ℕ). tag_put_by o tag before x vf) key_is_lem ∙ ap (λ (y : Option ℕ). tag_put_by o tag before (key_found tag before) y) value_is_lem
 
     pub may_room : TagRoom s.used o kf vf (length key) (length text) (mem ks vs ts fs)
     may_room =

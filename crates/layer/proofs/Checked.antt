@@ -14,7 +14,7 @@ use Rattle.table.specs.Texts.{short_text}
 use Rattle.utf8.specs.Utf8.{is_utf8}
 use Rattle.words.specs.Geometries.{is_kind, max_words}
 use Rattle.layer.specs.declared.Figures.{Figures}
-use Rattle.layer.specs.declared.Open.TheVariants.{Shut, Since}
+use Rattle.std.specs.Prelude.{Some, None}
 use Rattle.layer.specs.declared.whole_feature.Head.{Head}
 use Rattle.layer.specs.Held.{Seen, Change, refuses, holds, fits}
 use Rattle.layer.specs.State.{valid}
@@ -32,7 +32,7 @@ other v q n e = absurd (n (ap number_of e))
 
 -- a tag
 module _ (P : Change → Type 0) (t : Tag) (v : Seen) (no : (q : Refusal) → Fair v q → P (refuses q)) where
-  pub by_tag : (valid v ≡ true → tag_utf8 t ≡ true → (o : Figures) → v.layer.feature ≡ Since o → takes_key v.layer.strict v.held o.features t.key ≡ true → fits (tag_put o t v).layer.used v.room ≡ true → P (holds (tag_put o t v).layer (tag_put o t v).held)) → P (add_tag t v)
+  pub by_tag : (valid v ≡ true → tag_utf8 t ≡ true → (o : Figures) → v.layer.feature ≡ Some o → takes_key v.layer.strict v.held o.features t.key ≡ true → fits (tag_put o t v).layer.used v.room ≡ true → P (holds (tag_put o t v).layer (tag_put o t v).held)) → P (add_tag t v)
   by_tag go =
       by_test P (valid v) State _ (λ e. no State (λ z. e)) (λ e.
       by_check P (short_text (length t.key)) TextRefusal _ (no TextRefusal (other v TextRefusal (λ z. omega arith))) (λ k.
@@ -48,7 +48,7 @@ module _ (P : Change → Type 0) (f : Head) (words ws bytes : List ℕ) (v : See
   abbrev W : Seen
   W = feature_put f words (tags_of bytes ws) v
 
-  pub by_feature : (tags_ok (length bytes) ws ≡ true → is_kind f.kind ≡ true → valid v ≡ true → tags_utf8 (tags_of bytes ws) ≡ true → v.layer.feature ≡ Shut → takes_keys v.layer.strict bytes ws ≡ true → fits W.layer.used W.room ≡ true → P (holds W.layer W.held)) → P (add_feature f words ws bytes v)
+  pub by_feature : (tags_ok (length bytes) ws ≡ true → is_kind f.kind ≡ true → valid v ≡ true → tags_utf8 (tags_of bytes ws) ≡ true → v.layer.feature ≡ None → takes_keys v.layer.strict bytes ws ≡ true → fits W.layer.used W.room ≡ true → P (holds W.layer W.held)) → P (add_feature f words ws bytes v)
   by_feature go =
       by_check P (tags_ok (length bytes) ws) Job _ (no Job) (λ l.
       by_check P (is_kind f.kind) Kind _ (no Kind) (λ k.

@@ -8,8 +8,7 @@ use Rattle.promise.specs.Laid.{lay}
 use Rattle.promise.proofs.Laying.{lay_nothing, lay_next}
 use Rattle.runs.specs.Fitting.{laid_in}
 use Rattle.runs.proofs.Laws.{laid_fits}
-use Rattle.table.specs.declared.Found.{Found}
-use Rattle.table.specs.declared.Found.TheVariants.{At, Nothing}
+use Rattle.std.specs.Prelude.{Option, Some, None}
 use Rattle.table.specs.declared.Value.{Value}
 use Rattle.layer.specs.declared.Figures.{Figures}
 use Rattle.layer.specs.Held.{mem}
@@ -18,10 +17,10 @@ use Rattle.layer.proofs.Entries.{length_put}
 use Rattle.layer.specs.Steps.{EntryRoom, Puts, PairRoom, TagRoom, laid_tag}
 
 -- ---- `put_key`, `put_value`
-pub put_none : (f : Found) (j : ℕ) (words text : List ℕ) (at start : ℕ) (es ts : List ℕ) → f ≡ At j → Puts f words text at start es ts es ts
+pub put_none : (f : Option ℕ) (j : ℕ) (words text : List ℕ) (at start : ℕ) (es ts : List ℕ) → f ≡ Some j → Puts f words text at start es ts es ts
 put_none f j words text at start es ts e = rw e (record { entries = sym (lay_nothing at es); texts = sym (lay_nothing start ts) })
 
-module _ (f : Found) (e : f ≡ Nothing) (text : List ℕ) (at start : ℕ) (es ts es₂ ts₂ : List ℕ) where
+module _ (f : Option ℕ) (e : f ≡ None) (text : List ℕ) (at start : ℕ) (es ts es₂ ts₂ : List ℕ) where
   pub put_last : (words : List ℕ) → EntryRoom f (length words) (length text) at start (length es) (length ts) → es₂ ≡ laid_in at words es → ts₂ ≡ laid_in start text ts → Puts f words text at start es ts es₂ ts₂
   put_last words R p q =
       let a : at + length words ≤ length es = rw e at R.in_entries in
@@ -36,7 +35,7 @@ pub pair_put : (at end k v : ℕ) (fs l : List ℕ) (i a : ℕ) → PairRoom at 
 pair_put at end k v fs l i a R e = ap (λ (x : List ℕ). set x i a) (laid_fits end (k ∷ v ∷ []) fs R.in_features l e)
 
 -- ---- `put_tag`
-module _ (u o : Figures) (kf vf : Found) (key : List ℕ) (v : Value) (text ks vs ts fs : List ℕ) (R : TagRoom u o kf vf (length key) (length text) (mem ks vs ts fs)) where
+module _ (u o : Figures) (kf vf : Option ℕ) (key : List ℕ) (v : Value) (text ks vs ts fs : List ℕ) (R : TagRoom u o kf vf (length key) (length text) (mem ks vs ts fs)) where
   pub pair_room : (ki vi : ℕ) → ki ≡ index_of kf u.keys → vi ≡ index_of vf u.values → PairRoom o.features u.features ki vi fs
   pair_room ki vi a b = rw (a, b) R.pair
 

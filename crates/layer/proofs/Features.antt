@@ -14,7 +14,7 @@ use Rattle.words.specs.Geometries.{is_kind, max_words}
 use Rattle.records.specs.Records.{head_ok}
 use Rattle.layer.specs.declared.Figures.{Figures}
 use Rattle.layer.specs.declared.Layer.{Layer}
-use Rattle.layer.specs.declared.Open.TheVariants.{Shut, Since}
+use Rattle.std.specs.Prelude.{Some, None}
 use Rattle.layer.specs.declared.whole_feature.Head.{Head}
 use Rattle.layer.specs.Held.{Memory, mem, fits, Seen, seen, onto}
 use Rattle.layer.specs.Calls.{more_words, with_used, record_with, Tag, key_found, value_found, tag_put}
@@ -32,7 +32,7 @@ use Rattle.layer.proofs.Growth.{tags_grow, fits_before, same_room, same_feature}
 use Rattle.layer.proofs.Filled.{value_given_lem, onto_onto, left_seen, left_valid}
 
 -- the tags of a list keep the rules of STATE
-pub tags_sound : (bytes ws : List ℕ) → tags_ok (length bytes) ws ≡ true → (o : Figures) (v : Seen) → v.layer.feature ≡ Since o → Sound v → Sound (tags_put o (tags_of bytes ws) v)
+pub tags_sound : (bytes ws : List ℕ) → tags_ok (length bytes) ws ≡ true → (o : Figures) (v : Seen) → v.layer.feature ≡ Some o → Sound v → Sound (tags_put o (tags_of bytes ws) v)
 tags_sound bytes [] e o v f S = S
 tags_sound bytes (a ∷ []) e o v f S = S
 tags_sound bytes (a ∷ b ∷ []) e o v f S = S
@@ -48,7 +48,7 @@ mark_ok : (kind : ℕ) (b : Bool) → is_kind kind ≡ true → head_ok kind (co
 mark_ok kind true e = rw e
 mark_ok kind false e = rw e
 
-module _ (f : Head) (words ws bytes : List ℕ) (v : Seen) (S : Sound v) (list : tags_ok (length bytes) ws ≡ true) (kind : is_kind f.kind ≡ true) (shut : v.layer.feature ≡ Shut) where
+module _ (f : Head) (words ws bytes : List ℕ) (v : Seen) (S : Sound v) (list : tags_ok (length bytes) ws ≡ true) (kind : is_kind f.kind ≡ true) (shut : v.layer.feature ≡ None) where
   pub feature_opened_lem : Sound (feature_opened f words v)
   feature_opened_lem = opened_sound f.kind (mark_of f) (id_of f) words v S (mark_ok f.kind f.has_id kind) shut
 
@@ -94,7 +94,7 @@ module _ (s : Layer) (f : Head) (words ws bytes ks vs ts fs : List ℕ) (x : Ind
 
   module _ (mark id : ℕ) (a : mark ≡ mark_of f) (b : id ≡ id_of f) (fs₁ : List ℕ) (e : fs₁ ≡ lay s.used.features (record_with f.kind mark id words) fs) where
     abbrev opened : Layer
-    opened = with_used s (more_words s.used (6 + length words)) (Since s.used)
+    opened = with_used s (more_words s.used (6 + length words)) (Some s.used)
 
     left_begun : Leaves begun opened (mem ks vs ts fs) (mem ks vs ts fs₁) x x
     left_begun =
@@ -134,10 +134,10 @@ module _ (s : Layer) (f : Head) (words ws bytes ks vs ts fs : List ℕ) (x : Ind
           left_all.memory ∙ ap (onto all.held) left_begun.memory
           ∙ onto_onto begun.held all.held (mem ks vs ts fs) (omega (arith, B.keys, A.keys, G.keys)) (omega (arith, B.values, A.values, G.values)) (omega (arith, B.texts, A.texts, G.texts)) (omega (arith, B.features, A.features, G.features))
 
-      pub put_left : Leaves (feature_put f words (tags_of bytes ws) before) (with_used t t.used Shut) (mem ks vs ts fs) n x y
+      pub put_left : Leaves (feature_put f words (tags_of bytes ws) before) (with_used t t.used None) (mem ks vs ts fs) n x y
       put_left =
           record {
-            layer = ap (λ (l : Layer). with_used l l.used Shut) left_all.layer;
+            layer = ap (λ (l : Layer). with_used l l.used None) left_all.layer;
             memory = memory_all;
             kept = left_all.kept;
             current = record { keys = left_all.current.keys; values = left_all.current.values };

@@ -1,5 +1,5 @@
 -- The loop over the tags in `put_feature`: what is seen at each turn, with the tags still to come, is what all of them leave.
-use Prim.Native.Nat.{ℕ, ◌+◌, ◌-◌, ◌*◌, ◌≤◌, ◌<◌, zero-le}
+use Prim.Native.Nat.{ℕ, ◌+◌, ◌-◌, ◌≤◌, ◌<◌, zero-le}
 use mathlib.Core.Path.{◌≡◌, refl, sym, ap, subst, ◌∙◌}
 use mathlib.Core.Bool.{Bool, true, false}
 use mathlib.Core.List.{List, [], ◌∷◌, ◌++◌}
@@ -12,23 +12,22 @@ use Rattle.table.specs.Values.{value_ok}
 use Rattle.layer.specs.declared.tag_list.Place.{Place}
 use Rattle.layer.specs.declared.Figures.{Figures}
 use Rattle.layer.specs.declared.Layer.{Layer}
-use Rattle.layer.specs.declared.Open.TheVariants.{Since}
 use Rattle.layer.specs.Held.{Memory, mem, room_of, fits, Seen, seen, front, onto}
 use Rattle.layer.specs.State.{valid}
 use Rattle.layer.specs.Calls.{Tag, is_value, key_found, value_found, tag_put}
-use Rattle.layer.specs.TagLists.{value_given, text_place, tag_at, ok_at, tags_ok, tags_short, tags_of}
+use Rattle.layer.specs.TagLists.{value_given, text_place, tag_at, tags_of}
 use Rattle.layer.specs.Whole.{tags_put}
 use Rattle.layer.specs.Lookup.{Index, Current, Kept}
 use Rattle.layer.specs.WholeSteps.{place_at, TagThere, Leaves, Long, MayTag, MayFill}
 use Rattle.layer.proofs.Fitting.{fit, both}
 use Rattle.layer.proofs.Fronts.{held_onto}
 use Rattle.layer.proofs.Standing.{valid_fit}
-use Rattle.layer.proofs.Keeping.{Lengths, Fine, Sound, sound, fine, tag_sound}
+use Rattle.layer.proofs.Keeping.{Sound, sound, fine, tag_sound}
 use Rattle.layer.proofs.After.{Sized, length_front, seen_after_lem, seen_lengths}
 use Rattle.layer.proofs.Indexing.{kept_same, kept_on}
 use Rattle.layer.proofs.Listing.{five, five_left, ok_at_lem, ok_after, short_at_lem, short_after}
 use Rattle.layer.proofs.Placing.{tag_there, key_short, text_short}
-use Rattle.layer.proofs.Growth.{tags_grow, fits_before, same_room}
+use Rattle.layer.proofs.Growth.{tags_grow, fits_before}
 
 -- ---- the slices of `put_tag_at` are the tag
 module _ (bytes ws : List ℕ) (i : ℕ) (p : Place) (e : p ≡ place_at ws i) where

@@ -8,8 +8,7 @@ use lib.ListN.{length, take, drop, length-append, length-drop}
 use lib.Seq.{length-take-le}
 use lib.Dec.{eqb}
 use borrow.Author.Tests.{le-leb, leb-true, eqb-true, eq-eqb}
-use Rattle.table.specs.declared.Found.{Found}
-use Rattle.table.specs.declared.Found.TheVariants.{At, Nothing}
+use Rattle.std.specs.Prelude.{Option, Some, None}
 use Rattle.table.specs.declared.Value.{Value}
 use Rattle.table.specs.Texts.{inside, begins, same_text, text_of}
 use Rattle.table.specs.Keys.{find_key, keys_in}
@@ -49,15 +48,15 @@ same_texts ts us start len s n key h k e =
     (λ y. is_text ts start len key h (e ∙ text_is us s n key y))
 
 -- ---- an entry met or not
-by_found : (s : Bool) (j : ℕ) (f g : Found) (n : Bool) → is_found f ≡ cond (is_found g) true n → is_found (cond s (At j) f) ≡ cond (is_found (cond s (At j) g)) true n
+by_found : (s : Bool) (j : ℕ) (f g : Option ℕ) (n : Bool) → is_found f ≡ cond (is_found g) true n → is_found (cond s (Some j) f) ≡ cond (is_found (cond s (Some j) g)) true n
 by_found true j f g n e = refl
 by_found false j f g n e = e
 
-by_index : (s : Bool) (i j : ℕ) (f g : Found) → is_found f ≡ is_found g → is_found (cond s (At i) f) ≡ is_found (cond s (At j) g)
+by_index : (s : Bool) (i j : ℕ) (f g : Option ℕ) → is_found f ≡ is_found g → is_found (cond s (Some i) f) ≡ is_found (cond s (Some j) g)
 by_index true i j f g e = refl
 by_index false i j f g e = e
 
-one_found : (s : Bool) → is_found (cond s (At 0) Nothing) ≡ s
+one_found : (s : Bool) → is_found (cond s (Some 0) None) ≡ s
 one_found true = refl
 one_found false = refl
 
@@ -69,7 +68,7 @@ key_kept ts more key (a ∷ b ∷ ks) j e =
     let p = cond_both (inside (length ts) a b) (keys_in (length ts) ks) e in
     let h = leb-true (a + b) (length ts) p.0 in
     let s = same_texts (ts ++ more) ts a b a b key (omega (arith, length-append ts more)) h (text_kept ts more a b h) in
-    ap (λ (t : Bool). cond t (At j) (find_key (suc j) ks (ts ++ more) key)) s ∙ ap (λ (f : Found). cond (same_text ts a b key) (At j) f) (key_kept ts more key ks (suc j) p.1)
+    ap (λ (t : Bool). cond t (Some j) (find_key (suc j) ks (ts ++ more) key)) s ∙ ap (λ (f : Option ℕ). cond (same_text ts a b key) (Some j) f) (key_kept ts more key ks (suc j) p.1)
 
 key_index_lem : (ks ts key : List ℕ) (i j : ℕ) → is_found (find_key i ks ts key) ≡ is_found (find_key j ks ts key)
 key_index_lem [] ts key i j = refl
@@ -85,11 +84,11 @@ key_append n (a ∷ b ∷ ks) new ts key j e =
 
 -- a key that is the text of len bytes at start was looked up (`f`), and put where it was not found
 module _ (bytes : List ℕ) (start len : ℕ) (h : start + len ≤ length bytes) (ks ts : List ℕ) (u : ℕ) (K : keys_in (length ts) ks ≡ true) (L : length ts ≡ u) where
-  pub key_old : (j : ℕ) → find_key 0 ks ts (text_of bytes start len) ≡ At j → (more key : List ℕ) → is_found (find_key 0 (ks ++ []) (ts ++ more) key) ≡ cond (is_found (find_key 0 ks ts key)) true (same_text bytes start len key)
+  pub key_old : (j : ℕ) → find_key 0 ks ts (text_of bytes start len) ≡ Some j → (more key : List ℕ) → is_found (find_key 0 (ks ++ []) (ts ++ more) key) ≡ cond (is_found (find_key 0 ks ts key)) true (same_text bytes start len key)
   key_old j q more key =
-      let a : is_found (find_key 0 (ks ++ []) (ts ++ more) key) ≡ is_found (find_key 0 ks ts key) = rw append-nil (ap (λ (f : Found). is_found f) (key_kept ts more key ks 0 K)) in
+      let a : is_found (find_key 0 (ks ++ []) (ts ++ more) key) ≡ is_found (find_key 0 ks ts key) = rw append-nil (ap (λ (f : Option ℕ). is_found f) (key_kept ts more key ks 0 K)) in
       a ∙ absorbed (is_found (find_key 0 ks ts key)) (same_text bytes start len key)
-      (λ y. ap (λ (k : List ℕ). is_found (find_key 0 ks ts k)) (sym (text_is bytes start len key y)) ∙ ap (λ (f : Found). is_found f) q)
+      (λ y. ap (λ (k : List ℕ). is_found (find_key 0 ks ts k)) (sym (text_is bytes start len key y)) ∙ ap (λ (f : Option ℕ). is_found f) q)
 
   pub key_new : (more key : List ℕ) → is_found (find_key 0 (ks ++ (u ∷ length (text_of bytes start len) ∷ [])) (ts ++ (text_of bytes start len ++ more)) key) ≡ cond (is_found (find_key 0 ks ts key)) true (same_text bytes start len key)
   key_new more key =
@@ -99,7 +98,7 @@ module _ (bytes : List ℕ) (start len : ℕ) (h : start + len ≤ length bytes)
       let s : same_text all u (length new) key ≡ same_text bytes start len key =
       same_texts all bytes u (length new) start len key (omega (arith, length-append ts (new ++ more), length-append new more)) h (text_next ts new more u L) in
       key_append (length ts) ks (u ∷ length new ∷ []) all key 0 K
-      ∙ ap (λ (f : Found). cond (is_found f) true (is_found (find_key 0 (u ∷ length new ∷ []) all key))) (key_kept ts (new ++ more) key ks 0 K)
+      ∙ ap (λ (f : Option ℕ). cond (is_found f) true (is_found (find_key 0 (u ∷ length new ∷ []) all key))) (key_kept ts (new ++ more) key ks 0 K)
       ∙ ap (λ (b : Bool). cond (is_found (find_key 0 ks ts key)) true b) (one_found (same_text all u (length new) key) ∙ s)
 
 -- ---- values that are the same
@@ -159,7 +158,7 @@ find_alike ts v w a b f [] j = refl
 find_alike ts v w a b f (x ∷ []) j = refl
 find_alike ts v w a b f (x ∷ y ∷ []) j = refl
 find_alike ts v w a b f (x ∷ y ∷ z ∷ vs) j =
-    ap (λ (t : Bool). cond t (At j) (find_value (suc j) vs ts v a)) (f x y z) ∙ ap (λ (g : Found). cond (same_value ts x y z w b) (At j) g) (find_alike ts v w a b f vs (suc j))
+    ap (λ (t : Bool). cond t (Some j) (find_value (suc j) vs ts v a)) (f x y z) ∙ ap (λ (g : Option ℕ). cond (same_value ts x y z w b) (Some j) g) (find_alike ts v w a b f vs (suc j))
 
 -- ---- values
 entry_kept : (ts more : List ℕ) (kind low high : ℕ) (v : Value) (text : List ℕ) (t : Bool) → eqb kind 1 ≡ t → value_ok (length ts) kind low high ≡ true → same_value (ts ++ more) kind low high v text ≡ same_value ts kind low high v text
@@ -175,8 +174,8 @@ value_kept ts more v text (a ∷ []) j e = refl
 value_kept ts more v text (a ∷ b ∷ []) j e = refl
 value_kept ts more v text (a ∷ b ∷ c ∷ vs) j e =
     let p = cond_both (value_ok (length ts) a b c) (values_in (length ts) vs) e in
-    ap (λ (t : Bool). cond t (At j) (find_value (suc j) vs (ts ++ more) v text)) (entry_kept ts more a b c v text (eqb a 1) refl p.0)
-    ∙ ap (λ (f : Found). cond (same_value ts a b c v text) (At j) f) (value_kept ts more v text vs (suc j) p.1)
+    ap (λ (t : Bool). cond t (Some j) (find_value (suc j) vs (ts ++ more) v text)) (entry_kept ts more a b c v text (eqb a 1) refl p.0)
+    ∙ ap (λ (f : Option ℕ). cond (same_value ts a b c v text) (Some j) f) (value_kept ts more v text vs (suc j) p.1)
 
 value_index_lem : (vs ts : List ℕ) (v : Value) (text : List ℕ) (i j : ℕ) → is_found (find_value i vs ts v text) ≡ is_found (find_value j vs ts v text)
 value_index_lem [] ts v text i j = refl
@@ -205,11 +204,11 @@ stored_by bytes all kind low high start true q e h g v text =
 stored_by bytes all kind low high start false q e h g v text = rw (q, q, q)
 
 module _ (bytes : List ℕ) (kind low high : ℕ) (ok : value_ok (length bytes) kind low high ≡ true) (vs ts : List ℕ) (u : ℕ) (K : values_in (length ts) vs ≡ true) (L : length ts ≡ u) where
-  pub value_old : (j : ℕ) → find_value 0 vs ts (value_given kind low high) (placed_text bytes (text_place kind low high)) ≡ At j → (more : List ℕ) (v : Value) (text : List ℕ) → is_found (find_value 0 (vs ++ []) (ts ++ more) v text) ≡ cond (is_found (find_value 0 vs ts v text)) true (same_value bytes kind low high v text)
+  pub value_old : (j : ℕ) → find_value 0 vs ts (value_given kind low high) (placed_text bytes (text_place kind low high)) ≡ Some j → (more : List ℕ) (v : Value) (text : List ℕ) → is_found (find_value 0 (vs ++ []) (ts ++ more) v text) ≡ cond (is_found (find_value 0 vs ts v text)) true (same_value bytes kind low high v text)
   value_old j q more v text =
-      let a : is_found (find_value 0 (vs ++ []) (ts ++ more) v text) ≡ is_found (find_value 0 vs ts v text) = rw append-nil (ap (λ (f : Found). is_found f) (value_kept ts more v text vs 0 K)) in
+      let a : is_found (find_value 0 (vs ++ []) (ts ++ more) v text) ≡ is_found (find_value 0 vs ts v text) = rw append-nil (ap (λ (f : Option ℕ). is_found f) (value_kept ts more v text vs 0 K)) in
       a ∙ absorbed (is_found (find_value 0 vs ts v text)) (same_value bytes kind low high v text)
-      (λ y. ap (λ (f : Found). is_found f) (sym (find_alike ts (value_given kind low high) v (placed_text bytes (text_place kind low high)) text (swap_by bytes kind low high v text (eqb kind 1) refl y ts) vs 0) ∙ q))
+      (λ y. ap (λ (f : Option ℕ). is_found f) (sym (find_alike ts (value_given kind low high) v (placed_text bytes (text_place kind low high)) text (swap_by bytes kind low high v text (eqb kind 1) refl y ts) vs 0) ∙ q))
 
   pub value_new : (put : List ℕ) (n : ℕ) → length put ≡ n → (v : Value) (text : List ℕ) →
       is_found (find_value 0 (vs ++ ((stored_as (u + n) (value_given kind low high) (length (placed_text bytes (text_place kind low high)))).kind ∷ (stored_as (u + n) (value_given kind low high) (length (placed_text bytes (text_place kind low high)))).low ∷ (stored_as (u + n) (value_given kind low high) (length (placed_text bytes (text_place kind low high)))).high ∷ [])) (ts ++ (put ++ placed_text bytes (text_place kind low high))) v text)
@@ -222,5 +221,5 @@ module _ (bytes : List ℕ) (kind low high : ℕ) (ok : value_ok (length bytes) 
       let y : text_of all (u + n) (length new) ≡ new = ap (λ (l : List ℕ). text_of l (u + n) (length new)) x ∙ text_next (ts ++ put) new [] (u + n) (omega (arith, length-append ts put)) in
       let s = stored_by bytes all kind low high (u + n) (eqb kind 1) refl ok (omega (arith, length-append ts (put ++ new), length-append put new)) y v text in
       value_append (length ts) vs (w.kind ∷ w.low ∷ w.high ∷ []) all v text 0 K
-      ∙ ap (λ (f : Found). cond (is_found f) true (is_found (find_value 0 (w.kind ∷ w.low ∷ w.high ∷ []) all v text))) (value_kept ts (put ++ new) v text vs 0 K)
+      ∙ ap (λ (f : Option ℕ). cond (is_found f) true (is_found (find_value 0 (w.kind ∷ w.low ∷ w.high ∷ []) all v text))) (value_kept ts (put ++ new) v text vs 0 K)
       ∙ ap (λ (b : Bool). cond (is_found (find_value 0 vs ts v text)) true b) (one_found (same_value all w.kind w.low w.high v text) ∙ s)

@@ -1,14 +1,14 @@
 -- What the tests on figures say: `fits` figure by figure, `room_of` against the lists and the caps, and `records_ok` and `valid` at the returns of the
 -- functions that compute them.
 use Prim.Native.Nat.{ℕ, ◌*◌, ◌/◌, ◌≤◌}
-use mathlib.Core.Path.{◌≡◌, refl, sym, ap, ◌∙◌}
+use mathlib.Core.Path.{◌≡◌, refl, sym, ◌∙◌}
 use mathlib.Core.Bool.{Bool, true, false, cond, not, ◌&&◌}
 use mathlib.Core.List.{List}
 use native.Mathlib.Omega.{arith}
 use lib.ListN.{length, take}
 use lib.Dec.{leb}
 use borrow.Author.Tests.{le-leb, leb-true, not-true, not-false}
-use Rattle.table.specs.declared.Found.{Found}
+use Rattle.std.specs.Prelude.{Option, Some, None}
 use Rattle.table.specs.Keys.{keys_in}
 use Rattle.table.specs.Values.{values_in}
 pub use Rattle.promise.proofs.Joined.{both, never}
@@ -16,8 +16,6 @@ use Rattle.promise.proofs.Joined.{same}
 pub use Rattle.number.proofs.Least.{smaller_le}
 use Rattle.records.specs.Records.{is_found, records_in, one_record}
 use Rattle.layer.specs.declared.Figures.{Figures}
-use Rattle.layer.specs.declared.Open.{Open}
-use Rattle.layer.specs.declared.Open.TheVariants.{Shut, Since}
 use Rattle.layer.specs.declared.Layer.{Layer}
 use Rattle.layer.specs.Held.{mem, smaller, room_of, fits, seen, max_keys, max_values, max_texts, max_feature_words}
 use Rattle.layer.specs.State.{records_ok, valid}
@@ -120,21 +118,21 @@ told_fit u keys values texts features r g h = fit u keys values texts features (
 
 -- ---- `since_ok`
 module _ (o used : Figures) (ws : List ℕ) (r : Bool) (g : r ≡ fits o used) where
-  pub since_not : not r ≡ true → false ≡ records_ok (Since o) used ws
+  pub since_not : not r ≡ true → false ≡ records_ok (Some o) used ws
   since_not h = rw (← g, not-true r h)
 
   pub since_at : not r ≡ false → length ws ≡ used.features → o.features ≤ length ws
   since_at h e = omega (arith, (within o used (sym g ∙ not-false r h)).features)
 
-  pub since_is : not r ≡ false → (f : Found) → f ≡ records_in 0 0 (take o.features ws) → (a b : Bool) → a ≡ is_found f → b ≡ one_record ws o.features → (a && b) ≡ records_ok (Since o) used ws
+  pub since_is : not r ≡ false → (f : Option ℕ) → f ≡ records_in 0 0 (take o.features ws) → (a b : Bool) → a ≡ is_found f → b ≡ one_record ws o.features → (a && b) ≡ records_ok (Some o) used ws
   since_is h f p a b x y = rw (← g, not-false r h, x, y, p)
 
 -- ---- `records_ok`
-module _ (f : Open) (used : Figures) (ws : List ℕ) where
-  pub shut_is : f ≡ Shut → (n : Found) → n ≡ records_in 0 0 ws → (r : Bool) → r ≡ is_found n → r ≡ records_ok f used ws
+module _ (f : Option Figures) (used : Figures) (ws : List ℕ) where
+  pub shut_is : f ≡ None → (n : Option ℕ) → n ≡ records_in 0 0 ws → (r : Bool) → r ≡ is_found n → r ≡ records_ok f used ws
   shut_is e n p r g = rw (e, g, p)
 
-  pub open_is : (o : Figures) → f ≡ Since o → (r : Bool) → r ≡ records_ok (Since o) used ws → r ≡ records_ok f used ws
+  pub open_is : (o : Figures) → f ≡ Some o → (r : Bool) → r ≡ records_ok (Some o) used ws → r ≡ records_ok f used ws
   open_is o e r g = rw e g
 
 -- ---- `is_valid`

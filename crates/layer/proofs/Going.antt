@@ -2,7 +2,7 @@
 use Prim.Native.Nat.{ℕ, suc, ◌+◌, ◌-◌, ◌≤◌, ◌<◌, zero-le}
 use mathlib.Core.Path.{◌≡◌, refl, sym, ap, subst, ◌∙◌}
 use mathlib.Core.Bool.{Bool, true, false, cond, not}
-use mathlib.Core.List.{List, [], ◌∷◌}
+use mathlib.Core.List.{List}
 use native.Mathlib.Omega.{arith}
 use lib.ListN.{length, get_or, take, drop, drop_of_length-le}
 use lib.Seq.{drop-drop}
@@ -11,18 +11,18 @@ use borrow.Author.Tests.{not-true, not-false, lt-ltb, eqb-true, eqb-false}
 use Rattle.promise.specs.Answers.{Written, Gives, kept}
 use Rattle.refusal.specs.declared.Refusal.{Refusal}
 use Rattle.refusal.specs.declared.Refusal.TheVariants.{Job, State}
-use Rattle.refusal.specs.Said.{Said, accepted, refused}
+use Rattle.refusal.specs.Said.{Said}
+use Rattle.refusal.specs.declared.Refused.{Refused}
 use Rattle.layer.specs.declared.Layer.{Layer}
-use Rattle.layer.specs.declared.Changed.{Changed}
-use Rattle.layer.specs.declared.Changed.TheVariants.{Done as OneDone, Refused as OneRefused}
+use Rattle.std.specs.Prelude.{Ok, Err}
+use Rattle.layer.specs.Answers.{Changed}
+use Rattle.layer.specs.Many.{Added}
 use Rattle.layer.specs.declared.whole_feature.Head.{Head}
-use Rattle.layer.specs.declared.many.Added.{Added}
-use Rattle.layer.specs.declared.many.Added.TheVariants.{Done, Refused}
-use Rattle.layer.specs.Held.{Memory, room_of, Seen, seen, Change, refuses, holds, onto}
+use Rattle.layer.specs.Held.{Memory, Seen, seen, Change}
 use Rattle.layer.specs.State.{valid}
 use Rattle.layer.specs.Whole.{add_feature}
-use Rattle.layer.specs.Lookup.{Index, indexed, Current, Kept}
-use Rattle.layer.specs.Many.{Many, said_added, head_at, heads_ok, and_next, done, add_all, add_features, with_index, along_index, add_indexed}
+use Rattle.layer.specs.Lookup.{Index, indexed, Kept}
+use Rattle.layer.specs.Many.{Many, said_added, head_at, heads_ok, and_next, done, add_all, with_index, along_index, add_indexed}
 use Rattle.layer.specs.WholeSteps.{Long, CurrentIf, Known, Accepted, NotAccepted, LeavesFeature, all_read}
 use Rattle.layer.proofs.Heads.{six, six_left, words_in, tags_in_lem, ok_after}
 use Rattle.layer.proofs.Indexing.{kept_same, kept_on, settled}
@@ -92,8 +92,8 @@ module _ (heads words ws bytes : List ℕ) (d : Bool) (s : Layer) (m : Memory) (
     ends r e = rw e (by d refl)
       where
         by : (b : Bool) → d ≡ b → Gives (along_index (add_all 0 heads words ws bytes s m) x) (said_added (all_read b t n)) (with_index l y)
-        by true q = answered heads words ws bytes s m x t n l y kept_here F.index (said_added (Done t n)) refl (at_end ∙ rw (← F.state, q))
-        by false q = answered heads words ws bytes s m x t n l y kept_here F.index (said_added (Refused State t n)) refl (at_end ∙ rw (← F.state, q))
+        by true q = answered heads words ws bytes s m x t n l y kept_here F.index (said_added (Ok (t, n))) refl (at_end ∙ rw (← F.state, q))
+        by false q = answered heads words ws bytes s m x t n l y kept_here F.index (said_added (Err (record { refusal = State; kept = (t, n) }))) refl (at_end ∙ rw (← F.state, q))
 
   module _ (h : i < length heads) where
     pub head_there : i + 6 ≤ length heads
@@ -125,10 +125,10 @@ module _ (heads words ws bytes : List ℕ) (d : Bool) (s : Layer) (m : Memory) (
           F.rest ∙ rw (six heads i head_there, p, q, u, v, pf)
 
       module _ (k : Memory) (z : Index) where
-        pub stops : (r : Refusal) (q : Layer) → NotAccepted the_feature r t q l k y z → Gives (along_index (add_all 0 heads words ws bytes s m) x) (said_added (Refused r t n)) (with_index k z)
+        pub stops : (r : Refusal) (q : Layer) → NotAccepted the_feature r t q l k y z → Gives (along_index (add_all 0 heads words ws bytes s m) x) (said_added (Err (record { refusal = r; kept = (t, n) }))) (with_index k z)
         stops r q A =
             rw (A.memory, A.index)
-            (answered heads words ws bytes s m x t n l y kept_here F.index (said_added (Refused r t n)) refl (as_rest ∙ ap (λ (c : Change). and_next c t l n onward) A.is))
+            (answered heads words ws bytes s m x t n l y kept_here F.index (said_added (Err (record { refusal = r; kept = (t, n) }))) refl (as_rest ∙ ap (λ (c : Change). and_next c t l n onward) A.is))
 
         module _ (u : Layer) (A : Accepted the_feature t u l k y z) where
           pub turn : Going heads words ws bytes d s m x u k z (i + 6) (w + a) (g + b) (n + 1)
@@ -152,15 +152,15 @@ module _ (heads words ws bytes : List ℕ) (d : Bool) (s : Layer) (m : Memory) (
 
 -- what a call answered, once it is told which answer that was
 module _ (c : Change) (s : Layer) (r : Changed) (m n : Memory) (x y : Index) (A : LeavesFeature c s r m n x y) where
-  pub as_done : (u : Layer) → r ≡ OneDone u → Accepted c s u m n x y
+  pub as_done : (u : Layer) → r ≡ Ok u → Accepted c s u m n x y
   as_done u e = subst (λ (q : Changed). LeavesFeature c s q m n x y) e A
 
-  pub as_refused : (q : Refusal) (u : Layer) → r ≡ OneRefused q u → NotAccepted c q s u m n x y
-  as_refused q u e = subst (λ (k : Changed). LeavesFeature c s k m n x y) e A
+  pub as_refused : (q : Refused Layer) → r ≡ Err q → NotAccepted c q.refusal s q.kept m n x y
+  as_refused q e = subst (λ (k : Changed). LeavesFeature c s k m n x y) e A
 
 -- ---- `add_features`
 module _ (heads words ws bytes : List ℕ) (s : Layer) (m : Memory) (x : Index) (a : Bool) (e : a ≡ heads_ok (length words) (length ws) heads) where
-  pub no_heads : not a ≡ true → Gives (add_indexed heads words ws bytes s m x) (said_added (Refused Job s 0)) (with_index m x)
+  pub no_heads : not a ≡ true → Gives (add_indexed heads words ws bytes s m x) (said_added (Err (record { refusal = Job; kept = (s, 0) }))) (with_index m x)
   no_heads h = rw (← e, not-true a h) (record { answer = refl; memory = refl })
 
   pub heads_ok_lem : not a ≡ false → heads_ok (length words) (length ws) heads ≡ true

@@ -2,20 +2,19 @@
 -- right again (`keys_on`, `values_on`).
 use Prim.Native.Nat.{ℕ, ◌+◌, ◌≤◌}
 use mathlib.Core.Path.{◌≡◌, refl, sym, ap, subst, ◌∙◌}
-use mathlib.Core.Bool.{Bool, true, false, cond, ◌&&◌}
+use mathlib.Core.Bool.{Bool, true, false, cond}
 use mathlib.Core.List.{List, [], ◌++◌, append-nil, append_assoc}
 use native.Mathlib.Omega.{arith}
 use lib.ListN.{length, length-append, length-replicate}
 use lib.Dec.{ltb, leb, eqb}
 use borrow.Author.Tests.{leb-true}
-use Rattle.table.specs.declared.Found.{Found}
-use Rattle.table.specs.declared.Found.TheVariants.{At, Nothing}
+use Rattle.std.specs.Prelude.{Option, Some, None}
 use Rattle.table.specs.declared.Value.{Value}
 use Rattle.table.specs.Keys.{keys_in, find_key}
 use Rattle.table.specs.Values.{values_in, find_value}
 use Rattle.table.specs.Texts.{text_of}
 use Rattle.index.specs.Hashes.{hash_text, hash_value, hash_stored}
-use Rattle.index.specs.Chains.{slots_in, serves, cleared, pushed}
+use Rattle.index.specs.Chains.{slots_in, serves, cleared}
 use Rattle.index.specs.Entries.{key_count, key_hash, KeyIndex, built_keys, walked_key, value_count, value_hash, ValueIndex, built_values, walked_value}
 use Rattle.index.proofs.Pushing.{length_pushed, length_built, built_keys_lem, built_values_lem}
 use Rattle.index.proofs.Scanning.{walked_key_is, walked_value_is}
@@ -108,11 +107,11 @@ pub built_again : (v : Seen) (x y : Index) → Kept v.room x y → indexed v y �
 built_again v x y A = settled v x (indexed v y) (kept_on v.room x y (indexed v y) A (kept_built v y)) (current_built v y)
 
 -- ---- what is pushed
-length_new : (f : Found) (l : List ℕ) (n h : ℕ) → length (pushed_new f l n h) ≡ length l
-length_new (At j) l n h = refl
-length_new Nothing l n h = length_pushed l n h
+length_new : (f : Option ℕ) (l : List ℕ) (n h : ℕ) → length (pushed_new f l n h) ≡ length l
+length_new (Some j) l n h = refl
+length_new None l n h = length_pushed l n h
 
-module _ (l : List ℕ) (room : ℕ) (f : Found) (n h : ℕ) where
+module _ (l : List ℕ) (room : ℕ) (f : Option ℕ) (n h : ℕ) where
   noted_by : (b : Bool) → length (cond b (pushed_new f l n h) l) ≡ length l
   noted_by true = length_new f l n h
   noted_by false = refl
@@ -166,20 +165,20 @@ module _ (v : Seen) (e : valid v ≡ true) (L : Lengths v) where
       walked_value_is l v.held.values v.held.texts w text (subst (λ (x : List ℕ). ValueIndex x v.held.values v.held.texts) (sym h) I) (omega (arith, W.values))
 
   -- ---- what is new pushed
-  module _ (t : Tag) (kf vf : Found) where
+  module _ (t : Tag) (kf vf : Option ℕ) where
     abbrev texts_after : List ℕ
     texts_after = v.held.texts ++ (put_of kf t.key ++ put_of vf t.text)
 
-    key_pushed : (f : Found) → f ≡ kf → (l : List ℕ) → pushed_new f (built_keys l v.held.keys v.held.texts) v.layer.used.keys (hash_text t.key) ≡ built_keys l (v.held.keys ++ put_of f (key_words v.layer.used.texts t.key)) texts_after
-    key_pushed (At j) q l = keys_again l v.held.keys v.held.texts (put_of kf t.key ++ put_of vf t.text) keys_inside ∙ ap (λ (k : List ℕ). built_keys l k texts_after) (sym (append-nil v.held.keys))
-    key_pushed Nothing q l =
+    key_pushed : (f : Option ℕ) → f ≡ kf → (l : List ℕ) → pushed_new f (built_keys l v.held.keys v.held.texts) v.layer.used.keys (hash_text t.key) ≡ built_keys l (v.held.keys ++ put_of f (key_words v.layer.used.texts t.key)) texts_after
+    key_pushed (Some j) q l = keys_again l v.held.keys v.held.texts (put_of kf t.key ++ put_of vf t.text) keys_inside ∙ ap (λ (k : List ℕ). built_keys l k texts_after) (sym (append-nil v.held.keys))
+    key_pushed None q l =
         let a : text_of texts_after v.layer.used.texts (length t.key) ≡ t.key = rw (← q) (let z : v.layer.used.texts + 0 ≡ v.layer.used.texts = omega arith in rw z at (text_behind v.held.texts [] t.key (put_of vf t.text) v.layer.used.texts 0 L.texts refl)) in
         keys_more l v.held.keys v.held.texts v.layer.used.keys v.layer.used.texts t.key (put_of kf t.key ++ put_of vf t.text) keys_inside L.keys a
 
-    value_pushed : (f : Found) → f ≡ vf → (l : List ℕ) → pushed_new f (built_values l v.held.values v.held.texts) v.layer.used.values (hash_value t.value t.text)
+    value_pushed : (f : Option ℕ) → f ≡ vf → (l : List ℕ) → pushed_new f (built_values l v.held.values v.held.texts) v.layer.used.values (hash_value t.value t.text)
         ≡ built_values l (v.held.values ++ put_of f (value_words (v.layer.used.texts + more_of kf (length t.key)) t.value t.text)) texts_after
-    value_pushed (At j) q l = values_again l v.held.values v.held.texts (put_of kf t.key ++ put_of vf t.text) values_inside ∙ ap (λ (k : List ℕ). built_values l k texts_after) (sym (append-nil v.held.values))
-    value_pushed Nothing q l =
+    value_pushed (Some j) q l = values_again l v.held.values v.held.texts (put_of kf t.key ++ put_of vf t.text) values_inside ∙ ap (λ (k : List ℕ). built_values l k texts_after) (sym (append-nil v.held.values))
+    value_pushed None q l =
         let start = v.layer.used.texts + more_of kf (length t.key) in
         let a : text_of texts_after (v.layer.used.texts + more_of kf (length t.key)) (length t.text) ≡ t.text =
         rw (← q) (rw (append-nil t.text) at (text_behind v.held.texts (put_of kf t.key) t.text [] v.layer.used.texts (more_of kf (length t.key)) L.texts (length_put kf t.key))) in

@@ -13,8 +13,7 @@ use Rattle.promise.specs.Laid.{lay}
 use Rattle.promise.proofs.Laying.{length_lay}
 use Rattle.refusal.specs.declared.Refusal.{Refusal}
 use Rattle.refusal.specs.declared.Refusal.TheVariants.{Turn}
-use Rattle.table.specs.declared.Found.{Found}
-use Rattle.table.specs.declared.Found.TheVariants.{At, Nothing}
+use Rattle.std.specs.Prelude.{Option, Some, None}
 use Rattle.table.specs.declared.Value.{Value}
 use Rattle.table.specs.Keys.{keys_in}
 use Rattle.table.specs.Values.{values_in}
@@ -22,8 +21,6 @@ use Rattle.table.proofs.Growing.{keys_more, values_more}
 use Rattle.records.specs.Records.{head_ok, follow, one_record}
 use Rattle.records.proofs.Growing.{whole as whole-record, one_whole, last_six, follow_one, one_new, one_tagged, one_marked}
 use Rattle.layer.specs.declared.Figures.{Figures}
-use Rattle.layer.specs.declared.Open.{Open}
-use Rattle.layer.specs.declared.Open.TheVariants.{Shut, Since}
 use Rattle.layer.specs.Held.{Memory, Seen, Change, refuses, holds, check, when_open, fits, next}
 use Rattle.layer.specs.State.{valid, records_ok}
 use Rattle.layer.specs.Calls.{is_shut, more_words, with_used, with_features, record_with, Tag, is_value, index_of, more_of, put_of, key_words, value_words, grown_by, held_with, tag_put_by}
@@ -68,13 +65,13 @@ by_test P false r c n y = n refl
 pub by_check : (P : Change → Type 0) (b : Bool) (r : Refusal) (c : Change) → P (refuses r) → (b ≡ true → P c) → P (check b r c)
 by_check P b r c n y = by_test P b r c (λ e. n) y
 
-pub by_open : (P : Change → Type 0) (f : Open) (go : Figures → Change) → P (refuses Turn) → ((o : Figures) → f ≡ Since o → P (go o)) → P (when_open f go)
-by_open P Shut go f g = f
-by_open P (Since o) go f g = g o refl
+pub by_open : (P : Change → Type 0) (f : Option Figures) (go : Figures → Change) → P (refuses Turn) → ((o : Figures) → f ≡ Some o → P (go o)) → P (when_open f go)
+by_open P None go f g = f
+by_open P (Some o) go f g = g o refl
 
-pub is_shut_lem : (f : Open) → is_shut f ≡ true → f ≡ Shut
-is_shut_lem Shut e = refl
-is_shut_lem (Since o) e = absurd (let z : ◌≡◌ {A = ℕ} 0 1 = cc in omega arith)
+pub is_shut_lem : (f : Option Figures) → is_shut f ≡ true → f ≡ None
+is_shut_lem None e = refl
+is_shut_lem (Some o) e = absurd (let z : ◌≡◌ {A = ℕ} 0 1 = cc in omega arith)
 
 -- ---- runs laid into a list, before and behind a place
 pub take_lay_before : (n i : ℕ) (run l : List ℕ) → n ≤ i → i + length run ≤ length l → take n (lay i run l) ≡ take n l
@@ -96,24 +93,24 @@ drop_lay_add n i run l h =
     a ∙ rw (b, drop_take n i l (omega arith), c)
 
 -- ---- new entries
-new_key : (f : Found) (start : ℕ) (key : List ℕ) (more : ℕ) → keys_in (start + more_of f (length key) + more) (put_of f (key_words start key)) ≡ true
-new_key (At j) start key more = refl
-new_key Nothing start key more = rw (le-leb (start + length key) (start + length key + more) (omega arith))
+new_key : (f : Option ℕ) (start : ℕ) (key : List ℕ) (more : ℕ) → keys_in (start + more_of f (length key) + more) (put_of f (key_words start key)) ≡ true
+new_key (Some j) start key more = refl
+new_key None start key more = rw (le-leb (start + length key) (start + length key + more) (omega arith))
 
 value_of : (start : ℕ) (v : Value) (text : List ℕ) (t : Bool) → eqb v.kind 1 ≡ t → is_value v ≡ true → values_in (start + length text) (value_words start v text) ≡ true
 value_of start v text true q g = rw (q, le-leb (start + length text) (start + length text) (omega arith))
 value_of start v text false q g = rw q (cc (rw q at g))
 
-new_value : (f : Found) (start : ℕ) (v : Value) (text : List ℕ) → is_value v ≡ true → values_in (start + more_of f (length text)) (put_of f (value_words start v text)) ≡ true
-new_value (At j) start v text g = refl
-new_value Nothing start v text g = value_of start v text (eqb v.kind 1) refl g
+new_value : (f : Option ℕ) (start : ℕ) (v : Value) (text : List ℕ) → is_value v ≡ true → values_in (start + more_of f (length text)) (put_of f (value_words start v text)) ≡ true
+new_value (Some j) start v text g = refl
+new_value None start v text g = value_of start v text (eqb v.kind 1) refl g
 
 -- ---- opening
-module _ (kind mark id : ℕ) (words : List ℕ) (v : Seen) (S : Sound v) (k : head_ok kind mark ≡ true) (f : v.layer.feature ≡ Shut) where
+module _ (kind mark id : ℕ) (words : List ℕ) (v : Seen) (S : Sound v) (k : head_ok kind mark ≡ true) (f : v.layer.feature ≡ None) where
   abbrev opened_seen : Seen
-  opened_seen = next (holds (with_used v.layer (more_words v.layer.used (6 + length words)) (Since v.layer.used)) (with_features v.held (v.held.features ++ record_with kind mark id words))) v
+  opened_seen = next (holds (with_used v.layer (more_words v.layer.used (6 + length words)) (Some v.layer.used)) (with_features v.held (v.held.features ++ record_with kind mark id words))) v
 
-  opened_records : records_ok (Since v.layer.used) (more_words v.layer.used (6 + length words)) (v.held.features ++ record_with kind mark id words) ≡ true
+  opened_records : records_ok (Some v.layer.used) (more_words v.layer.used (6 + length words)) (v.held.features ++ record_with kind mark id words) ≡ true
   opened_records =
       let n = v.layer.used.features in
       let ws = v.held.features in
@@ -142,7 +139,7 @@ module _ (kind mark id : ℕ) (words : List ℕ) (v : Seen) (S : Sound v) (k : h
       }
 
 -- ---- with a feature open
-module _ (v : Seen) (S : Sound v) (o : Figures) (f : v.layer.feature ≡ Since o) where
+module _ (v : Seen) (S : Sound v) (o : Figures) (f : v.layer.feature ≡ Some o) where
   open_of : OpenParts o v.layer.used v.held.features
   open_of = open_parts v.layer.feature o v.layer.used v.held.features f S.records
 
@@ -158,7 +155,7 @@ module _ (v : Seen) (S : Sound v) (o : Figures) (f : v.layer.feature ≡ Since o
   pub six_in : o.features + 6 + get_or v.held.features (o.features + 4) 0 ≤ v.layer.used.features
   six_in = omega (arith, last_six v.held.features o.features at_in open_of.last, S.lengths.features)
 
-  pub closed_sound : Sound (next (holds (with_used v.layer v.layer.used Shut) v.held) v)
+  pub closed_sound : Sound (next (holds (with_used v.layer v.layer.used None) v.held) v)
   closed_sound =
       let g : follow v.held.features ≡ true = rw take-append-drop at (follow_one (take o.features v.held.features) (drop o.features v.held.features) open_of.before last_whole) in
       record {
@@ -203,7 +200,7 @@ module _ (v : Seen) (S : Sound v) (o : Figures) (f : v.layer.feature ≡ Since o
         }
 
   -- a tag
-  module _ (t : Tag) (g : is_value t.value ≡ true) (kf vf : Found) where
+  module _ (t : Tag) (g : is_value t.value ≡ true) (kf vf : Option ℕ) where
     abbrev grown : Figures
     grown = grown_by v.layer.used kf vf (length t.key) (length t.text)
 

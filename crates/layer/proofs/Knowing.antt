@@ -5,8 +5,7 @@ use mathlib.Core.Bool.{Bool, true, false, not}
 use mathlib.Core.List.{List, []}
 use native.Mathlib.Omega.{arith}
 use lib.ListN.{length, take, drop}
-use Rattle.table.specs.declared.Found.{Found}
-use Rattle.table.specs.declared.Found.TheVariants.{At, Nothing}
+use Rattle.std.specs.Prelude.{Option, Some, None}
 use Rattle.table.specs.declared.Text.{Text}
 use Rattle.table.specs.declared.Value.{Value}
 use Rattle.table.specs.Keys.{find_key}
@@ -32,27 +31,27 @@ lent_text bytes start len = take (start + len - start) (drop start bytes)
 lent_is : (bytes : List ℕ) (at : Text) → lent_text bytes at.start at.len ≡ placed_text bytes at
 lent_is bytes at = let z : at.start + at.len - at.start ≡ at.len = omega arith in rw z
 
-module _ (bytes ks ts kx earlier : List ℕ) (room : ℕ) (at : Text) (K : KeysLooked kx room ks ts) (h : ℕ) (he : h ≡ hash_text (lent_text bytes at.start at.len)) (f : Found) (fe : f ≡ key_by kx room ks ts (lent_text bytes at.start at.len) h) where
+module _ (bytes ks ts kx earlier : List ℕ) (room : ℕ) (at : Text) (K : KeysLooked kx room ks ts) (h : ℕ) (he : h ≡ hash_text (lent_text bytes at.start at.len)) (f : Option ℕ) (fe : f ≡ key_by kx room ks ts (lent_text bytes at.start at.len) h) where
   key_scanned : f ≡ find_key 0 ks ts (placed_text bytes at)
   key_scanned = fe ∙ ap (λ (n : ℕ). key_by kx room ks ts (lent_text bytes at.start at.len) n) he ∙ K.looked (lent_text bytes at.start at.len) ∙ ap (λ (l : List ℕ). find_key 0 ks ts l) (lent_is bytes at)
 
-  pub key_there : (j : ℕ) → f ≡ At j → At j ≡ key_known ks ts bytes earlier at
-  key_there j q = ap (λ (x : Found). or_given x (key_given bytes earlier (placed_text bytes at))) (sym q ∙ key_scanned)
+  pub key_there : (j : ℕ) → f ≡ Some j → Some j ≡ key_known ks ts bytes earlier at
+  key_there j q = ap (λ (x : Option ℕ). or_given x (key_given bytes earlier (placed_text bytes at))) (sym q ∙ key_scanned)
 
-  pub key_told : f ≡ Nothing → (g : Bool) → g ≡ key_given bytes earlier (lent_text bytes at.start at.len) → (r : Found) → r ≡ if_given g → r ≡ key_known ks ts bytes earlier at
+  pub key_told : f ≡ None → (g : Bool) → g ≡ key_given bytes earlier (lent_text bytes at.start at.len) → (r : Option ℕ) → r ≡ if_given g → r ≡ key_known ks ts bytes earlier at
   key_told q g ge r re =
-      re ∙ ap if_given (ge ∙ ap (λ (l : List ℕ). key_given bytes earlier l) (lent_is bytes at)) ∙ ap (λ (x : Found). or_given x (key_given bytes earlier (placed_text bytes at))) (sym q ∙ key_scanned)
+      re ∙ ap if_given (ge ∙ ap (λ (l : List ℕ). key_given bytes earlier l) (lent_is bytes at)) ∙ ap (λ (x : Option ℕ). or_given x (key_given bytes earlier (placed_text bytes at))) (sym q ∙ key_scanned)
 
-module _ (bytes vs ts vx earlier : List ℕ) (v : Value) (room : ℕ) (at : Text) (K : ValuesLooked vx room vs ts) (h : ℕ) (he : h ≡ hash_value v (lent_text bytes at.start at.len)) (f : Found) (fe : f ≡ value_by vx room vs ts v (lent_text bytes at.start at.len) h) where
+module _ (bytes vs ts vx earlier : List ℕ) (v : Value) (room : ℕ) (at : Text) (K : ValuesLooked vx room vs ts) (h : ℕ) (he : h ≡ hash_value v (lent_text bytes at.start at.len)) (f : Option ℕ) (fe : f ≡ value_by vx room vs ts v (lent_text bytes at.start at.len) h) where
   value_scanned : f ≡ find_value 0 vs ts v (placed_text bytes at)
   value_scanned = fe ∙ ap (λ (n : ℕ). value_by vx room vs ts v (lent_text bytes at.start at.len) n) he ∙ K.looked v (lent_text bytes at.start at.len) ∙ ap (λ (l : List ℕ). find_value 0 vs ts v l) (lent_is bytes at)
 
-  pub value_there : (j : ℕ) → f ≡ At j → At j ≡ value_known vs ts bytes earlier v at
-  value_there j q = ap (λ (x : Found). or_given x (value_among bytes earlier v (placed_text bytes at))) (sym q ∙ value_scanned)
+  pub value_there : (j : ℕ) → f ≡ Some j → Some j ≡ value_known vs ts bytes earlier v at
+  value_there j q = ap (λ (x : Option ℕ). or_given x (value_among bytes earlier v (placed_text bytes at))) (sym q ∙ value_scanned)
 
-  pub value_told : f ≡ Nothing → (g : Bool) → g ≡ value_among bytes earlier v (lent_text bytes at.start at.len) → (r : Found) → r ≡ if_given g → r ≡ value_known vs ts bytes earlier v at
+  pub value_told : f ≡ None → (g : Bool) → g ≡ value_among bytes earlier v (lent_text bytes at.start at.len) → (r : Option ℕ) → r ≡ if_given g → r ≡ value_known vs ts bytes earlier v at
   value_told q g ge r re =
-      re ∙ ap if_given (ge ∙ ap (λ (l : List ℕ). value_among bytes earlier v l) (lent_is bytes at)) ∙ ap (λ (x : Found). or_given x (value_among bytes earlier v (placed_text bytes at))) (sym q ∙ value_scanned)
+      re ∙ ap if_given (ge ∙ ap (λ (l : List ℕ). value_among bytes earlier v l) (lent_is bytes at)) ∙ ap (λ (x : Option ℕ). or_given x (value_among bytes earlier v (placed_text bytes at))) (sym q ∙ value_scanned)
 
 module _ (w : Figures) (ws : List ℕ) (i : ℕ) (bytes : List ℕ) (room : Figures) (ks vs ts kx vx : List ℕ) (N : NeedAsked w ws i bytes room ks vs ts kx vx) (p : Place) (e : p ≡ place_at ws i) where
   pub key_asked : KeyAsked p.key.start p.key.len (length bytes) kx room.keys ks ts
@@ -64,7 +63,7 @@ module _ (w : Figures) (ws : List ℕ) (i : ℕ) (bytes : List ℕ) (room : Figu
   pub need_small : Small w p.key.len p.text.len
   need_small = small_tag w ws i p N.capped N.there.short e
 
-pub need_is : (w : Figures) (ws : List ℕ) (i : ℕ) (bytes ks vs ts : List ℕ) (p : Place) → p ≡ place_at ws i → (kf vf : Found) → kf ≡ key_known ks ts bytes (take i ws) p.key → vf ≡ value_known vs ts bytes (take i ws) p.value p.text → (r : Figures) → r ≡ grown_by w kf vf p.key.len p.text.len → r ≡ step_at (need_of ks vs ts bytes) ws i w
+pub need_is : (w : Figures) (ws : List ℕ) (i : ℕ) (bytes ks vs ts : List ℕ) (p : Place) → p ≡ place_at ws i → (kf vf : Option ℕ) → kf ≡ key_known ks ts bytes (take i ws) p.key → vf ≡ value_known vs ts bytes (take i ws) p.value p.text → (r : Figures) → r ≡ grown_by w kf vf p.key.len p.text.len → r ≡ step_at (need_of ks vs ts bytes) ws i w
 need_is w ws i bytes ks vs ts p e kf vf k v r g = rw (g, k, v, e)
 
 -- ---- the loop

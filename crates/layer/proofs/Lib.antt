@@ -34,3 +34,5 @@ pub mod Needing
 pub mod Deciding
 pub mod Heads
 pub mod Going
+pub mod Chunks
+pub mod Turns

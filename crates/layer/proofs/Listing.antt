@@ -1,12 +1,12 @@
--- A lent list of tags, five words at a time: `tags_ok` at each turn of the loop of `is_tag_list`, and then the tests of each tag of such a list.
-use Prim.Native.Nat.{ℕ, ◌+◌, ◌-◌, ◌≤◌, ◌<◌, zero-le}
+-- A lent list of tags, five words at a time: the tests of each tag of such a list.
+use Prim.Native.Nat.{ℕ, ◌+◌, ◌≤◌, ◌<◌}
 use mathlib.Core.Path.{◌≡◌, refl, sym, ◌∙◌}
 use mathlib.Core.Bool.{Bool, true, false, cond, not, ◌&&◌}
 use mathlib.Core.List.{List, [], ◌∷◌}
 use native.Mathlib.Omega.{arith}
 use lib.ListN.{length, get_or, drop, drop_of_length-le, length-drop}
-use lib.Dec.{leb, eqb}
-use borrow.Author.Tests.{leb-true, leb-false, eqb-true, eqb-false, not-true, not-false}
+use lib.Dec.{leb}
+use borrow.Author.Tests.{leb-true, leb-false, not-true, not-false}
 use Rattle.table.specs.Values.{value_ok, values_in}
 use Rattle.promise.proofs.Joined.{cond_both}
 use Rattle.promise.proofs.Steps.{next}
@@ -65,29 +65,6 @@ module _ (bytes : ℕ) (ws : List ℕ) (i : ℕ) (e : tags_ok bytes (drop i ws) 
 
   pub ok_after : tags_ok bytes (drop (i + 5) ws) ≡ true
   ok_after = both_ok.1
-
-pub record Inv (bytes : ℕ) (ws : List ℕ) (i : ℕ) : Type 0 where
-  pub at : i ≤ length ws
-  pub rest : tags_ok bytes ws ≡ tags_ok bytes (drop i ws)
-
-pub start : (bytes : ℕ) (ws : List ℕ) → Inv bytes ws 0
-start bytes ws = record { at = zero-le; rest = refl }
-
-module _ (bytes : ℕ) (ws : List ℕ) (i : ℕ) (I : Inv bytes ws i) where
-  -- behind the last five words there is nothing, or too few for a tag
-  pub ends : length ws - i < 5 → eqb i (length ws) ≡ tags_ok bytes ws
-  ends h = by (eqb i (length ws)) refl
-    where
-      by : (t : Bool) → eqb i (length ws) ≡ t → t ≡ tags_ok bytes ws
-      by true q = let e = eqb-true i (length ws) q in rw (I.rest, drop_of_length-le ws {i = i} (omega (arith, e)))
-      by false q = let n = eqb-false i (length ws) q in rw (I.rest, few bytes (drop i ws) (rw length-drop (omega (arith, n, I.at))) (rw length-drop h))
-
-  module _ (t : Bool) (g : t ≡ ok_at bytes ws i) (h : 5 ≤ length ws - i) where
-    pub past : not t ≡ true → false ≡ tags_ok bytes ws
-    past y = rw (I.rest, step bytes ws i (omega arith), ← g, not-true t y)
-
-    pub further : not t ≡ false → Inv bytes ws (i + 5)
-    further n = record { at = omega arith; rest = rw (step bytes ws i (omega arith), ← g, not-false t n) at I.rest }
 
 -- ---- a test of every tag of a list, tag by tag: all of them pass where those from i on do
 pub record Each (bytes : ℕ) (ws : List ℕ) (all : List ℕ → Bool) (i : ℕ) : Type 0 where

@@ -9,8 +9,7 @@ use lib.ListN.{length, drop, length-drop}
 use lib.Seq.{length-take-le}
 use lib.Dec.{eqb}
 use borrow.Author.Tests.{le-leb, leb-true}
-use Rattle.table.specs.declared.Found.{Found}
-use Rattle.table.specs.declared.Found.TheVariants.{At, Nothing}
+use Rattle.std.specs.Prelude.{Option, Some, None}
 use Rattle.table.specs.declared.Value.{Value}
 use Rattle.table.specs.Texts.{inside, same_text, text_of}
 use Rattle.table.specs.Keys.{find_key, keys_in}
@@ -18,7 +17,6 @@ use Rattle.table.specs.Values.{same_value, find_value, value_ok, values_in}
 use Rattle.records.specs.Records.{is_found}
 use Rattle.promise.proofs.Joined.{cond_both}
 use Rattle.layer.specs.declared.Figures.{Figures}
-use Rattle.layer.specs.declared.Open.TheVariants.{Shut}
 use Rattle.layer.specs.Held.{Seen}
 use Rattle.layer.specs.Calls.{with_features, Tag, is_value, more_of, put_of, grown_by, held_with, tag_put_by, key_found, value_found, tag_put}
 use Rattle.layer.specs.TagLists.{tag_ok, tags_ok, value_given, text_place, tag_of, tags_of, key_given}
@@ -43,16 +41,16 @@ any_on : (s x y z : Bool) → x ≡ cond y true z → cond s true x ≡ cond (co
 any_on true x y z e = refl
 any_on false x y z e = e
 
-or_found : (f : Found) (g : Bool) → is_found (or_given f g) ≡ cond (is_found f) true g
-or_found (At j) g = refl
-or_found Nothing true = refl
-or_found Nothing false = refl
+or_found : (f : Option ℕ) (g : Bool) → is_found (or_given f g) ≡ cond (is_found f) true g
+or_found (Some j) g = refl
+or_found None true = refl
+or_found None false = refl
 
 -- ---- the tables alone: a layer without features
 abbrev bare : Seen → Seen
 bare v =
     record {
-      layer = record { extent = v.layer.extent; strict = v.layer.strict; name = 0; used = record { keys = v.layer.used.keys; values = v.layer.used.values; texts = v.layer.used.texts; features = 0 }; feature = Shut };
+      layer = record { extent = v.layer.extent; strict = v.layer.strict; name = 0; used = record { keys = v.layer.used.keys; values = v.layer.used.values; texts = v.layer.used.texts; features = 0 }; feature = None };
       held = with_features v.held [];
       room = v.room;
     }
@@ -71,7 +69,7 @@ tables v S =
     }
 
 -- a tag keeps them in order, as it does in a layer with one feature
-tables_put : (o : Figures) (t : Tag) (v : Seen) (kf vf : Found) → Tables v → is_value t.value ≡ true → Tables (tag_put_by o t v kf vf)
+tables_put : (o : Figures) (t : Tag) (v : Seen) (kf vf : Option ℕ) → Tables v → is_value t.value ≡ true → Tables (tag_put_by o t v kf vf)
 tables_put o t v kf vf T g =
     let O = opened_sound 1 0 0 [] (bare v) T refl refl in
     let S = tag_sound (feature_opened (record { kind = 1; has_id = false; id = 0 }) [] (bare v)) O (bare v).layer.used refl t g kf vf in
@@ -115,13 +113,13 @@ ok_last n (v ∷ w ∷ x ∷ y ∷ z ∷ ws) a b c d e h g =
     rw p.0 (ok_last n ws a b c d e p.1 g)
 
 -- ---- what a tag puts depends on whether it was found alone
-more_alike : (f g : Found) (n : ℕ) → is_found f ≡ is_found g → more_of f n ≡ more_of g n
-more_alike (At i) (At j) n e = refl
-more_alike (At i) Nothing n e = never (sym e)
-more_alike Nothing (At j) n e = never e
-more_alike Nothing Nothing n e = refl
+more_alike : (f g : Option ℕ) (n : ℕ) → is_found f ≡ is_found g → more_of f n ≡ more_of g n
+more_alike (Some i) (Some j) n e = refl
+more_alike (Some i) None n e = never (sym e)
+more_alike None (Some j) n e = never e
+more_alike None None n e = refl
 
-grown_alike : (w : Figures) (kf kg vf vg : Found) (key text : ℕ) → is_found kf ≡ is_found kg → is_found vf ≡ is_found vg → grown_by w kf vf key text ≡ grown_by w kg vg key text
+grown_alike : (w : Figures) (kf kg vf vg : Option ℕ) (key text : ℕ) → is_found kf ≡ is_found kg → is_found vf ≡ is_found vg → grown_by w kf vf key text ≡ grown_by w kg vg key text
 grown_alike w kf kg vf vg key text p q = rw (more_alike kf kg 1 p, more_alike kf kg key p, more_alike vf vg 1 q, more_alike vf vg text q)
 
 -- what is found is what the tables of the layer hold and the earlier tags gave
@@ -147,13 +145,13 @@ module _ (bytes ks vs ts : List ℕ) (o : Figures) where
     values_there : values_in (length n.held.texts) n.held.values ≡ true
     values_there = rw T.lengths.texts T.values
 
-    key_by_lem : (kf vf : Found) → key_found tag n ≡ kf → (key : List ℕ) → is_found (find_key 0 (held_with n.layer.used o n.held tag kf vf).keys (held_with n.layer.used o n.held tag kf vf).texts key) ≡ cond (is_found (find_key 0 n.held.keys n.held.texts key)) true (same_text bytes a b key)
-    key_by_lem (At j) vf q key = key_old bytes a b key_in n.held.keys n.held.texts n.layer.used.texts keys_there T.lengths.texts j q (put_of vf tag.text) key
-    key_by_lem Nothing vf q key = key_new bytes a b key_in n.held.keys n.held.texts n.layer.used.texts keys_there T.lengths.texts (put_of vf tag.text) key
+    key_by_lem : (kf vf : Option ℕ) → key_found tag n ≡ kf → (key : List ℕ) → is_found (find_key 0 (held_with n.layer.used o n.held tag kf vf).keys (held_with n.layer.used o n.held tag kf vf).texts key) ≡ cond (is_found (find_key 0 n.held.keys n.held.texts key)) true (same_text bytes a b key)
+    key_by_lem (Some j) vf q key = key_old bytes a b key_in n.held.keys n.held.texts n.layer.used.texts keys_there T.lengths.texts j q (put_of vf tag.text) key
+    key_by_lem None vf q key = key_new bytes a b key_in n.held.keys n.held.texts n.layer.used.texts keys_there T.lengths.texts (put_of vf tag.text) key
 
-    value_by_lem : (kf vf : Found) → value_found tag n ≡ vf → (v : Value) (text : List ℕ) → is_found (find_value 0 (held_with n.layer.used o n.held tag kf vf).values (held_with n.layer.used o n.held tag kf vf).texts v text) ≡ cond (is_found (find_value 0 n.held.values n.held.texts v text)) true (same_value bytes c d e v text)
-    value_by_lem kf (At j) q v text = value_old bytes c d e value_in n.held.values n.held.texts n.layer.used.texts values_there T.lengths.texts j q (put_of kf tag.key ++ []) v text
-    value_by_lem kf Nothing q v text = value_new bytes c d e value_in n.held.values n.held.texts n.layer.used.texts values_there T.lengths.texts (put_of kf tag.key) (more_of kf (length tag.key)) (length_put kf tag.key) v text
+    value_by_lem : (kf vf : Option ℕ) → value_found tag n ≡ vf → (v : Value) (text : List ℕ) → is_found (find_value 0 (held_with n.layer.used o n.held tag kf vf).values (held_with n.layer.used o n.held tag kf vf).texts v text) ≡ cond (is_found (find_value 0 n.held.values n.held.texts v text)) true (same_value bytes c d e v text)
+    value_by_lem kf (Some j) q v text = value_old bytes c d e value_in n.held.values n.held.texts n.layer.used.texts values_there T.lengths.texts j q (put_of kf tag.key ++ []) v text
+    value_by_lem kf None q v text = value_new bytes c d e value_in n.held.values n.held.texts n.layer.used.texts values_there T.lengths.texts (put_of kf tag.key) (more_of kf (length tag.key)) (length_put kf tag.key) v text
 
     knows_on : Knows bytes ks vs ts (earlier ++ (a ∷ b ∷ c ∷ d ∷ e ∷ [])) (tag_put o tag n)
     knows_on =
@@ -204,11 +202,11 @@ module _ (bytes ks vs ts : List ℕ) (o : Figures) where
       ∙ ap (λ (w : Figures). walked (need_of ks vs ts bytes) (earlier ++ (a ∷ b ∷ c ∷ d ∷ e ∷ [])) ws w) (figures_on earlier E n T N a b c d e g)
 
 -- ---- the bound
-more_le : (f : Found) (n : ℕ) → more_of f n ≤ n
-more_le (At j) n = zero-le
-more_le Nothing n = omega arith
+more_le : (f : Option ℕ) (n : ℕ) → more_of f n ≤ n
+more_le (Some j) n = zero-le
+more_le None n = omega arith
 
-grown_within : (w u : Figures) (kf vf : Found) (key text : ℕ) → Within w u → Within (grown_by w kf vf key text) (grown_by u Nothing Nothing key text)
+grown_within : (w u : Figures) (kf vf : Option ℕ) (key text : ℕ) → Within w u → Within (grown_by w kf vf key text) (grown_by u None None key text)
 grown_within w u kf vf key text I =
     record {
       keys = omega (arith, I.keys, more_le kf 1);

@@ -1,15 +1,14 @@
 -- AGAIN, at the returns and turns of the functions of `once`, and what its steps ask for.
 use Prim.Native.Nat.{ℕ, ◌+◌, ◌-◌, ◌*◌, ◌/◌, ◌≤◌, ◌<◌}
-use mathlib.Core.Path.{◌≡◌, refl, sym, ap, ◌∙◌}
+use mathlib.Core.Path.{◌≡◌, sym, ap, ◌∙◌}
 use mathlib.Core.Bool.{Bool, true, false, cond, not}
-use mathlib.Core.List.{List, [], ◌∷◌, ◌++◌}
+use mathlib.Core.List.{List, [], ◌++◌}
 use native.Mathlib.Omega.{arith}
 use lib.ListN.{length, get_or, take, drop, length-drop}
 use lib.Seq.{length-take-le, get_or-take, take-add, take_all, drop_at}
 use borrow.Author.Tests.{lt-ltb, le-ltb, not-true, not-false}
 use Rattle.promise.specs.Answers.{Gives}
 use Rattle.promise.specs.Widened.{Wide}
-use Rattle.promise.proofs.Steps.{next}
 use Rattle.refusal.specs.declared.Refusal.{Refusal}
 use Rattle.refusal.specs.declared.Refusal.TheVariants.{State, Text as TextRefusal, Utf8, Again}
 use Rattle.refusal.specs.Said.{Said}
@@ -17,9 +16,7 @@ use Rattle.table.specs.Texts.{short_text, same_text, text_of}
 use Rattle.utf8.specs.Utf8.{is_utf8}
 use Rattle.layer.specs.declared.Figures.{Figures}
 use Rattle.layer.specs.declared.Layer.{Layer}
-use Rattle.layer.specs.declared.Open.TheVariants.{Since}
-use Rattle.layer.specs.declared.Created.{Created}
-use Rattle.layer.specs.declared.Created.TheVariants.{Done, Refused}
+use Rattle.std.specs.Prelude.{Some, Result, Ok, Err}
 use Rattle.layer.specs.Held.{Memory, mem, held_by, seen, Change, check, written}
 use Rattle.layer.specs.State.{valid}
 use Rattle.layer.specs.Answers.{said_created}
@@ -29,7 +26,6 @@ use Rattle.layer.specs.Steps.{Ready, TagsThere}
 use Rattle.layer.proofs.Fitting.{fit}
 use Rattle.layer.proofs.Chains.{one_open}
 use Rattle.layer.proofs.Listing.{five}
-use Rattle.layer.proofs.Walking.{Looks}
 
 -- ---- `is_key`
 module _ (ks ts : List ℕ) (k : ℕ) (key : List ℕ) where
@@ -38,29 +34,6 @@ module _ (ks ts : List ℕ) (k : ℕ) (key : List ℕ) where
 
   pub key_compared : k < length ks / 2 → (s n : ℕ) → Wide (get_or ks (k * 2) 0) s → Wide (get_or ks (k * 2 + 1) 0) n → (r : Bool) → r ≡ same_text ts s n key → r ≡ is_key ks ts k key
   key_compared h s n p q r g = rw (lt-ltb k (length ks / 2) h, ← p.same, ← q.same) g
-
--- ---- `has_key`: the tags from i on tell whether one has the key
-two : (ws : List ℕ) (i : ℕ) → i + 2 ≤ length ws → drop i ws ≡ get_or ws i 0 ∷ get_or ws (i + 1) 0 ∷ drop (i + 2) ws
-two ws i h = rw (next ws i (i + 1) (omega arith) (omega arith), next ws (i + 1) (i + 2) (omega arith) (omega arith))
-
-less_than_two : (ks ts key l : List ℕ) → length l < 2 → has_key ks ts l key ≡ false
-less_than_two ks ts key [] h = refl
-less_than_two ks ts key (a ∷ []) h = refl
-less_than_two ks ts key (a ∷ b ∷ l) h = absurd (omega arith)
-
-module _ (ks ts key ws : List ℕ) (i : ℕ) (I : Looks (λ (l : List ℕ). has_key ks ts l key) ws i) where
-  pub tag_none : length ws - i < 2 → false ≡ has_key ks ts ws key
-  tag_none h = rw (I.rest, less_than_two ks ts key (drop i ws) (rw length-drop h))
-
-  module _ (h : 2 ≤ length ws - i) (k : ℕ) (p : Wide (get_or ws i 0) k) (b : Bool) (g : b ≡ is_key ks ts k key) where
-    tag_word : b ≡ is_key ks ts (get_or ws i 0) key
-    tag_word = rw (← p.same) g
-
-    pub tag_met : b ≡ true → true ≡ has_key ks ts ws key
-    tag_met y = rw (I.rest, two ws i (omega arith), ← tag_word, y)
-
-    pub tag_on : b ≡ false → Looks (λ (l : List ℕ). has_key ks ts l key) ws (i + 2)
-    tag_on y = record { at = omega arith; rest = rw (two ws i (omega arith), ← tag_word, y) at I.rest }
 
 -- ---- `takes_key`
 -- the last tag words, as they are lent
@@ -110,11 +83,11 @@ module _ (strict : Bool) (bytes ws : List ℕ) where
   taken_once h b g = rw (not-false strict h) g
 
 -- ---- `Layer::new_strict`
-module _ (name : List ℕ) (extent : ℕ) (ts us : List ℕ) (r : Created) (g : Gives (created name extent ts) (said_created r) us) where
-  pub strict_done : (s t : Layer) → r ≡ Done s → t ≡ chosen true s → Gives (created_strict name extent ts) (said_created (Done t)) us
-  strict_done s t e c = record { answer = ap (λ (x : Layer). said_created (Done x)) c ∙ ap strictly (ap said_created (sym e) ∙ g.answer); memory = g.memory }
+module _ (name : List ℕ) (extent : ℕ) (ts us : List ℕ) (r : Result Layer Refusal) (g : Gives (created name extent ts) (said_created r) us) where
+  pub strict_done : (s t : Layer) → r ≡ Ok s → t ≡ chosen true s → Gives (created_strict name extent ts) (said_created (Ok t)) us
+  strict_done s t e c = record { answer = ap (λ (x : Layer). said_created (Ok x)) c ∙ ap strictly (ap said_created (sym e) ∙ g.answer); memory = g.memory }
 
-  pub strict_refused : (q : Refusal) → r ≡ Refused q → Gives (created_strict name extent ts) (said_created (Refused q)) us
+  pub strict_refused : (q : Refusal) → r ≡ Err q → Gives (created_strict name extent ts) (said_created (Err q)) us
   strict_refused q e = record { answer = ap strictly (ap said_created (sym e) ∙ g.answer); memory = g.memory }
 
 -- ---- `add_tag`: where all is asked up to TURN, it is what a tag of the open feature makes
@@ -124,7 +97,7 @@ pub record TagAsked (t : Tag) (s : Layer) (m : Memory) (o : Figures) : Type 0 wh
   pub short_text_lem : short_text (length t.text) ≡ true
   pub utf8_key : is_utf8 t.key ≡ true
   pub utf8_text : is_utf8 t.text ≡ true
-  pub since : s.feature ≡ Since o
+  pub since : s.feature ≡ Some o
 
 past : (b : Bool) (q : Refusal) (c : Change) (s : Layer) (m : Memory) (r : Said Layer) (n : Memory) → b ≡ true → Gives (written c s m) r n → Gives (written (check b q c) s m) r n
 past b q c s m r n e g = rw e g

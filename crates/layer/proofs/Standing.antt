@@ -14,8 +14,7 @@ use Rattle.table.specs.Values.{values_in}
 use Rattle.records.specs.Records.{follow, one_record}
 use Rattle.records.proofs.Growing.{last_six}
 use Rattle.layer.specs.declared.Figures.{Figures}
-use Rattle.layer.specs.declared.Open.{Open}
-use Rattle.layer.specs.declared.Open.TheVariants.{Since}
+use Rattle.std.specs.Prelude.{Option, Some}
 use Rattle.layer.specs.declared.Layer.{Layer}
 use Rattle.layer.specs.Held.{mem, room_of, fits, Seen, seen}
 use Rattle.layer.specs.State.{records_ok, valid}
@@ -64,15 +63,15 @@ pub record OpenParts (o used : Figures) (ws : List ℕ) : Type 0 where
   pub before : follow (take o.features ws) ≡ true
   pub last : one_record ws o.features ≡ true
 
-pub open_parts : (f : Open) (o used : Figures) (ws : List ℕ) → f ≡ Since o → records_ok f used ws ≡ true → OpenParts o used ws
+pub open_parts : (f : Option Figures) (o used : Figures) (ws : List ℕ) → f ≡ Some o → records_ok f used ws ≡ true → OpenParts o used ws
 open_parts f o used ws e h =
-    let g : records_ok (Since o) used ws ≡ true = rw e at h in
+    let g : records_ok (Some o) used ws ≡ true = rw e at h in
     let p = both (fits o used) (follow (take o.features ws) && one_record ws o.features) g in
     let q = both (follow (take o.features ws)) (one_record ws o.features) p.1 in
     record { room = p.0; before = q.0; last = q.1 }
 
 -- its six words and its tag words are there
-pub open_record : (v : Seen) (o : Figures) → valid v ≡ true → length v.held.features ≡ v.layer.used.features → v.layer.feature ≡ Since o → o.features + 6 + get_or v.held.features (o.features + 4) 0 ≤ v.layer.used.features
+pub open_record : (v : Seen) (o : Figures) → valid v ≡ true → length v.held.features ≡ v.layer.used.features → v.layer.feature ≡ Some o → o.features + 6 + get_or v.held.features (o.features + 4) 0 ≤ v.layer.used.features
 open_record v o e l f =
     let P = open_parts v.layer.feature o v.layer.used v.held.features f (parts v e).records in
     let W = within o v.layer.used P.room in
@@ -83,7 +82,7 @@ pub record OpenAt (o used : Figures) (fs : List ℕ) : Type 0 where
   pub within : Within o used
   pub six : o.features + 6 + get_or fs (o.features + 4) 0 ≤ used.features
 
-pub open_at : (s : Layer) (o : Figures) (ks vs ts fs : List ℕ) → valid (seen s (mem ks vs ts fs)) ≡ true → s.feature ≡ Since o → OpenAt o s.used fs
+pub open_at : (s : Layer) (o : Figures) (ks vs ts fs : List ℕ) → valid (seen s (mem ks vs ts fs)) ≡ true → s.feature ≡ Some o → OpenAt o s.used fs
 open_at s o ks vs ts fs e f =
     let P = open_parts s.feature o s.used (take s.used.features fs) f (parts (seen s (mem ks vs ts fs)) e).records in
     let l = length-take-le s.used.features fs (valid_fit s ks vs ts fs e).in_features in
@@ -95,7 +94,7 @@ open_at s o ks vs ts fs e f =
 
 -- a tag may be put
 module _ (s : Layer) (ks vs ts fs : List ℕ) (t : Bool) (g : t ≡ valid (seen s (mem ks vs ts fs))) (h : not t ≡ false) where
-  pub tag_ready : (key text : ℕ) (a b : Bool) → a ≡ short_text key → not a ≡ false → b ≡ short_text text → not b ≡ false → (o : Figures) → s.feature ≡ Since o → Ready s o key text (mem ks vs ts fs)
+  pub tag_ready : (key text : ℕ) (a b : Bool) → a ≡ short_text key → not a ≡ false → b ≡ short_text text → not b ≡ false → (o : Figures) → s.feature ≡ Some o → Ready s o key text (mem ks vs ts fs)
   tag_ready key text a b p i q j o f =
       record {
         room = valid_room s ks vs ts fs t g h;

@@ -11,15 +11,13 @@ use Rattle.promise.specs.Answers.{Gives}
 use Rattle.promise.specs.Laid.{lay}
 use Rattle.refusal.specs.declared.Refusal.TheVariants.{Room}
 use Rattle.refusal.specs.Said.{Said}
-use Rattle.table.specs.declared.Found.{Found}
-use Rattle.table.specs.declared.Found.TheVariants.{At, Nothing}
+use Rattle.std.specs.Prelude.{Option, Some, None, Ok, Err}
 use Rattle.table.specs.declared.Value.{Value}
 use Rattle.table.specs.Keys.{find_key}
 use Rattle.table.specs.Values.{find_value}
 use Rattle.table.proofs.Bounds.{key_below, value_below}
 use Rattle.layer.specs.declared.Figures.{Figures}
 use Rattle.layer.specs.declared.Layer.{Layer}
-use Rattle.layer.specs.declared.Changed.TheVariants.{Done, Refused}
 use Rattle.layer.specs.Held.{Memory, mem, room_of, fits, seen, held_by, onto, written, front}
 use Rattle.layer.specs.Answers.{said_changed}
 use Rattle.layer.specs.Calls.{Tag, index_of, more_of, put_of, key_words, value_words, grown_by, with_tag, held_with, tagged_by, tagged, with_used}
@@ -29,16 +27,16 @@ use Rattle.layer.proofs.Fitting.{Fit, fit}
 use Rattle.layer.proofs.Fronts.{front_run, front_set}
 
 -- what is found is among the entries
-pub key_index_lem : (f : Found) (l ts key : List ℕ) (n : ℕ) → f ≡ find_key 0 l ts key → length l ≤ n * 2 → index_of f n ≤ n
-key_index_lem (At i) l ts key n e h = omega (arith, key_below 0 l ts key i (sym e))
-key_index_lem Nothing l ts key n e h = omega arith
+pub key_index_lem : (f : Option ℕ) (l ts key : List ℕ) (n : ℕ) → f ≡ find_key 0 l ts key → length l ≤ n * 2 → index_of f n ≤ n
+key_index_lem (Some i) l ts key n e h = omega (arith, key_below 0 l ts key i (sym e))
+key_index_lem None l ts key n e h = omega arith
 
-pub value_index_lem : (f : Found) (vs ts : List ℕ) (v : Value) (t : List ℕ) (n : ℕ) → f ≡ find_value 0 vs ts v t → length vs ≤ n * 3 → index_of f n ≤ n
-value_index_lem (At i) vs ts v t n e h = omega (arith, value_below 0 vs ts v t i (sym e))
-value_index_lem Nothing vs ts v t n e h = omega arith
+pub value_index_lem : (f : Option ℕ) (vs ts : List ℕ) (v : Value) (t : List ℕ) (n : ℕ) → f ≡ find_value 0 vs ts v t → length vs ≤ n * 3 → index_of f n ≤ n
+value_index_lem (Some i) vs ts v t n e h = omega (arith, value_below 0 vs ts v t i (sym e))
+value_index_lem None vs ts v t n e h = omega arith
 
 -- the parts of a tag, laid over the lists, are the lists with the runs laid
-module _ (u o : Figures) (kf vf : Found) (t : Tag) (ks vs ts fs : List ℕ) (F : Fit u (length ks) (length vs) (length ts) (length fs)) (six : o.features + 6 ≤ u.features) where
+module _ (u o : Figures) (kf vf : Option ℕ) (t : Tag) (ks vs ts fs : List ℕ) (F : Fit u (length ks) (length vs) (length ts) (length fs)) (six : o.features + 6 ≤ u.features) where
   pair : List ℕ
   pair = index_of kf u.keys ∷ index_of vf u.values ∷ []
 
@@ -55,7 +53,7 @@ module _ (u o : Figures) (kf vf : Found) (t : Tag) (ks vs ts fs : List ℕ) (F :
       rw (k, v, x, f)
 
 -- what was found, where the figures after the tag fit
-pub found_room : (u o : Figures) (kf vf : Found) (key text : ℕ) (ks vs ts fs : List ℕ) → Fit u (length ks) (length vs) (length ts) (length fs) → Small u key text → o.features + 6 + get_or fs (o.features + 4) 0 ≤ u.features → index_of kf u.keys ≤ u.keys → index_of vf u.values ≤ u.values → Fit (grown_by u kf vf key text) (length ks) (length vs) (length ts) (length fs) → TagRoom u o kf vf key text (mem ks vs ts fs)
+pub found_room : (u o : Figures) (kf vf : Option ℕ) (key text : ℕ) (ks vs ts fs : List ℕ) → Fit u (length ks) (length vs) (length ts) (length fs) → Small u key text → o.features + 6 + get_or fs (o.features + 4) 0 ≤ u.features → index_of kf u.keys ≤ u.keys → index_of vf u.values ≤ u.values → Fit (grown_by u kf vf key text) (length ks) (length vs) (length ts) (length fs) → TagRoom u o kf vf key text (mem ks vs ts fs)
 found_room u o kf vf key text ks vs ts fs F S six i j G =
     record {
       in_keys = omega (arith, G.in_keys, twice kf);
@@ -81,7 +79,7 @@ module _ (s : Layer) (o : Figures) (key : List ℕ) (v : Value) (text ks vs ts f
       let F = ready_fit in
       record { keys = F.few_keys; values = F.few_values; texts = F.few_texts; features = F.few_features; small_key = R.small_key; small_text = R.small_text }
 
-  module _ (kf vf : Found) (a : kf ≡ find_key 0 (take (s.used.keys * 2) ks) (take s.used.texts ts) key) (b : vf ≡ find_value 0 (take (s.used.values * 3) vs) (take s.used.texts ts) v text) where
+  module _ (kf vf : Option ℕ) (a : kf ≡ find_key 0 (take (s.used.keys * 2) ks) (take s.used.texts ts) key) (b : vf ≡ find_value 0 (take (s.used.values * 3) vs) (take s.used.texts ts) v text) where
     key_among : index_of kf s.used.keys ≤ s.used.keys
     key_among =
         let x : length (take (s.used.keys * 2) ks) ≡ s.used.keys * 2 = length-take-le _ _ ready_fit.in_keys in
@@ -100,17 +98,17 @@ module _ (s : Layer) (o : Figures) (key : List ℕ) (v : Value) (text ks vs ts f
       looked : (r : Said Layer) (n : Memory) → Gives (written (tagged_by (record { key = key; value = v; text = text }) (seen s (mem ks vs ts fs)) o kf vf) s (mem ks vs ts fs)) r n → Gives (written (tagged (record { key = key; value = v; text = text }) (seen s (mem ks vs ts fs)) o) s (mem ks vs ts fs)) r n
       looked r n G = rw (a, b) at G
 
-      pub tag_full : not q ≡ true → Gives (written (tagged (record { key = key; value = v; text = text }) (seen s (mem ks vs ts fs)) o) s (mem ks vs ts fs)) (said_changed (Refused Room s)) (mem ks vs ts fs)
+      pub tag_full : not q ≡ true → Gives (written (tagged (record { key = key; value = v; text = text }) (seen s (mem ks vs ts fs)) o) s (mem ks vs ts fs)) (said_changed (Err (record { refusal = Room; kept = s }))) (mem ks vs ts fs)
       tag_full n = looked _ _ (rw (told, not-true q n) (record { answer = refl; memory = refl }))
 
       pub tag_room : not q ≡ false → TagRoom s.used o kf vf (length key) (length text) (mem ks vs ts fs)
       tag_room n = found_room s.used o kf vf (length key) (length text) ks vs ts fs ready_fit ready_small R.six key_among value_among_lem (fit (grown_by s.used kf vf (length key) (length text)) (length ks) (length vs) (length ts) (length fs) (told ∙ not-false q n))
 
-      pub tag_done : not q ≡ false → (ks₂ vs₂ ts₂ fs₂ : List ℕ) → mem ks₂ vs₂ ts₂ fs₂ ≡ laid_tag s.used o kf vf (record { key = key; value = v; text = text }) (mem ks vs ts fs) → Gives (written (tagged (record { key = key; value = v; text = text }) (seen s (mem ks vs ts fs)) o) s (mem ks vs ts fs)) (said_changed (Done (with_used s after s.feature))) (mem ks₂ vs₂ ts₂ fs₂)
+      pub tag_done : not q ≡ false → (ks₂ vs₂ ts₂ fs₂ : List ℕ) → mem ks₂ vs₂ ts₂ fs₂ ≡ laid_tag s.used o kf vf (record { key = key; value = v; text = text }) (mem ks vs ts fs) → Gives (written (tagged (record { key = key; value = v; text = text }) (seen s (mem ks vs ts fs)) o) s (mem ks vs ts fs)) (said_changed (Ok (with_used s after s.feature))) (mem ks₂ vs₂ ts₂ fs₂)
       tag_done n ks₂ vs₂ ts₂ fs₂ m =
           looked _ _
           (rw (told, not-false q n)
           (record {
-            answer = ap (λ (x : Figures). said_changed (Done (with_used s x s.feature))) g;
+            answer = ap (λ (x : Figures). said_changed (Ok (with_used s x s.feature))) g;
             memory = m ∙ sym (tag_onto s.used o kf vf (record { key = key; value = v; text = text }) ks vs ts fs ready_fit (omega (arith, R.six)));
           }))

@@ -1,4 +1,4 @@
--- The loops over a list of tags, five words at a time: whether a key or a value is given, and the figures, which only grow, so that those which do not fit never will.
+-- The loops over a list of tags, five words at a time: the figures only grow, so that those which do not fit never will.
 use Prim.Native.Nat.{ℕ, ◌+◌, ◌-◌, ◌*◌, ◌/◌, ◌≤◌, ◌<◌, zero-le}
 use mathlib.Core.Path.{◌≡◌, refl, sym, ap, ◌∙◌}
 use mathlib.Core.Bool.{Bool, true, false, not, ◌&&◌}
@@ -9,70 +9,18 @@ use lib.Seq.{take-add}
 use lib.Dec.{leb}
 use borrow.Author.Tests.{leb-true, not-true, not-false}
 use Rattle.promise.proofs.Joined.{cond_both}
-use Rattle.table.specs.declared.Found.TheVariants.{Nothing}
-use Rattle.table.specs.declared.Value.{Value}
-use Rattle.promise.specs.Widened.{Wide}
-use Rattle.table.specs.Texts.{max_bytes, short_text, same_text}
-use Rattle.table.specs.Values.{same_value}
+use Rattle.std.specs.Prelude.{None}
+use Rattle.table.specs.Texts.{max_bytes, short_text}
 use Rattle.layer.specs.declared.Figures.{Figures}
 use Rattle.layer.specs.declared.tag_list.Place.{Place}
 use Rattle.layer.specs.Held.{fits}
 use Rattle.layer.specs.Calls.{grown_by}
 use Rattle.layer.specs.Steps.{Small}
-use Rattle.layer.specs.TagLists.{text_place, short_tag, short_at, tags_short, key_given}
+use Rattle.layer.specs.TagLists.{text_place, short_tag, short_at, tags_short}
 use Rattle.layer.specs.WholeSteps.{place_at}
-use Rattle.layer.specs.NeedSteps.{ample, value_among, Step, most_of, walked, step_at, Capped, MostAsked}
+use Rattle.layer.specs.NeedSteps.{ample, Step, most_of, walked, step_at, Capped, MostAsked}
 use Rattle.layer.proofs.Fitting.{never, both, Within, within, fits_yes}
 use Rattle.layer.proofs.Listing.{five, short_at_lem, short_after}
-
--- ---- what is given
-pub record Looks (given : List ℕ → Bool) (ws : List ℕ) (i : ℕ) : Type 0 where
-  pub at : i ≤ length ws
-  pub rest : given ws ≡ given (drop i ws)
-
-pub looks_start : (given : List ℕ → Bool) (ws : List ℕ) → Looks given ws 0
-looks_start given ws = record { at = zero-le; rest = refl }
-
-key_few : (bytes key l : List ℕ) → length l < 5 → key_given bytes l key ≡ false
-key_few bytes key [] h = refl
-key_few bytes key (a ∷ []) h = refl
-key_few bytes key (a ∷ b ∷ []) h = refl
-key_few bytes key (a ∷ b ∷ c ∷ []) h = refl
-key_few bytes key (a ∷ b ∷ c ∷ d ∷ []) h = refl
-key_few bytes key (a ∷ b ∷ c ∷ d ∷ e ∷ l) h = absurd (omega arith)
-
-value_few : (bytes : List ℕ) (v : Value) (text l : List ℕ) → length l < 5 → value_among bytes l v text ≡ false
-value_few bytes v text [] h = refl
-value_few bytes v text (a ∷ []) h = refl
-value_few bytes v text (a ∷ b ∷ []) h = refl
-value_few bytes v text (a ∷ b ∷ c ∷ []) h = refl
-value_few bytes v text (a ∷ b ∷ c ∷ d ∷ []) h = refl
-value_few bytes v text (a ∷ b ∷ c ∷ d ∷ e ∷ l) h = absurd (omega arith)
-
-module _ (bytes key ws : List ℕ) (i : ℕ) (I : Looks (λ (l : List ℕ). key_given bytes l key) ws i) where
-  pub key_not : length ws - i < 5 → false ≡ key_given bytes ws key
-  key_not h = rw (I.rest, key_few bytes key (drop i ws) (rw length-drop h))
-
-  module _ (h : 5 ≤ length ws - i) (s n : ℕ) (p : Wide (get_or ws i 0) s) (q : Wide (get_or ws (i + 1) 0) n) (b : Bool) (g : b ≡ same_text bytes s n key) where
-    key_word : b ≡ same_text bytes (get_or ws i 0) (get_or ws (i + 1) 0) key
-    key_word = rw (← p.same, ← q.same) g
-
-    pub key_met : b ≡ true → true ≡ key_given bytes ws key
-    key_met y = rw (I.rest, five ws i (omega arith), ← key_word, y)
-
-    pub key_on : b ≡ false → Looks (λ (l : List ℕ). key_given bytes l key) ws (i + 5)
-    key_on y = record { at = omega arith; rest = rw (five ws i (omega arith), ← key_word, y) at I.rest }
-
-module _ (bytes : List ℕ) (v : Value) (text ws : List ℕ) (i : ℕ) (I : Looks (λ (l : List ℕ). value_among bytes l v text) ws i) where
-  pub value_not : length ws - i < 5 → false ≡ value_among bytes ws v text
-  value_not h = rw (I.rest, value_few bytes v text (drop i ws) (rw length-drop h))
-
-  module _ (h : 5 ≤ length ws - i) (b : Bool) (g : b ≡ same_value bytes (get_or ws (i + 2) 0) (get_or ws (i + 3) 0) (get_or ws (i + 4) 0) v text) where
-    pub value_met : b ≡ true → true ≡ value_among bytes ws v text
-    value_met y = rw (I.rest, five ws i (omega arith), ← g, y)
-
-    pub value_on : b ≡ false → Looks (λ (l : List ℕ). value_among bytes l v text) ws (i + 5)
-    value_on y = record { at = omega arith; rest = rw (five ws i (omega arith), ← g, y) at I.rest }
 
 -- ---- the figures
 pub within_on : (a b c : Figures) → Within a b → Within b c → Within a c
@@ -155,8 +103,8 @@ small_tag w ws i p c e q =
     let t : p.text.len ≤ max_bytes = rw q (leb-true (text_place (get_or ws (i + 2) 0) (get_or ws (i + 3) 0) (get_or ws (i + 4) 0)).len max_bytes s.1) in
     record { keys = c.keys; values = c.values; texts = c.texts; features = c.features; small_key = k; small_text = t }
 
-pub most_is : (w : Figures) (ws : List ℕ) (i : ℕ) (p : Place) → p ≡ place_at ws i → (r : Figures) → r ≡ grown_by w Nothing Nothing p.key.len p.text.len → r ≡ step_at most_of ws i w
-most_is w ws i p q r g = g ∙ ap (λ (x : Place). grown_by w Nothing Nothing x.key.len x.text.len) q
+pub most_is : (w : Figures) (ws : List ℕ) (i : ℕ) (p : Place) → p ≡ place_at ws i → (r : Figures) → r ≡ grown_by w None None p.key.len p.text.len → r ≡ step_at most_of ws i w
+most_is w ws i p q r g = g ∙ ap (λ (x : Place). grown_by w None None x.key.len x.text.len) q
 
 pub most_grows : Grow most_of
 most_grows earlier a b c d e w = record { keys = omega arith; values = omega arith; texts = omega arith; features = omega arith }

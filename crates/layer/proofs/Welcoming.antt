@@ -11,11 +11,9 @@ use Rattle.promise.specs.Answers.{Gives}
 use Rattle.refusal.specs.declared.Refusal.{Refusal}
 use Rattle.refusal.specs.declared.Refusal.TheVariants.{Room}
 use Rattle.layer.specs.declared.Layer.{Layer}
-use Rattle.layer.specs.declared.Changed.{Changed}
-use Rattle.layer.specs.declared.Changed.TheVariants.{Done, Refused}
+use Rattle.std.specs.Prelude.{Result, Ok, Err}
+use Rattle.layer.specs.Answers.{Changed}
 use Rattle.layer.specs.declared.whole_feature.Head.{Head}
-use Rattle.layer.specs.declared.whole_feature.Asked.{Asked}
-use Rattle.layer.specs.declared.whole_feature.Asked.TheVariants.{Fine, Barred}
 use Rattle.layer.specs.Held.{Memory, mem, fits, Seen, seen, Change, holds, written}
 use Rattle.layer.specs.Answers.{said_changed}
 use Rattle.layer.specs.State.{valid}
@@ -70,7 +68,7 @@ module _ (s : Layer) (built : Bool) (f : Head) (words ws bytes ks vs ts fs ki vi
     decided : fits put.layer.used put.room ≡ q
     decided = ap (fits put.layer.used) (feature_room f words (tags_of bytes ws) before) ∙ sym (D.decides f words refl)
 
-    pub no_room : not q ≡ true → LeavesFeature (add_feature f words ws bytes before) s (Refused Room s) (mem ks vs ts fs) (mem ks vs ts fs) (idx ki vi) (idx ki vi)
+    pub no_room : not q ≡ true → LeavesFeature (add_feature f words ws bytes before) s (Err (record { refusal = Room; kept = s })) (mem ks vs ts fs) (mem ks vs ts fs) (idx ki vi) (idx ki vi)
     no_room n = rw (by_room, decided, not-true q n) (record { is = refl; layer = refl; memory = refl; index = refl })
 
     module _ (n : not q ≡ false) (y : Index) (e : y ≡ cond built (idx ki vi) (indexed before (idx ki vi))) where
@@ -95,7 +93,7 @@ module _ (s : Layer) (built : Bool) (f : Head) (words ws bytes ks vs ts fs ki vi
         now =
             left_seen put t (mem ks vs ts fs) m y z L sound_put fits_put (feature_room f words (tags_of bytes ws) before)
 
-        pub feature_left : LeavesFeature (add_feature f words ws bytes before) s (Done t) (mem ks vs ts fs) m (idx ki vi) z
+        pub feature_left : LeavesFeature (add_feature f words ws bytes before) s (Ok t) (mem ks vs ts fs) m (idx ki vi) z
         feature_left =
             let K : Kept before.room (idx ki vi) y = rw e (built_kept built before (idx ki vi)) in
             let A : Kept before.room y z = rw (feature_room f words (tags_of bytes ws) before) at L.kept in
@@ -111,11 +109,11 @@ module _ (s : Layer) (built : Bool) (f : Head) (words ws bytes ks vs ts fs ki vi
             }
 
 -- ---- `add_known`
-module _ (s : Layer) (stands built : Bool) (f : Head) (words ws bytes : List ℕ) (m : Memory) (x : Index) (K : Known s stands built m x) (r : Asked) (g : r ≡ asks s.feature s.strict stands f.kind (length words) ws bytes) where
-  pub known_given : r ≡ Fine → Given s built f words ws bytes m x
+module _ (s : Layer) (stands built : Bool) (f : Head) (words ws bytes : List ℕ) (m : Memory) (x : Index) (K : Known s stands built m x) (r : Result (Unit {0}) Refusal) (g : r ≡ asks s.feature s.strict stands f.kind (length words) ws bytes) where
+  pub known_given : r ≡ Ok tt → Given s built f words ws bytes m x
   known_given e = record { welcome = chain_welcome s stands m K.state f words ws bytes r g e; current = K.current }
 
-  pub known_barred : (q : Refusal) → r ≡ Barred q → LeavesFeature (add_feature f words ws bytes (seen s m)) s (Refused q s) m m x x
+  pub known_barred : (q : Refusal) → r ≡ Err q → LeavesFeature (add_feature f words ws bytes (seen s m)) s (Err (record { refusal = q; kept = s })) m m x x
   known_barred q e = rw (chain_barred s stands m K.state f words ws bytes r g q e) (record { is = refl; layer = refl; memory = refl; index = refl })
 
 -- ---- `add_feature`: lists of one word are lent for the indexes, which are not used
@@ -123,5 +121,5 @@ pub known_none : (s : Layer) (stands : Bool) (m : Memory) → stands ≡ valid (
 known_none s stands m e = record { state = e; current = record { keys = refl; values = refl } }
 
 pub one_answer : (c : Change) (s : Layer) (r : Changed) (m n : Memory) (x y : Index) → LeavesFeature c s r m n x y → Gives (written c s m) (said_changed r) n
-one_answer c s (Done t) m n x y A = rw A.is (record { answer = refl; memory = A.memory })
-one_answer c s (Refused q u) m n x y A = rw A.is (record { answer = ap (λ (l : Layer). said_changed (Refused q l)) A.layer; memory = A.memory })
+one_answer c s (Ok t) m n x y A = rw A.is (record { answer = refl; memory = A.memory })
+one_answer c s (Err e) m n x y A = rw A.is (record { answer = ap (λ (l : Layer). said_changed (Err (record { refusal = e.refusal; kept = l }))) A.layer; memory = A.memory })

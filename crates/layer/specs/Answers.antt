@@ -5,22 +5,19 @@ use Rattle.refusal.specs.declared.Refusal.{Refusal}
 use Rattle.refusal.specs.Said.{Said, accepted, refused}
 use Rattle.table.specs.declared.Text.{Text}
 use Rattle.layer.specs.declared.Layer.{Layer}
-use Rattle.layer.specs.declared.Changed.{Changed}
-use Rattle.layer.specs.declared.Changed.TheVariants.{Done, Refused}
-use Rattle.layer.specs.declared.Created.{Created}
-use Rattle.layer.specs.declared.Created.TheVariants.{Done as CreatedDone, Refused as CreatedRefused}
-use Rattle.layer.specs.declared.Counted.{Counted}
-use Rattle.layer.specs.declared.Counted.TheVariants.{Is, Refused as CountedRefused}
-use Rattle.layer.specs.declared.Named.{Named}
-use Rattle.layer.specs.declared.Named.TheVariants.{At as Stands, Refused as NamedRefused}
+use Rattle.std.specs.Prelude.{Result, Ok, Err}
+use Rattle.refusal.specs.declared.Refused.{Refused}
+
+abbrev pub Changed : Type 0
+Changed = Result Layer (Refused Layer)
 
 abbrev pub said_changed : Changed → Said Layer
-said_changed (Done t) = accepted t
-said_changed (Refused r s) = refused r s
+said_changed (Ok t) = accepted t
+said_changed (Err e) = refused e.refusal e.kept
 
-abbrev pub said_created : Created → Said (List Layer)
-said_created (CreatedDone t) = accepted (t ∷ [])
-said_created (CreatedRefused r) = refused r []
+abbrev pub said_created : Result Layer Refusal → Said (List Layer)
+said_created (Ok t) = accepted (t ∷ [])
+said_created (Err r) = refused r []
 
 -- what a question tells, and the layer that a refusal gives back
 pub record Told (X : Type 0) : Type 0 where
@@ -33,11 +30,11 @@ tells x = accepted (record { told = x; given = [] })
 abbrev pub tells_not : {X : Type 0} → Refusal → X → Layer → Said (Told X)
 tells_not r x s = refused r (record { told = x; given = s ∷ [] })
 
-abbrev pub said_counted : Counted → Said (Told ℕ)
-said_counted (Is n) = tells n
-said_counted (CountedRefused r s) = tells_not r 0 s
+abbrev pub said_counted : Result ℕ (Refused Layer) → Said (Told ℕ)
+said_counted (Ok n) = tells n
+said_counted (Err e) = tells_not e.refusal 0 e.kept
 
 -- the name's place, or none
-abbrev pub said_named : Named → Said (Told (List Text))
-said_named (Stands t) = tells (t ∷ [])
-said_named (NamedRefused r s) = tells_not r [] s
+abbrev pub said_named : Result Text (Refused Layer) → Said (Told (List Text))
+said_named (Ok t) = tells (t ∷ [])
+said_named (Err e) = tells_not e.refusal [] e.kept

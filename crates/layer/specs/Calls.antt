@@ -6,8 +6,7 @@ use Rattle.promise.specs.Laid.{lay}
 use Rattle.refusal.specs.Said.{Said, accepted, refused}
 use Rattle.refusal.specs.declared.Refusal.TheVariants.{Kind, State, Room, Text as TextRefusal, Utf8, Turn, Again}
 use Rattle.utf8.specs.Utf8.{is_utf8}
-use Rattle.table.specs.declared.Found.{Found}
-use Rattle.table.specs.declared.Found.TheVariants.{At, Nothing}
+use Rattle.std.specs.Prelude.{Option, Some, None}
 use Rattle.table.specs.declared.Value.{Value}
 use Rattle.table.specs.Texts.{short_text, same_text}
 use Rattle.table.specs.Keys.{find_key}
@@ -17,24 +16,22 @@ use Rattle.words.specs.Geometries.{is_kind, max_words}
 use Rattle.table.specs.declared.Text.{Text}
 use Rattle.records.specs.Records.{head_words, mark_at, tags_at, records_in}
 use Rattle.layer.specs.declared.Figures.{Figures}
-use Rattle.layer.specs.declared.Open.{Open}
-use Rattle.layer.specs.declared.Open.TheVariants.{Shut, Since}
 use Rattle.layer.specs.declared.Layer.{Layer}
 use Rattle.layer.specs.Held.{Memory, Seen, Change, holds, check, when_open, fits, held_by, smaller, max_texts}
 use Rattle.layer.specs.Answers.{Told, tells, tells_not}
 use Rattle.layer.specs.State.{valid}
 
 -- ---- opening a feature: KIND, STATE, TURN, ROOM
-abbrev pub is_shut : Open → Bool
-is_shut Shut = true
-is_shut (Since o) = false
+abbrev pub is_shut : Option Figures → Bool
+is_shut None = true
+is_shut (Some o) = false
 
 -- the figures with so many feature words more
 abbrev pub more_words : Figures → ℕ → Figures
 more_words u n = record { keys = u.keys; values = u.values; texts = u.texts; features = u.features + n }
 
 -- the layer with these figures, and a feature open or not
-abbrev pub with_used : Layer → Figures → Open → Layer
+abbrev pub with_used : Layer → Figures → Option Figures → Layer
 with_used s u f = record { extent = s.extent; strict = s.strict; name = s.name; used = u; feature = f }
 
 abbrev pub with_features : Memory → List ℕ → Memory
@@ -53,7 +50,7 @@ opened kind words v =
     check (leb (length words) max_words) Room
     (check (fits (more_words v.layer.used (head_words + length words)) v.room) Room
     (holds
-    (with_used v.layer (more_words v.layer.used (head_words + length words)) (Since v.layer.used))
+    (with_used v.layer (more_words v.layer.used (head_words + length words)) (Some v.layer.used))
     (with_features v.held (v.held.features ++ new_record kind words))))
 
 abbrev pub into_feature : ℕ → List ℕ → Seen → Change
@@ -71,12 +68,12 @@ set_id low high v = check (valid v) State (when_open v.layer.feature (λ o. mark
 abbrev pub into_layer : Seen → Change
 into_layer v =
     check (valid v) State
-    (when_open v.layer.feature (λ o. holds (with_used v.layer v.layer.used Shut) v.held))
+    (when_open v.layer.feature (λ o. holds (with_used v.layer v.layer.used None) v.held))
 
 abbrev pub abandoned : Seen → Change
 abandoned v =
     check (valid v) State
-    (when_open v.layer.feature (λ o. holds (with_used v.layer o Shut) (held_by o v.held)))
+    (when_open v.layer.feature (λ o. holds (with_used v.layer o None) (held_by o v.held)))
 
 -- ---- a tag: STATE, TEXT, UTF8, TURN, AGAIN, ROOM
 -- a key, and a value with its text, which is empty but for a text
@@ -90,14 +87,14 @@ abbrev pub is_value : Value → Bool
 is_value v = cond (eqb v.kind text_kind) true (value_ok 0 v.kind v.low v.high)
 
 -- how much is put, of n
-abbrev pub more_of : Found → ℕ → ℕ
-more_of (At j) n = 0
-more_of Nothing n = n
+abbrev pub more_of : Option ℕ → ℕ → ℕ
+more_of (Some j) n = 0
+more_of None n = n
 
 -- the run that is put
-abbrev pub put_of : Found → List ℕ → List ℕ
-put_of (At j) run = []
-put_of Nothing run = run
+abbrev pub put_of : Option ℕ → List ℕ → List ℕ
+put_of (Some j) run = []
+put_of None run = run
 
 -- the words of a key whose text starts at start, and of a value
 abbrev pub key_words : ℕ → List ℕ → List ℕ
@@ -113,7 +110,7 @@ abbrev pub value_words : ℕ → Value → List ℕ → List ℕ
 value_words start v text = words_of (stored_as start v (length text))
 
 -- the figures after a tag, reckoned without a limit on room
-abbrev pub grown_by : Figures → Found → Found → ℕ → ℕ → Figures
+abbrev pub grown_by : Figures → Option ℕ → Option ℕ → ℕ → ℕ → Figures
 grown_by u kf vf key text =
     record {
       keys = u.keys + more_of kf 1;
@@ -127,7 +124,7 @@ abbrev pub with_tag : ℕ → ℕ → ℕ → List ℕ → List ℕ
 with_tag at k v ws = set (ws ++ (k ∷ v ∷ [])) (at + tags_at) (get_or ws (at + tags_at) 0 + 2)
 
 -- what is held after a tag: new entries go last, key before value, and so do their texts
-abbrev pub held_with : Figures → Figures → Memory → Tag → Found → Found → Memory
+abbrev pub held_with : Figures → Figures → Memory → Tag → Option ℕ → Option ℕ → Memory
 held_with u o h t kf vf =
     record {
       keys = h.keys ++ put_of kf (key_words u.texts t.key);
@@ -137,7 +134,7 @@ held_with u o h t kf vf =
     }
 
 -- what is seen after a tag of the feature opened at o, whatever the room; kf and vf are what was found
-abbrev pub tag_put_by : Figures → Tag → Seen → Found → Found → Seen
+abbrev pub tag_put_by : Figures → Tag → Seen → Option ℕ → Option ℕ → Seen
 tag_put_by o t v kf vf =
     record {
       layer = with_used v.layer (grown_by v.layer.used kf vf (length t.key) (length t.text)) v.layer.feature;
@@ -145,10 +142,10 @@ tag_put_by o t v kf vf =
       room = v.room;
     }
 
-abbrev pub key_found : Tag → Seen → Found
+abbrev pub key_found : Tag → Seen → Option ℕ
 key_found t v = find_key 0 v.held.keys v.held.texts t.key
 
-abbrev pub value_found : Tag → Seen → Found
+abbrev pub value_found : Tag → Seen → Option ℕ
 value_found t v = find_value 0 v.held.values v.held.texts t.value t.text
 
 abbrev pub tag_put : Figures → Tag → Seen → Seen
@@ -158,7 +155,7 @@ tag_put o t v = tag_put_by o t v (key_found t v) (value_found t v)
 abbrev pub if_room : Seen → Change
 if_room w = check (fits w.layer.used w.room) Room (holds w.layer w.held)
 
-abbrev pub tagged_by : Tag → Seen → Figures → Found → Found → Change
+abbrev pub tagged_by : Tag → Seen → Figures → Option ℕ → Option ℕ → Change
 tagged_by t v o kf vf = if_room (tag_put_by o t v kf vf)
 
 abbrev pub tagged : Tag → Seen → Figures → Change
@@ -209,7 +206,7 @@ tag_bits kind key bits = record { key = key; value = value_of kind bits; text = 
 
 -- ---- creating a layer: TEXT, UTF8, ROOM. The name is the first text
 abbrev pub new_layer : List ℕ → ℕ → Layer
-new_layer name extent = record { extent = extent; strict = false; name = length name; used = record { keys = 0; values = 0; texts = length name; features = 0 }; feature = Shut }
+new_layer name extent = record { extent = extent; strict = false; name = length name; used = record { keys = 0; values = 0; texts = length name; features = 0 }; feature = None }
 
 abbrev pub created : List ℕ → ℕ → List ℕ → Written (Said (List Layer)) (List ℕ)
 created name extent ts =
@@ -233,9 +230,9 @@ created_strict name extent ts = record { answer = strictly (created name extent 
 
 -- ---- asking: STATE, and of an open feature TURN
 -- how many features are complete: the records before the open one
-abbrev pub complete : Open → Figures → ℕ
-complete Shut used = used.features
-complete (Since o) used = o.features
+abbrev pub complete : Option Figures → Figures → ℕ
+complete None used = used.features
+complete (Some o) used = o.features
 
 abbrev pub num_features : Seen → Said (Told ℕ)
 num_features v =
@@ -244,9 +241,9 @@ num_features v =
     (tells_not State 0 v.layer)
 
 -- how many tag words the open feature has, two a tag
-abbrev pub tags_in : Open → Seen → Said (Told ℕ)
-tags_in Shut v = tells_not Turn 0 v.layer
-tags_in (Since o) v = tells (get_or v.held.features (o.features + tags_at) 0)
+abbrev pub tags_in : Option Figures → Seen → Said (Told ℕ)
+tags_in None v = tells_not Turn 0 v.layer
+tags_in (Some o) v = tells (get_or v.held.features (o.features + tags_at) 0)
 
 abbrev pub num_tags : Seen → Said (Told ℕ)
 num_tags v = cond (valid v) (tags_in v.layer.feature v) (tells_not State 0 v.layer)

@@ -1,15 +1,14 @@
 -- Document 01, "Tags and rollback": what a layer holds, and what a call makes of it. A call sees the layer's own record, the used part of each list and
 -- the room of each, and nothing else; it refuses, or gives the record and the used parts after it. The lent memory after it is those
 -- parts, and beyond them what stood there.
-use Rattle.std.specs.Prelude.{ℕ, ◌*◌, ◌/◌, Bool, true, false, cond, ◌&&◌, List, ◌++◌, length, take, drop, leb}
+use Rattle.std.specs.Prelude.{ℕ, ◌*◌, ◌/◌, Bool, true, false, ◌&&◌, List, ◌++◌, length, take, drop, leb}
 use Rattle.promise.specs.Answers.{Written, kept}
 use Rattle.refusal.specs.declared.Refusal.{Refusal}
 use Rattle.refusal.specs.declared.Refusal.TheVariants.{Turn}
 use Rattle.refusal.specs.Said.{Said, accepted, refused}
 pub use Rattle.number.specs.Least.{smaller}
 use Rattle.layer.specs.declared.Figures.{Figures}
-use Rattle.layer.specs.declared.Open.{Open}
-use Rattle.layer.specs.declared.Open.TheVariants.{Shut, Since}
+use Rattle.std.specs.Prelude.{Option, Some, None}
 use Rattle.layer.specs.declared.Layer.{Layer}
 
 -- the four lent lists, or the used part of each
@@ -84,9 +83,9 @@ check true r c = c
 check false r c = refuses r
 
 -- TURN, where no feature is open; else what follows, by the figures at opening
-abbrev pub when_open : Open → (Figures → Change) → Change
-when_open Shut go = refuses Turn
-when_open (Since o) go = go o
+abbrev pub when_open : Option Figures → (Figures → Change) → Change
+when_open None go = refuses Turn
+when_open (Some o) go = go o
 
 -- the parts at the front of the lists, and beyond them what stood there
 abbrev pub front : List ℕ → List ℕ → List ℕ

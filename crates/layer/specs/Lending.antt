@@ -3,13 +3,13 @@ use Rattle.std.specs.Prelude.{◌≡◌, Bool, cond, List, length, ℕ}
 use Rattle.promise.specs.Answers.{Written, Gives}
 use Rattle.promise.specs.Lent.{Lent}
 use Rattle.refusal.specs.Said.{Said}
-use Rattle.table.specs.declared.Found.{Found}
+use Rattle.std.specs.Prelude.{Option}
+use Rattle.layer.specs.Answers.{Changed}
+use Rattle.layer.specs.Many.{Added}
 use Rattle.table.specs.declared.Value.{Value}
 use Rattle.index.specs.Chains.{serves}
 use Rattle.layer.specs.declared.Figures.{Figures}
 use Rattle.layer.specs.declared.Layer.{Layer}
-use Rattle.layer.specs.declared.Changed.{Changed}
-use Rattle.layer.specs.declared.many.Added.{Added}
 use Rattle.layer.specs.Held.{Memory, mem, Seen, seen, Change, written}
 use Rattle.layer.specs.Answers.{said_changed}
 use Rattle.layer.specs.Calls.{Tag}
@@ -45,7 +45,7 @@ abbrev pub lent : List ℕ → Value → List ℕ → Tag
 lent key v text = record { key = key; value = v; text = text }
 
 -- an entry and its text are laid where they were not found, and nothing else
-abbrev pub Lays : Found → List ℕ → List ℕ → ℕ → ℕ → Lent → Lent → Type 0
+abbrev pub Lays : Option ℕ → List ℕ → List ℕ → ℕ → ℕ → Lent → Lent → Type 0
 Lays f words text at start entries texts =
     Puts f words text at start entries.entry.now texts.entry.now entries.exit.now texts.exit.now
 

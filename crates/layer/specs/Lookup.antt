@@ -1,8 +1,7 @@
 -- The two indexes that are lent beside a layer's lists, one of its keys and one of its values, so that a tag need not be looked up by a scan. One that does not
 -- serve, since it has no slots or fewer than its table has room for, is not used: its table is looked up by scan, and it stays as it is.
 use Rattle.std.specs.Prelude.{ℕ, ◌≡◌, false, cond, List, length}
-use Rattle.table.specs.declared.Found.{Found}
-use Rattle.table.specs.declared.Found.TheVariants.{At, Nothing}
+use Rattle.std.specs.Prelude.{Option, Some, None}
 use Rattle.table.specs.declared.Value.{Value}
 use Rattle.table.specs.Keys.{find_key}
 use Rattle.table.specs.Values.{find_value}
@@ -29,18 +28,18 @@ abbrev pub indexed : Seen → Index → Index
 indexed v x = record { keys = key_index v x.keys; values = value_index v x.values }
 
 -- ---- looking up, in a table with room for so many entries; h is the number of what is looked up
-abbrev pub key_by : List ℕ → ℕ → List ℕ → List ℕ → List ℕ → ℕ → Found
+abbrev pub key_by : List ℕ → ℕ → List ℕ → List ℕ → List ℕ → ℕ → Option ℕ
 key_by l room ks ts key h = cond (serves (length l) room) (walked_key l ks ts key h) (find_key 0 ks ts key)
 
-abbrev pub value_by : List ℕ → ℕ → List ℕ → List ℕ → Value → List ℕ → ℕ → Found
+abbrev pub value_by : List ℕ → ℕ → List ℕ → List ℕ → Value → List ℕ → ℕ → Option ℕ
 value_by l room vs ts v text h = cond (serves (length l) room) (walked_value l vs ts v text h) (find_value 0 vs ts v text)
 
 -- ---- an index after a tag: an entry that was not found is entry n, and is pushed
-abbrev pub pushed_new : Found → List ℕ → ℕ → ℕ → List ℕ
-pushed_new (At j) l n h = l
-pushed_new Nothing l n h = pushed l n h
+abbrev pub pushed_new : Option ℕ → List ℕ → ℕ → ℕ → List ℕ
+pushed_new (Some j) l n h = l
+pushed_new None l n h = pushed l n h
 
-abbrev pub noted : List ℕ → ℕ → Found → ℕ → ℕ → List ℕ
+abbrev pub noted : List ℕ → ℕ → Option ℕ → ℕ → ℕ → List ℕ
 noted l room f n h = cond (serves (length l) room) (pushed_new f l n h) l
 
 -- the indexes that serve are those of what the layer holds

@@ -10,8 +10,8 @@ use Rattle.layer.specs.declared.Layer.{Layer}
 use Rattle.layer.specs.Held.{Memory, seen, Change, refuses, holds, onto}
 use Rattle.layer.specs.State.{valid}
 use Rattle.layer.specs.declared.whole_feature.Head.{Head}
-use Rattle.layer.specs.declared.many.Added.{Added}
-use Rattle.layer.specs.declared.many.Added.TheVariants.{Done, Refused}
+use Rattle.std.specs.Prelude.{Result, Ok, Err}
+use Rattle.refusal.specs.declared.Refused.{Refused}
 use Rattle.layer.specs.Whole.{add_feature}
 use Rattle.layer.specs.Lookup.{Index, indexed}
 
@@ -20,9 +20,15 @@ pub record Many : Type 0 where
   pub layer : Layer
   pub count : ℕ
 
+abbrev pub Added : Type 0
+Added = Result (Layer × ℕ) (Refused (Layer × ℕ))
+
+abbrev pub many_of : Layer × ℕ → Many
+many_of (s, n) = record { layer = s; count = n }
+
 abbrev pub said_added : Added → Said Many
-said_added (Done s n) = accepted (record { layer = s; count = n })
-said_added (Refused r s n) = refused r (record { layer = s; count = n })
+said_added (Ok p) = accepted (many_of p)
+said_added (Err e) = refused e.refusal (many_of e.kept)
 
 -- the head of its first four words
 abbrev pub head_of : ℕ → ℕ → ℕ → ℕ → Head

@@ -1,7 +1,6 @@
 -- What the private steps ask for and give that reckon whether a feature has room before anything is written. No promise of a public function rests on this.
 use Rattle.std.specs.Prelude.{ℕ, ◌+◌, ◌-◌, ◌*◌, ◌/◌, ◌≤◌, ◌≡◌, Bool, true, false, cond, ◌&&◌, List, [], ◌∷◌, ◌++◌, length, get_or, take, leb}
-use Rattle.table.specs.declared.Found.{Found}
-use Rattle.table.specs.declared.Found.TheVariants.{At, Nothing}
+use Rattle.std.specs.Prelude.{Option, Some, None}
 use Rattle.table.specs.declared.Text.{Text}
 use Rattle.table.specs.declared.Value.{Value}
 use Rattle.table.specs.Texts.{text_of, max_bytes}
@@ -26,22 +25,22 @@ value_among bytes (start ∷ len ∷ kind ∷ low ∷ []) v text = false
 value_among bytes (start ∷ len ∷ kind ∷ low ∷ high ∷ ws) v text = cond (same_value bytes kind low high v text) true (value_among bytes ws v text)
 
 -- what was found; else anything, where an earlier tag gives it
-abbrev pub if_given : Bool → Found
-if_given given = cond given (At 0) Nothing
+abbrev pub if_given : Bool → Option ℕ
+if_given given = cond given (Some 0) None
 
-abbrev pub or_given : Found → Bool → Found
-or_given (At j) given = At j
-or_given Nothing given = if_given given
+abbrev pub or_given : Option ℕ → Bool → Option ℕ
+or_given (Some j) given = Some j
+or_given None given = if_given given
 
 -- the text at a place
 abbrev pub placed_text : List ℕ → Text → List ℕ
 placed_text bytes at = text_of bytes at.start at.len
 
 -- a key, and a value with its text, each at its place
-abbrev pub key_known : List ℕ → List ℕ → List ℕ → List ℕ → Text → Found
+abbrev pub key_known : List ℕ → List ℕ → List ℕ → List ℕ → Text → Option ℕ
 key_known ks ts bytes earlier at = or_given (find_key 0 ks ts (placed_text bytes at)) (key_given bytes earlier (placed_text bytes at))
 
-abbrev pub value_known : List ℕ → List ℕ → List ℕ → List ℕ → Value → Text → Found
+abbrev pub value_known : List ℕ → List ℕ → List ℕ → List ℕ → Value → Text → Option ℕ
 value_known vs ts bytes earlier v at = or_given (find_value 0 vs ts v (placed_text bytes at)) (value_among bytes earlier v (placed_text bytes at))
 
 -- ---- the figures, tag by tag
@@ -60,7 +59,7 @@ need_of ks vs ts bytes earlier start len kind low high w =
 
 -- every key and every value is put
 abbrev pub most_of : Step
-most_of earlier start len kind low high w = grown_by w Nothing Nothing len (text_place kind low high).len
+most_of earlier start len kind low high w = grown_by w None None len (text_place kind low high).len
 
 -- so many tags fit, whatever they are: a new key and a new value each, of the longest texts
 abbrev pub ample : Figures → ℕ → Figures → Bool

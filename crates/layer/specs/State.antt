@@ -4,15 +4,14 @@ use Rattle.table.specs.Keys.{keys_in}
 use Rattle.table.specs.Values.{values_in}
 use Rattle.records.specs.Records.{follow, one_record}
 use Rattle.layer.specs.declared.Figures.{Figures}
-use Rattle.layer.specs.declared.Open.{Open}
-use Rattle.layer.specs.declared.Open.TheVariants.{Shut, Since}
+use Rattle.std.specs.Prelude.{Option, Some, None}
 use Rattle.layer.specs.Held.{Seen, fits}
 
 -- records follow each other exactly to the used end; with a feature open no opening figure exceeds the present one, and the last record starts
 -- at the opening figure
-abbrev pub records_ok : Open → Figures → List ℕ → Bool
-records_ok Shut used ws = follow ws
-records_ok (Since o) used ws = fits o used && (follow (take o.features ws) && one_record ws o.features)
+abbrev pub records_ok : Option Figures → Figures → List ℕ → Bool
+records_ok None used ws = follow ws
+records_ok (Some o) used ws = fits o used && (follow (take o.features ws) && one_record ws o.features)
 
 -- no used figure exceeds its list or cap; no text runs past the used text, the name's, a key's or a value's; each value is one of the seven kinds and
 -- its content one of that kind's; and the records are as above

@@ -1,7 +1,7 @@
 -- What the private steps of a tag ask for and leave behind. No promise of a public function rests on more than layer's specs/Calls.antt.
 use Rattle.std.specs.Prelude.{ℕ, ◌+◌, ◌*◌, ◌≤◌, ◌≡◌, true, List, [], ◌∷◌, ◌++◌, length, get_or, set}
 use Rattle.promise.specs.Laid.{lay}
-use Rattle.table.specs.declared.Found.{Found}
+use Rattle.std.specs.Prelude.{Option}
 use Rattle.table.specs.Texts.{max_bytes}
 use Rattle.records.specs.Records.{head_words, tags_at}
 use Rattle.layer.specs.declared.Figures.{Figures}
@@ -9,7 +9,7 @@ use Rattle.layer.specs.declared.Layer.{Layer}
 use Rattle.layer.specs.Held.{Memory, fits, room_of, max_keys, max_values, max_texts, max_feature_words}
 use Rattle.layer.specs.Calls.{Tag, index_of, more_of, put_of, key_words, value_words}
 
-pub record Grows (f : Found) (n r : ℕ) : Type 0 where
+pub record Grows (f : Option ℕ) (n r : ℕ) : Type 0 where
   pub same : r ≡ more_of f n
   pub small : r ≤ n
 
@@ -27,13 +27,13 @@ pub record Small (u : Figures) (key text : ℕ) : Type 0 where
   pub small_text : text ≤ max_bytes
 
 -- an entry of so many words and a text of len bytes have room where they are put
-pub record EntryRoom (f : Found) (words len at start entries texts : ℕ) : Type 0 where
+pub record EntryRoom (f : Option ℕ) (words len at start entries texts : ℕ) : Type 0 where
   pub in_entries : at + more_of f words ≤ entries
   pub in_texts : start + more_of f len ≤ texts
   pub small_start : start ≤ max_texts
   pub small_len : len ≤ max_bytes
 
-pub record Puts (f : Found) (words text : List ℕ) (at start : ℕ) (es ts es₂ ts₂ : List ℕ) : Type 0 where
+pub record Puts (f : Option ℕ) (words text : List ℕ) (at start : ℕ) (es ts es₂ ts₂ : List ℕ) : Type 0 where
   pub entries : es₂ ≡ lay at (put_of f words) es
   pub texts : ts₂ ≡ lay start (put_of f text) ts
 
@@ -45,7 +45,7 @@ pub record PairRoom (at end k v : ℕ) (fs : List ℕ) : Type 0 where
   pub small_key : k ≤ max_keys
   pub small_value : v ≤ max_values
 
-pub record TagRoom (u o : Figures) (kf vf : Found) (key text : ℕ) (m : Memory) : Type 0 where
+pub record TagRoom (u o : Figures) (kf vf : Option ℕ) (key text : ℕ) (m : Memory) : Type 0 where
   pub in_keys : u.keys * 2 + more_of kf 2 ≤ length m.keys
   pub in_values : u.values * 3 + more_of vf 3 ≤ length m.values
   pub in_texts : u.texts + more_of kf key + more_of vf text ≤ length m.texts
@@ -58,7 +58,7 @@ abbrev pub pair_laid : ℕ → ℕ → ℕ → ℕ → List ℕ → List ℕ
 pair_laid at end k v fs = set (lay end (k ∷ v ∷ []) fs) (at + tags_at) (get_or fs (at + tags_at) 0 + 2)
 
 -- the four lists after a tag
-abbrev pub laid_tag : Figures → Figures → Found → Found → Tag → Memory → Memory
+abbrev pub laid_tag : Figures → Figures → Option ℕ → Option ℕ → Tag → Memory → Memory
 laid_tag u o kf vf t m =
     record {
       keys = lay (u.keys * 2) (put_of kf (key_words u.texts t.key)) m.keys;

@@ -5,7 +5,7 @@ use Rattle.refusal.specs.declared.Refusal.TheVariants.{Job, Kind, State, Room, T
 use Rattle.words.specs.Geometries.{is_kind, max_words}
 use Rattle.records.specs.Records.{head_words}
 use Rattle.layer.specs.declared.Figures.{Figures}
-use Rattle.layer.specs.declared.Open.TheVariants.{Shut, Since}
+use Rattle.std.specs.Prelude.{Some, None}
 use Rattle.layer.specs.declared.whole_feature.Head.{Head}
 use Rattle.layer.specs.Held.{Seen, Change, check}
 use Rattle.layer.specs.State.{valid}
@@ -23,7 +23,7 @@ id_of f = cond f.has_id f.id 0
 abbrev pub feature_opened : Head → List ℕ → Seen → Seen
 feature_opened f words v =
     record {
-      layer = with_used v.layer (more_words v.layer.used (head_words + length words)) (Since v.layer.used);
+      layer = with_used v.layer (more_words v.layer.used (head_words + length words)) (Some v.layer.used);
       held = with_features v.held (v.held.features ++ record_with f.kind (mark_of f) (id_of f) words);
       room = v.room;
     }
@@ -34,7 +34,7 @@ tags_put o [] v = v
 tags_put o (t ∷ ts) v = tags_put o ts (tag_put o t v)
 
 abbrev pub feature_shut : Seen → Seen
-feature_shut v = record { layer = with_used v.layer v.layer.used Shut; held = v.held; room = v.room }
+feature_shut v = record { layer = with_used v.layer v.layer.used None; held = v.held; room = v.room }
 
 abbrev pub feature_put : Head → List ℕ → List Tag → Seen → Seen
 feature_put f words ts v = feature_shut (tags_put v.layer.used ts (feature_opened f words v))

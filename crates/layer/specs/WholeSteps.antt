@@ -7,14 +7,9 @@ use Rattle.words.specs.Geometries.{is_kind, max_words}
 use Rattle.index.specs.Chains.{serves}
 use Rattle.index.specs.Entries.{built_keys, built_values}
 use Rattle.layer.specs.declared.Figures.{Figures}
-use Rattle.layer.specs.declared.Open.{Open}
-use Rattle.layer.specs.declared.Open.TheVariants.{Shut, Since}
-use Rattle.layer.specs.declared.Changed.{Changed}
-use Rattle.layer.specs.declared.Changed.TheVariants.{Done, Refused}
-use Rattle.layer.specs.declared.many.Added.{Added}
-use Rattle.layer.specs.declared.many.Added.TheVariants.{Done as AllDone, Refused as AllRefused}
-use Rattle.layer.specs.declared.whole_feature.Asked.{Asked}
-use Rattle.layer.specs.declared.whole_feature.Asked.TheVariants.{Fine, Barred}
+use Rattle.std.specs.Prelude.{Option, Some, None, Result, Ok, Err}
+use Rattle.layer.specs.Answers.{Changed}
+use Rattle.layer.specs.Many.{Added}
 use Rattle.layer.specs.declared.tag_list.Place.{Place}
 use Rattle.layer.specs.declared.whole_feature.Head.{Head}
 use Rattle.layer.specs.declared.Layer.{Layer}
@@ -54,19 +49,19 @@ pub record Decides (r : Bool) (n : ℕ) (ts : List Tag) (v : Seen) : Type 0 wher
   pub decides : (f : Head) (words : List ℕ) → length words ≡ n → r ≡ fits (feature_put f words ts v).layer.used v.room
 
 -- ---- the checks before ROOM, as the one answer of `first_refusal`
-abbrev pub asked : Bool → Bool → Bool → Bool → Bool → Bool → Bool → Bool → Asked
+abbrev pub asked : Bool → Bool → Bool → Bool → Bool → Bool → Bool → Bool → Result (Unit {0}) Refusal
 asked list kind stands short utf8 shut once few =
     cond list
     (cond kind
     (cond stands
     (cond short
-    (cond utf8 (cond shut (cond once (cond few Fine (Barred Room)) (Barred Again)) (Barred Turn)) (Barred Utf8))
-    (Barred TextRefusal))
-    (Barred State))
-    (Barred Kind))
-    (Barred Job)
+    (cond utf8 (cond shut (cond once (cond few (Ok tt) (Err Room)) (Err Again)) (Err Turn)) (Err Utf8))
+    (Err TextRefusal))
+    (Err State))
+    (Err Kind))
+    (Err Job)
 
-abbrev pub asks : Open → Bool → Bool → ℕ → ℕ → List ℕ → List ℕ → Asked
+abbrev pub asks : Option Figures → Bool → Bool → ℕ → ℕ → List ℕ → List ℕ → Result (Unit {0}) Refusal
 asks f strict stands kind words ws bytes =
     asked (tags_ok (length bytes) ws) (is_kind kind) stands (tags_short ws) (tags_utf8 (tags_of bytes ws)) (is_shut f) (takes_keys strict bytes ws) (leb words max_words)
 
@@ -88,7 +83,7 @@ pub record Long (m n : Memory) : Type 0 where
 -- a tag may be put: the layer breaks no rule of STATE, its feature was opened at o, and the figures after the tag fit
 pub record MayTag (s : Layer) (o : Figures) (t : Tag) (m : Memory) (x : Index) : Type 0 where
   pub stands : valid (seen s m) ≡ true
-  pub since : s.feature ≡ Since o
+  pub since : s.feature ≡ Some o
   pub room : fits (tag_put o t (seen s m)).layer.used (seen s m).room ≡ true
   pub small_key : length t.key ≤ max_bytes
   pub small_text : length t.text ≤ max_bytes
@@ -97,7 +92,7 @@ pub record MayTag (s : Layer) (o : Figures) (t : Tag) (m : Memory) (x : Index) :
 -- so may the tags of a list
 pub record MayFill (s : Layer) (o : Figures) (ws bytes : List ℕ) (m : Memory) (x : Index) : Type 0 where
   pub stands : valid (seen s m) ≡ true
-  pub since : s.feature ≡ Since o
+  pub since : s.feature ≡ Some o
   pub list : tags_ok (length bytes) ws ≡ true
   pub short : tags_short ws ≡ true
   pub room : fits (tags_put o (tags_of bytes ws) (seen s m)).layer.used (seen s m).room ≡ true
@@ -110,7 +105,7 @@ pub record Welcome (s : Layer) (kind : ℕ) (words ws bytes : List ℕ) (m : Mem
   pub stands : valid (seen s m) ≡ true
   pub short : tags_short ws ≡ true
   pub utf8 : tags_utf8 (tags_of bytes ws) ≡ true
-  pub shut : s.feature ≡ Shut
+  pub shut : s.feature ≡ None
   pub once : takes_keys s.strict bytes ws ≡ true
   pub few : length words ≤ max_words
 
@@ -166,9 +161,9 @@ pub record NotAccepted (c : Change) (q : Refusal) (s u : Layer) (m n : Memory) (
   pub index : y ≡ x
 
 abbrev pub LeavesFeature : Change → Layer → Changed → Memory → Memory → Index → Index → Type 0
-LeavesFeature c s (Done t) m n x y = Accepted c s t m n x y
-LeavesFeature c s (Refused q u) m n x y = NotAccepted c q s u m n x y
+LeavesFeature c s (Ok t) m n x y = Accepted c s t m n x y
+LeavesFeature c s (Err e) m n x y = NotAccepted c e.refusal s e.kept m n x y
 
 -- behind the last head
 abbrev pub all_read : Bool → Layer → ℕ → Added
-all_read stands s n = cond stands (AllDone s n) (AllRefused State s n)
+all_read stands s n = cond stands (Ok (s, n)) (Err (record { refusal = State; kept = (s, n) }))

@@ -5,17 +5,17 @@ ghost use Rattle.layer.specs.Calls.{complete, num_features, num_tags, name_of};
 ghost use Rattle.layer.specs.Lending.{sees};
 
 use crate::state::is_valid;
-use crate::{Counted, Figures, Layer, Named, Open};
+use crate::{Figures, Layer};
 use records::Record;
-use refusal::Refusal;
-use table::{Text, index_of};
+use refusal::{Refusal, Refused};
+use table::Text;
 
-fn completed(f: Open, u: Figures) -> usize
+fn completed(f: Option<Figures>, u: Figures) -> usize
     ensures { result ≡ complete f u }
 {
     match f {
-        Open::Shut => u.features,
-        Open::Since(o) => o.features,
+        None => u.features,
+        Some(o) => o.features,
     }
 }
 
@@ -26,41 +26,62 @@ pub fn num_features(
     values: &[u32],
     texts: &[u8],
     features: &[u32],
-) -> Counted
+) -> Result<usize, Refused<Layer>>
     ensures { said_counted result ≡ num_features (sees s keys values texts features) }
 {
     if !is_valid(s, keys, values, texts, features) {
-        return Counted::Refused(Refusal::State, s);
+        return Err(Refused {
+            refusal: Refusal::State,
+            kept: s,
+        });
     }
-    let f = s.feature;
-    let u = s.used;
-    let n = completed(f, u);
-    Counted::Is(index_of(records::count(&features[..n]), 0))
+    let n = completed(s.feature, s.used);
+    Ok(records::count(&features[..n]).unwrap_or(0))
 }
 
 // How many tag words the open feature has, two a tag.
-pub fn num_tags(s: Layer, keys: &[u32], values: &[u32], texts: &[u8], features: &[u32]) -> Counted
+pub fn num_tags(
+    s: Layer,
+    keys: &[u32],
+    values: &[u32],
+    texts: &[u8],
+    features: &[u32],
+) -> Result<usize, Refused<Layer>>
     ensures { said_counted result ≡ num_tags (sees s keys values texts features) }
 {
     if !is_valid(s, keys, values, texts, features) {
-        return Counted::Refused(Refusal::State, s);
+        return Err(Refused {
+            refusal: Refusal::State,
+            kept: s,
+        });
     }
-    let f = s.feature;
-    let Open::Since(o) = f else {
-        return Counted::Refused(Refusal::Turn, s);
+    let Some(o) = s.feature else {
+        return Err(Refused {
+            refusal: Refusal::Turn,
+            kept: s,
+        });
     };
     let at = o.features + Record::TAGS;
-    Counted::Is(number::wide(features[at]))
+    Ok(number::wide(features[at]))
 }
 
 // Where the name stands among the texts.
-pub fn name(s: Layer, keys: &[u32], values: &[u32], texts: &[u8], features: &[u32]) -> Named
+pub fn name(
+    s: Layer,
+    keys: &[u32],
+    values: &[u32],
+    texts: &[u8],
+    features: &[u32],
+) -> Result<Text, Refused<Layer>>
     ensures { said_named result ≡ name_of (sees s keys values texts features) }
 {
     if !is_valid(s, keys, values, texts, features) {
-        return Named::Refused(Refusal::State, s);
+        return Err(Refused {
+            refusal: Refusal::State,
+            kept: s,
+        });
     }
-    Named::At(Text {
+    Ok(Text {
         start: 0,
         len: s.name,
     })

@@ -8,11 +8,11 @@ ghost use Rattle.layer.specs.Calls.{record_with, opened, into_feature, set_id, i
 ghost use Rattle.layer.specs.Lending.{Does};
 
 use crate::state::is_valid;
-use crate::{Changed, Figures, Layer, Open};
+use crate::{Changed, Figures, Layer};
 use number::{high, low};
 use records::Record;
-use refusal::Refusal;
-use runs::lay_words;
+use refusal::{Refusal, Refused};
+use runs::lay;
 use words::geometry::Geometry;
 
 // A record without tags at a place that has room for it.
@@ -29,8 +29,8 @@ pub(crate) fn lay_record(
     ensures { features.new ≡ lay at (record_with kind mark id words.now) features.old }
 {
     let head = [kind, mark, low(id), high(id), 0, words.len() as u32];
-    lay_words(&head, features, at);
-    lay_words(words, features, at + Record::HEAD);
+    lay(&head, features, at);
+    lay(words, features, at + Record::HEAD);
 }
 
 // A new record at the end of the features, if it has room.
@@ -48,25 +48,26 @@ fn put_record(
 {
     let n = words.len();
     if Geometry::MAX_WORDS < n {
-        return Changed::Refused(Refusal::Room, s);
+        return Err(Refused {
+            refusal: Refusal::Room,
+            kept: s,
+        });
     }
-    let used = s.used;
     let after = Figures {
-        keys: used.keys,
-        values: used.values,
-        texts: used.texts,
-        features: used.features + (Record::HEAD + n),
+        features: s.used.features + (Record::HEAD + n),
+        ..s.used
     };
     if !Layer::has_room_for(after, keys.len(), values.len(), texts.len(), features.len()) {
-        return Changed::Refused(Refusal::Room, s);
+        return Err(Refused {
+            refusal: Refusal::Room,
+            kept: s,
+        });
     }
-    lay_record(used.features, kind, 0, 0, words, features);
-    Changed::Done(Layer {
-        extent: s.extent,
-        strict: s.strict,
-        name: s.name,
+    lay_record(s.used.features, kind, 0, 0, words, features);
+    Ok(Layer {
         used: after,
-        feature: Open::Since(used),
+        feature: Some(s.used),
+        ..s
     })
 }
 
@@ -82,16 +83,24 @@ pub fn into_feature(
 ) -> Changed
     ensures { Does (into_feature kind words.now) s result keys values texts (mutable features) }
 {
-    let geometry = Geometry { kind: kind };
+    let geometry = Geometry { kind };
     if !geometry.is_good() {
-        return Changed::Refused(Refusal::Kind, s);
+        return Err(Refused {
+            refusal: Refusal::Kind,
+            kept: s,
+        });
     }
     if !is_valid(s, keys, values, texts, &features[..]) {
-        return Changed::Refused(Refusal::State, s);
+        return Err(Refused {
+            refusal: Refusal::State,
+            kept: s,
+        });
     }
-    let f = s.feature;
-    if !f.is_shut() {
-        return Changed::Refused(Refusal::Turn, s);
+    if !s.is_shut() {
+        return Err(Refused {
+            refusal: Refusal::Turn,
+            kept: s,
+        });
     }
     put_record(s, kind, words, keys, values, texts, features)
 }
@@ -108,15 +117,20 @@ pub fn set_id(
     ensures { Does (set_id (id % 4294967296) (id / 4294967296)) s result keys values texts (mutable features) }
 {
     if !is_valid(s, keys, values, texts, &features[..]) {
-        return Changed::Refused(Refusal::State, s);
+        return Err(Refused {
+            refusal: Refusal::State,
+            kept: s,
+        });
     }
-    let f = s.feature;
-    let Open::Since(o) = f else {
-        return Changed::Refused(Refusal::Turn, s);
+    let Some(o) = s.feature else {
+        return Err(Refused {
+            refusal: Refusal::Turn,
+            kept: s,
+        });
     };
     let words = [1, low(id), high(id)];
-    lay_words(&words, features, o.features + Record::MARK);
-    Changed::Done(s)
+    lay(&words, features, o.features + Record::MARK);
+    Ok(s)
 }
 
 // Completes the open feature.
@@ -124,20 +138,18 @@ pub fn into_layer(s: Layer, keys: &[u32], values: &[u32], texts: &[u8], features
     ensures { Does into_layer s result keys values texts features }
 {
     if !is_valid(s, keys, values, texts, features) {
-        return Changed::Refused(Refusal::State, s);
+        return Err(Refused {
+            refusal: Refusal::State,
+            kept: s,
+        });
     }
-    let f = s.feature;
-    let Open::Since(_) = f else {
-        return Changed::Refused(Refusal::Turn, s);
+    let Some(_) = s.feature else {
+        return Err(Refused {
+            refusal: Refusal::Turn,
+            kept: s,
+        });
     };
-    let used = s.used;
-    Changed::Done(Layer {
-        extent: s.extent,
-        strict: s.strict,
-        name: s.name,
-        used: used,
-        feature: Open::Shut,
-    })
+    Ok(Layer { feature: None, ..s })
 }
 
 // Abandons the open feature (in the Rust: `layer`). The figures go back to those at opening; the choice is no figure and stays.
@@ -145,18 +157,20 @@ pub fn abandon(s: Layer, keys: &[u32], values: &[u32], texts: &[u8], features: &
     ensures { Does abandoned s result keys values texts features }
 {
     if !is_valid(s, keys, values, texts, features) {
-        return Changed::Refused(Refusal::State, s);
+        return Err(Refused {
+            refusal: Refusal::State,
+            kept: s,
+        });
     }
-    let f = s.feature;
-    let Open::Since(o) = f else {
-        return Changed::Refused(Refusal::Turn, s);
+    let Some(o) = s.feature else {
+        return Err(Refused {
+            refusal: Refusal::Turn,
+            kept: s,
+        });
     };
-    let strict = s.strict;
-    Changed::Done(Layer {
-        extent: s.extent,
-        strict: strict,
-        name: s.name,
+    Ok(Layer {
         used: o,
-        feature: Open::Shut,
+        feature: None,
+        ..s
     })
 }

@@ -50,12 +50,5 @@ pub(crate) fn put_tag_at(
     put_tag(u, o, kf, vf, key, v, text, keys, values, texts, features);
     note(ki, room.keys, kf, u.keys, kh);
     note(vi, room.values, vf, u.values, vh);
-    let f = s.feature;
-    Layer {
-        extent: s.extent,
-        strict: s.strict,
-        name: s.name,
-        used: after,
-        feature: f,
-    }
+    Layer { used: after, ..s }
 }

@@ -27,7 +27,7 @@ ghost use Rattle.layer.specs.Answers.{said_created};
 ghost use Rattle.layer.specs.Calls.{is_shut, created, chosen, created_strict};
 
 use number::smaller;
-use refusal::Refusal;
+use refusal::{Refusal, Refused};
 use table::Text;
 
 // How much of each list is used: keys and values in entries, texts in bytes, features in words.
@@ -39,25 +39,6 @@ pub struct Figures {
     pub features: usize,
 }
 
-// Whether a feature is open, and since which figures.
-#[derive(Clone, Copy)]
-pub enum Open {
-    Shut,
-    Since(Figures),
-}
-
-impl Open {
-    // Whether none is open.
-    pub fn is_shut(self) -> bool
-        ensures { result ≡ is_shut self }
-    {
-        match self {
-            Open::Shut => true,
-            Open::Since(_) => false,
-        }
-    }
-}
-
 // The name is the first text, and so long. A strict layer takes no key twice in a feature.
 #[derive(Clone, Copy)]
 pub struct Layer {
@@ -65,36 +46,11 @@ pub struct Layer {
     pub strict: bool,
     pub name: usize,
     pub used: Figures,
-    pub feature: Open,
+    pub feature: Option<Figures>, // the figures at opening, where a feature is open
 }
 
 // What a call answers that changes a layer: the layer after it, or the refusal and the layer as it was given.
-#[derive(Clone, Copy)]
-pub enum Changed {
-    Done(Layer),
-    Refused(Refusal, Layer),
-}
-
-// What creating a layer answers.
-#[derive(Clone, Copy)]
-pub enum Created {
-    Done(Layer),
-    Refused(Refusal),
-}
-
-// What a call answers that asks for a number.
-#[derive(Clone, Copy)]
-pub enum Counted {
-    Is(usize),
-    Refused(Refusal, Layer),
-}
-
-// Where the name stands among the texts.
-#[derive(Clone, Copy)]
-pub enum Named {
-    At(Text),
-    Refused(Refusal, Layer),
-}
+pub type Changed = Result<Layer, Refused<Layer>>;
 
 impl Layer {
     pub const MAX_KEYS: usize = 65536;
@@ -144,58 +100,57 @@ impl Layer {
     }
 
     // A layer without features. Its name becomes the first text.
-    pub fn new(name: &[u8], extent: u32, texts: &mut [u8]) -> Created
+    pub fn new(name: &[u8], extent: u32, texts: &mut [u8]) -> Result<Layer, Refusal>
         ensures { Gives (created name.now extent texts.old) (said_created result) texts.new }
     {
         let len = name.len();
         if !Text::may_have(len) {
-            return Created::Refused(Refusal::Text);
+            return Err(Refusal::Text);
         }
         if !utf8::is_utf8(name) {
-            return Created::Refused(Refusal::Utf8);
+            return Err(Refusal::Utf8);
         }
         if smaller(texts.len(), Layer::MAX_TEXTS) < len {
-            return Created::Refused(Refusal::Room);
+            return Err(Refusal::Room);
         }
-        runs::lay_bytes(name, texts, 0);
+        runs::lay(name, texts, 0);
         let used = Figures {
             keys: 0,
             values: 0,
             texts: len,
             features: 0,
         };
-        Created::Done(Layer {
-            extent: extent,
+        Ok(Layer {
+            extent,
             strict: false,
             name: len,
-            used: used,
-            feature: Open::Shut,
+            used,
+            feature: None,
         })
+    }
+
+    // Whether no feature is open.
+    pub fn is_shut(self) -> bool
+        ensures { result ≡ is_shut self.feature }
+    {
+        self.feature.is_none()
     }
 
     // The same layer, strict.
     fn made_strict(self) -> Layer
         ensures { result ≡ chosen true self }
     {
-        let used = self.used;
-        let feature = self.feature;
         Layer {
-            extent: self.extent,
             strict: true,
-            name: self.name,
-            used: used,
-            feature: feature,
+            ..self
         }
     }
 
     // A strict layer without features, otherwise as `new` makes it.
-    pub fn new_strict(name: &[u8], extent: u32, texts: &mut [u8]) -> Created
+    pub fn new_strict(name: &[u8], extent: u32, texts: &mut [u8]) -> Result<Layer, Refusal>
         ensures { Gives (created_strict name.now extent texts.old) (said_created result) texts.new }
     {
-        match Layer::new(name, extent, texts) {
-            Created::Done(s) => Created::Done(s.made_strict()),
-            Created::Refused(r) => Created::Refused(r),
-        }
+        Ok(Layer::new(name, extent, texts)?.made_strict())
     }
 }
 

@@ -2,7 +2,7 @@
 ghost use Rattle.std.specs.Prelude.{◌≡◌};
 ghost use Rattle.layer.specs.Lookup.{key_by, value_by, noted};
 
-use table::{Found, Value};
+use table::Value;
 
 // The key's entry.
 pub(crate) fn find_key(
@@ -12,7 +12,7 @@ pub(crate) fn find_key(
     texts: &[u8],
     key: &[u8],
     hash: usize,
-) -> Found
+) -> Option<usize>
     ensures { result ≡ key_by buckets.now room keys.now texts.now key.now hash }
 {
     if index::serves(buckets.len(), room) {
@@ -30,7 +30,7 @@ pub(crate) fn find_value(
     v: Value,
     text: &[u8],
     hash: usize,
-) -> Found
+) -> Option<usize>
     ensures { result ≡ value_by buckets.now room values.now texts.now v text.now hash }
 {
     if index::serves(buckets.len(), room) {
@@ -40,15 +40,15 @@ pub(crate) fn find_value(
 }
 
 // An entry that was not found is entry n, and the index is told so where it serves.
-pub(crate) fn note(buckets: &mut [u32], room: usize, f: Found, n: usize, hash: usize)
+pub(crate) fn note(buckets: &mut [u32], room: usize, f: Option<usize>, n: usize, hash: usize)
     ensures { buckets.new ≡ noted buckets.old room f n hash }
 {
     if !index::serves(buckets.len(), room) {
         return;
     }
     match f {
-        Found::At(_) => {}
-        Found::Nothing => {
+        Some(_) => {}
+        None => {
             index::push(buckets, n, hash);
         }
     }

@@ -5,16 +5,13 @@ ghost use Rattle.layer.specs.Many.{head_at, heads_ok, add_indexed};
 ghost use Rattle.layer.specs.WholeSteps.{all_read};
 ghost use Rattle.layer.specs.Lending.{Adds};
 
+use crate::Layer;
 use crate::state::is_valid;
 use crate::whole_feature::{Head, add_known};
-use crate::{Changed, Layer};
-use refusal::Refusal;
+use refusal::{Refusal, Refused};
 
-#[derive(Clone, Copy)]
-pub enum Added {
-    Done(Layer, usize),
-    Refused(Refusal, Layer, usize),
-}
+// What adding many answers, accepted or not: the layer after them, and how many were accepted.
+pub type Added = Result<(Layer, usize), Refused<(Layer, usize)>>;
 
 // The head of the first four of the six words at index i.
 fn head_at(heads: &[u32], i: usize) -> Head
@@ -32,23 +29,19 @@ fn head_at(heads: &[u32], i: usize) -> Head
 fn is_head_list(heads: &[u32], words: usize, tags: usize) -> bool
     ensures { result ≡ heads_ok words tags heads.now }
 {
-    let mut i = 0;
+    let (list, rest) = heads.as_chunks::<6>();
     let mut w = words;
     let mut t = tags;
-    while i < heads.len() {
-        if heads.len() - i < Head::WORDS {
+    for h in list {
+        let a = number::wide(h[Head::GEOMETRY]);
+        let b = number::wide(h[Head::TAGS]);
+        if !((h[Head::MARK] <= 1) & ((a <= w) & (b <= t))) {
             return false;
         }
-        let a = number::wide(heads[i + Head::GEOMETRY]);
-        let b = number::wide(heads[i + Head::TAGS]);
-        if !((heads[i + Head::MARK] <= 1) & ((a <= w) & (b <= t))) {
-            return false;
-        }
-        i += Head::WORDS;
         w -= a;
         t -= b;
     }
-    (w == 0) & (t == 0)
+    rest.is_empty() & ((w == 0) & (t == 0))
 }
 
 // The answer behind the last head. Where there was none, no feature has asked STATE.
@@ -56,9 +49,12 @@ fn all_read(stands: bool, s: Layer, n: usize) -> Added
     ensures { result ≡ all_read stands s n }
 {
     if stands {
-        return Added::Done(s, n);
+        return Ok((s, n));
     }
-    Added::Refused(Refusal::State, s, n)
+    Err(Refused {
+        refusal: Refusal::State,
+        kept: (s, n),
+    })
 }
 
 // Whole features one after the other, up to the first that is refused. A feature's head is six words: its kind, its id mark (0 or 1), the low and the high half
@@ -80,9 +76,13 @@ pub fn add_features(
     ensures { Adds add_indexed s result heads words tags bytes (mutable keys) (mutable values) (mutable texts) (mutable features) (mutable ki) (mutable vi) }
 {
     if !is_head_list(heads, words.len(), tags.len()) {
-        return Added::Refused(Refusal::Job, s, 0);
+        return Err(Refused {
+            refusal: Refusal::Job,
+            kept: (s, 0),
+        });
     }
     let stands = is_valid(s, &keys[..], &values[..], &texts[..], &features[..]);
+    // A `while`: each turn takes as many words and tags as its head says.
     let mut t = s;
     let mut i = 0;
     let mut w = 0;
@@ -106,8 +106,13 @@ pub fn add_features(
             ki,
             vi,
         ) {
-            Changed::Done(u) => t = u,
-            Changed::Refused(r, _) => return Added::Refused(r, t, n),
+            Ok(u) => t = u,
+            Err(e) => {
+                return Err(Refused {
+                    refusal: e.refusal,
+                    kept: (t, n),
+                });
+            }
         }
         i += Head::WORDS;
         w = a;

@@ -13,50 +13,41 @@ use crate::lookup::{find_key, find_value};
 use crate::putting::grown;
 use crate::tag_list::{Place, place_at};
 use crate::{Figures, Layer, fits_in};
+use number::wide;
 use records::Record;
-use table::{Found, Text, Value};
+use table::{Text, Value};
 
 // Whether a tag of the list has this key.
 pub(crate) fn key_given(tags: &[u32], bytes: &[u8], key: &[u8]) -> bool
     ensures { result ≡ key_given bytes.now tags.now key.now }
 {
-    let mut i = 0;
-    while Place::WORDS <= tags.len() - i {
-        let start = number::wide(tags[i]);
-        let len = number::wide(tags[i + Place::LEN]);
-        if table::same_text(bytes, start, len, key) {
-            return true;
-        }
-        i += Place::WORDS;
-    }
-    false
+    let (list, _) = tags.as_chunks::<5>();
+    list.iter().any(|t| table::same_text(bytes, wide(t[0]), wide(t[Place::LEN]), key))
 }
 
 // Whether a tag of the list has this value.
 fn value_among(tags: &[u32], bytes: &[u8], v: Value, text: &[u8]) -> bool
     ensures { result ≡ value_among bytes.now tags.now v text.now }
 {
-    let mut i = 0;
-    while Place::WORDS <= tags.len() - i {
-        let kind = tags[i + Place::KIND];
-        let low = tags[i + Place::LOW];
-        let high = tags[i + Place::HIGH];
-        if table::same_value(bytes, kind, low, high, v, text) {
-            return true;
-        }
-        i += Place::WORDS;
-    }
-    false
+    let (list, _) = tags.as_chunks::<5>();
+    list.iter().any(|t| table::same_value(
+        bytes,
+        t[Place::KIND],
+        t[Place::LOW],
+        t[Place::HIGH],
+        v,
+        text,
+    ))
 }
 
 // Anything, where an earlier tag gives it.
-fn if_given(given: bool) -> Found
+fn if_given(given: bool) -> Option<usize>
     ensures { result ≡ if_given given }
 {
     if given {
-        return Found::At(0);
+        return Some(0);
     }
-    Found::Nothing
+    None
 }
 
 // Whether the key at this place is in the table, or an earlier tag's.
@@ -68,7 +59,7 @@ fn key_known(
     keys: &[u32],
     texts: &[u8],
     key_index: &[u32],
-) -> Found
+) -> Option<usize>
     requires { KeyAsked at.start at.len (length bytes.now) key_index.now room keys.now texts.now }
     ensures { result ≡ key_known keys.now texts.now bytes.now earlier.now at }
 {
@@ -77,8 +68,8 @@ fn key_known(
     let key = &bytes[start..end];
     let hash = index::hash_text(key);
     match find_key(key_index, room, keys, texts, key, hash) {
-        Found::At(j) => Found::At(j),
-        Found::Nothing => if_given(key_given(earlier, bytes, key)),
+        Some(j) => Some(j),
+        None => if_given(key_given(earlier, bytes, key)),
     }
 }
 
@@ -92,7 +83,7 @@ fn value_known(
     values: &[u32],
     texts: &[u8],
     value_index: &[u32],
-) -> Found
+) -> Option<usize>
     requires { ValueAsked at.start at.len (length bytes.now) value_index.now room values.now texts.now }
     ensures { result ≡ value_known values.now texts.now bytes.now earlier.now v at }
 {
@@ -101,8 +92,8 @@ fn value_known(
     let text = &bytes[start..end];
     let hash = index::hash_value(v, text);
     match find_value(value_index, room, values, texts, v, text, hash) {
-        Found::At(j) => Found::At(j),
-        Found::Nothing => if_given(value_among(earlier, bytes, v, text)),
+        Some(j) => Some(j),
+        None => if_given(value_among(earlier, bytes, v, text)),
     }
 }
 
@@ -137,13 +128,13 @@ fn need_of(
     grown(w, kf, vf, p.key.len, p.text.len)
 }
 
-// The figures after the tag at index i, if its key and its value are new.
-fn most_of(w: Figures, tags: &[u32], i: usize) -> Figures
-    requires { MostAsked w tags.now i }
-    ensures { result ≡ step_at most_of tags.now i w }
+// The figures after the tag of five words, if its key and its value are new.
+fn most_of(w: Figures, t: &[u32; 5]) -> Figures
+    requires { MostAsked w t.now 0 }
+    ensures { result ≡ step_at most_of t.now 0 w }
 {
-    let p = place_at(tags, i);
-    grown(w, Found::Nothing, Found::Nothing, p.key.len, p.text.len)
+    let p = place_at(t, 0);
+    grown(w, None, None, p.key.len, p.text.len)
 }
 
 // Whether so many tags fit, whatever they are: a new key and a new value each, of the longest texts. Where there is much room no tag is looked at.
@@ -167,14 +158,13 @@ fn is_most_met(w: Figures, tags: &[u32], room: Figures) -> bool
     if is_ample(w, tags.len() / Place::WORDS, room) {
         return true;
     }
+    let (list, _) = tags.as_chunks::<5>();
     let mut u = w;
-    let mut i = 0;
-    while Place::WORDS <= tags.len() - i {
+    for t in list {
         if !fits_in(u, room) {
             return false;
         }
-        u = most_of(u, tags, i);
-        i += Place::WORDS;
+        u = most_of(u, t);
     }
     fits_in(u, room)
 }
@@ -194,6 +184,7 @@ fn is_need_met(
     requires { NeedLoop tags.now bytes.now room keys.now values.now texts.now key_index.now value_index.now }
     ensures { result ≡ fits (needed keys.now values.now texts.now bytes.now tags.now w) room }
 {
+    // A `while`: each turn looks among the tags before its own, by the index.
     let mut u = w;
     let mut i = 0;
     while Place::WORDS <= tags.len() - i {
@@ -236,10 +227,8 @@ pub(crate) fn has_room(
     let room = Layer::room(keys.len(), values.len(), texts.len(), features.len());
     let u = s.used;
     let w = Figures {
-        keys: u.keys,
-        values: u.values,
-        texts: u.texts,
         features: u.features + (Record::HEAD + words),
+        ..u
     };
     if is_most_met(w, tags, room) {
         return true;

@@ -29,15 +29,8 @@ fn is_key(keys: &[u32], texts: &[u8], k: usize, key: &[u8]) -> bool
 fn has_key(keys: &[u32], texts: &[u8], tags: &[u32], key: &[u8]) -> bool
     ensures { result ≡ has_key keys.now texts.now tags.now key.now }
 {
-    let mut i = 0;
-    while 2 <= tags.len() - i {
-        let k = wide(tags[i]);
-        if is_key(keys, texts, k, key) {
-            return true;
-        }
-        i += 2;
-    }
-    false
+    let (list, _) = tags.as_chunks::<2>();
+    list.iter().any(|t| is_key(keys, texts, wide(t[0]), key))
 }
 
 // Whether the feature opened at o has no tag of this key. Its record is the last, so its tag words are the last ones.
@@ -76,6 +69,7 @@ fn are_once(tags: &[u32], bytes: &[u8]) -> bool
     requires { tags_ok (length bytes.now) tags.now ≡ true }
     ensures { result ≡ keys_once bytes.now tags.now }
 {
+    // A `while`: each turn asks the tags behind its own, by the index.
     let mut i = 0;
     while i < tags.len() {
         if !is_once(tags, i, bytes) {

@@ -9,20 +9,26 @@ ghost use Rattle.layer.specs.Lending.{entered, left, given, Lays, lists};
 
 use crate::Figures;
 use records::Record;
-use runs::{lay_bytes, lay_words};
-use table::{Found, Value, index_of};
+use runs::lay;
+use table::Value;
 
-fn more_of(f: Found, n: usize) -> usize
+fn more_of(f: Option<usize>, n: usize) -> usize
     ensures { Grows f n result }
 {
     match f {
-        Found::At(_) => 0,
-        Found::Nothing => n,
+        Some(_) => 0,
+        None => n,
     }
 }
 
 // The figures after a tag, reckoned without a limit on room.
-pub(crate) fn grown(u: Figures, kf: Found, vf: Found, key: usize, text: usize) -> Figures
+pub(crate) fn grown(
+    u: Figures,
+    kf: Option<usize>,
+    vf: Option<usize>,
+    key: usize,
+    text: usize,
+) -> Figures
     requires { Small u key text }
     ensures { result ≡ grown_by u kf vf key text }
 {
@@ -35,16 +41,23 @@ pub(crate) fn grown(u: Figures, kf: Found, vf: Found, key: usize, text: usize) -
 }
 
 // A key that was not found goes last, and so does its text.
-fn put_key(f: Found, key: &[u8], at: usize, start: usize, keys: &mut [u32], texts: &mut [u8])
+fn put_key(
+    f: Option<usize>,
+    key: &[u8],
+    at: usize,
+    start: usize,
+    keys: &mut [u32],
+    texts: &mut [u8],
+)
     requires { EntryRoom f 2 (length key.now) at start (length keys.old) (length texts.old) }
     ensures { Lays f (key_words start key.now) key.now at start (mutable keys) (mutable texts) }
 {
     match f {
-        Found::At(_) => {}
-        Found::Nothing => {
+        Some(_) => {}
+        None => {
             let words = [start as u32, key.len() as u32];
-            lay_words(&words, keys, at);
-            lay_bytes(key, texts, start);
+            lay(&words, keys, at);
+            lay(key, texts, start);
         }
     }
 }
@@ -66,7 +79,7 @@ fn stored_as(start: usize, v: Value, len: usize) -> Value
 
 // A value that was not found goes last, and so does its text.
 fn put_value(
-    f: Found,
+    f: Option<usize>,
     v: Value,
     text: &[u8],
     at: usize,
@@ -78,12 +91,12 @@ fn put_value(
     ensures { Lays f (value_words start v text.now) text.now at start (mutable values) (mutable texts) }
 {
     match f {
-        Found::At(_) => {}
-        Found::Nothing => {
+        Some(_) => {}
+        None => {
             let w = stored_as(start, v, text.len());
             let words = [w.kind, w.low, w.high];
-            lay_words(&words, values, at);
-            lay_bytes(text, texts, start);
+            lay(&words, values, at);
+            lay(text, texts, start);
         }
     }
 }
@@ -95,7 +108,7 @@ fn put_pair(at: usize, end: usize, k: usize, v: usize, features: &mut [u32])
 {
     let count = features[at + Record::TAGS];
     let words = [k as u32, v as u32];
-    lay_words(&words, features, end);
+    lay(&words, features, end);
     features[at + Record::TAGS] = count + 2;
 }
 
@@ -103,8 +116,8 @@ fn put_pair(at: usize, end: usize, k: usize, v: usize, features: &mut [u32])
 pub(crate) fn put_tag(
     u: Figures,
     o: Figures,
-    kf: Found,
-    vf: Found,
+    kf: Option<usize>,
+    vf: Option<usize>,
     key: &[u8],
     v: Value,
     text: &[u8],
@@ -122,7 +135,7 @@ pub(crate) fn put_tag(
     put_key(kf, key, k, t, keys, texts);
     let start = t + more_of(kf, key.len());
     put_value(vf, v, text, e, start, values, texts);
-    let ki = index_of(kf, u.keys);
-    let vi = index_of(vf, u.values);
+    let ki = kf.unwrap_or(u.keys);
+    let vi = vf.unwrap_or(u.values);
     put_pair(o.features, u.features, ki, vi, features);
 }

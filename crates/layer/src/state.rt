@@ -1,26 +1,21 @@
 // The STATE of a layer, as one check. It reads the used part of every list once.
-ghost use Rattle.std.specs.Prelude.{◌≡◌, length};
+ghost use Rattle.std.specs.Prelude.{◌≡◌, Some, length};
 ghost use Rattle.records.specs.Records.{is_found};
-ghost use Rattle.layer.specs.declared.Open.TheVariants.{Since};
 ghost use Rattle.layer.specs.State.{records_ok, valid};
 ghost use Rattle.layer.specs.Lending.{sees};
 
-use crate::{Figures, Layer, Open, fits_in};
-use table::Found;
+use crate::{Figures, Layer, fits_in};
 
-fn is_found(f: Found) -> bool
+fn is_found(f: Option<usize>) -> bool
     ensures { result ≡ is_found f }
 {
-    match f {
-        Found::At(_) => true,
-        Found::Nothing => false,
-    }
+    f.is_some()
 }
 
 // STATE's rules of an open feature, of the used words.
 fn since_ok(o: Figures, used: Figures, ws: &[u32]) -> bool
     requires { length ws.now ≡ used.features }
-    ensures { result ≡ records_ok (Since o) used ws.now }
+    ensures { result ≡ records_ok (Some o) used ws.now }
 {
     if !fits_in(o, used) {
         return false;
@@ -30,13 +25,13 @@ fn since_ok(o: Figures, used: Figures, ws: &[u32]) -> bool
 }
 
 // STATE's rules of records, of the used words.
-fn records_ok(f: Open, used: Figures, ws: &[u32]) -> bool
+fn records_ok(f: Option<Figures>, used: Figures, ws: &[u32]) -> bool
     requires { length ws.now ≡ used.features }
     ensures { result ≡ records_ok f used ws.now }
 {
     match f {
-        Open::Shut => is_found(records::count(ws)),
-        Open::Since(o) => since_ok(o, used, ws),
+        None => is_found(records::count(ws)),
+        Some(o) => since_ok(o, used, ws),
     }
 }
 

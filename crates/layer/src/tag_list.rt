@@ -29,18 +29,13 @@ impl Place {
     pub(crate) const HIGH: usize = 4;
 }
 
-// Whether the five words at index i are a tag whose texts lie within so many bytes.
-fn tag_ok(tags: &[u32], i: usize, bytes: usize) -> bool
-    requires { i + 5 ≤ length tags.now }
-    ensures { result ≡ ok_at bytes tags.now i }
+// Whether five words are a tag whose texts lie within so many bytes.
+fn tag_ok(t: &[u32; 5], bytes: usize) -> bool
+    ensures { result ≡ ok_at bytes t.now 0 }
 {
-    let start = number::wide(tags[i]);
-    let len = number::wide(tags[i + Place::LEN]);
-    let value = [
-        tags[i + Place::KIND],
-        tags[i + Place::LOW],
-        tags[i + Place::HIGH],
-    ];
+    let start = number::wide(t[0]);
+    let len = number::wide(t[Place::LEN]);
+    let value = [t[Place::KIND], t[Place::LOW], t[Place::HIGH]];
     runs::has_room(start, len, bytes) & table::values_in(&value, bytes)
 }
 
@@ -48,14 +43,8 @@ fn tag_ok(tags: &[u32], i: usize, bytes: usize) -> bool
 pub(crate) fn is_tag_list(tags: &[u32], bytes: usize) -> bool
     ensures { result ≡ tags_ok bytes tags.now }
 {
-    let mut i = 0;
-    while Place::WORDS <= tags.len() - i {
-        if !tag_ok(tags, i, bytes) {
-            return false;
-        }
-        i += Place::WORDS;
-    }
-    i == tags.len()
+    let (list, rest) = tags.as_chunks::<5>();
+    rest.is_empty() && list.iter().all(|t| tag_ok(t, bytes))
 }
 
 // The value of three words as its tag call makes it. Where a text stands is found when it is stored.
@@ -69,11 +58,7 @@ fn value_given(kind: u32, low: u32, high: u32) -> Value
             high: 0,
         };
     }
-    Value {
-        kind: kind,
-        low: low,
-        high: high,
-    }
+    Value { kind, low, high }
 }
 
 // Where the text of three words stands. What is no text has an empty one.
@@ -89,35 +74,27 @@ fn text_of(kind: u32, low: u32, high: u32) -> Text
     Text { start: 0, len: 0 }
 }
 
-// Whether neither the key nor the text of the five words at index i has more bytes than a text may have.
-fn is_short(tags: &[u32], i: usize) -> bool
-    requires { i + 5 ≤ length tags.now }
-    ensures { result ≡ short_at tags.now i }
+// Whether neither the key nor the text of a tag's five words has more bytes than a text may have.
+fn is_short(t: &[u32; 5]) -> bool
+    ensures { result ≡ short_at t.now 0 }
 {
-    let key = number::wide(tags[i + Place::LEN]);
+    let key = number::wide(t[Place::LEN]);
     if !Text::may_have(key) {
         return false;
     }
-    if tags[i + Place::KIND] != Value::TEXT {
+    if t[Place::KIND] != Value::TEXT {
         return true;
     }
-    let text = number::wide(tags[i + Place::HIGH]);
+    let text = number::wide(t[Place::HIGH]);
     Text::may_have(text)
 }
 
 // The same of every tag of a list.
-pub(crate) fn are_short(tags: &[u32], bytes: usize) -> bool
-    requires { tags_ok bytes tags.now ≡ true }
+pub(crate) fn are_short(tags: &[u32]) -> bool
     ensures { result ≡ tags_short tags.now }
 {
-    let mut i = 0;
-    while i < tags.len() {
-        if !is_short(tags, i) {
-            return false;
-        }
-        i += Place::WORDS;
-    }
-    true
+    let (list, _) = tags.as_chunks::<5>();
+    list.iter().all(|t| is_short(t))
 }
 
 // Where the parts of the tag of the five words at index i stand.
@@ -131,31 +108,27 @@ pub(crate) fn place_at(tags: &[u32], i: usize) -> Place
     let low = tags[i + Place::LOW];
     let high = tags[i + Place::HIGH];
     Place {
-        key: Text {
-            start: start,
-            len: len,
-        },
+        key: Text { start, len },
         value: value_given(kind, low, high),
         text: text_of(kind, low, high),
     }
 }
 
-// Whether the key and the text of the five words at index i are UTF-8. What is no text has none to be asked.
-fn is_tag_utf8(tags: &[u32], i: usize, bytes: &[u8]) -> bool
-    requires i_in_bounds { i + 5 ≤ length tags.now }
-    requires i_value { ok_at (length bytes.now) tags.now i ≡ true }
-    ensures { result ≡ tag_utf8 (tag_at bytes.now tags.now i) }
+// Whether the key and the text of a tag's five words are UTF-8. What is no text has none to be asked.
+fn is_tag_utf8(t: &[u32; 5], bytes: &[u8]) -> bool
+    requires { ok_at (length bytes.now) t.now 0 ≡ true }
+    ensures { result ≡ tag_utf8 (tag_at bytes.now t.now 0) }
 {
-    let a = number::wide(tags[i]);
-    let b = a + number::wide(tags[i + Place::LEN]);
+    let a = number::wide(t[0]);
+    let b = a + number::wide(t[Place::LEN]);
     if !is_utf8(&bytes[a..b]) {
         return false;
     }
-    if tags[i + Place::KIND] != Value::TEXT {
+    if t[Place::KIND] != Value::TEXT {
         return true;
     }
-    let c = number::wide(tags[i + Place::LOW]);
-    let d = c + number::wide(tags[i + Place::HIGH]);
+    let c = number::wide(t[Place::LOW]);
+    let d = c + number::wide(t[Place::HIGH]);
     is_utf8(&bytes[c..d])
 }
 
@@ -164,12 +137,11 @@ pub(crate) fn are_utf8(tags: &[u32], bytes: &[u8]) -> bool
     requires { tags_ok (length bytes.now) tags.now ≡ true }
     ensures { result ≡ tags_utf8 (tags_of bytes.now tags.now) }
 {
-    let mut i = 0;
-    while i < tags.len() {
-        if !is_tag_utf8(tags, i, bytes) {
+    let (list, _) = tags.as_chunks::<5>();
+    for t in list {
+        if !is_tag_utf8(t, bytes) {
             return false;
         }
-        i += Place::WORDS;
     }
     true
 }

@@ -14,9 +14,9 @@ use crate::once::is_new;
 use crate::putting::{grown, put_tag};
 use crate::state::is_valid;
 use crate::value::{bit_of, value_of};
-use crate::{Changed, Figures, Layer, Open};
+use crate::{Changed, Figures, Layer};
 use number::bits_of;
-use refusal::Refusal;
+use refusal::{Refusal, Refused};
 use table::{Text, Value};
 use utf8::is_utf8;
 
@@ -43,17 +43,13 @@ fn tag_open(
     let vf = table::val_pos(&values[..e], &texts[..t], v, text);
     let after = grown(u, kf, vf, key.len(), text.len());
     if !Layer::has_room_for(after, keys.len(), values.len(), texts.len(), features.len()) {
-        return Changed::Refused(Refusal::Room, s);
+        return Err(Refused {
+            refusal: Refusal::Room,
+            kept: s,
+        });
     }
     put_tag(u, o, kf, vf, key, v, text, keys, values, texts, features);
-    let open = s.feature;
-    Changed::Done(Layer {
-        extent: s.extent,
-        strict: s.strict,
-        name: s.name,
-        used: after,
-        feature: open,
-    })
+    Ok(Layer { used: after, ..s })
 }
 
 // A tag of a strict layer's feature opened at o, if that has none of its key and it has room. It stands by itself, so that the ordinary layer's way is compiled
@@ -74,7 +70,10 @@ fn tag_strict(
 {
     let u = s.used;
     if !is_new(u, o, key, &keys[..], &texts[..], &features[..]) {
-        return Changed::Refused(Refusal::Again, s);
+        return Err(Refused {
+            refusal: Refusal::Again,
+            kept: s,
+        });
     }
     tag_open(s, o, key, v, text, keys, values, texts, features)
 }
@@ -93,23 +92,40 @@ fn add_tag(
     ensures { Does (add_tag (given key v text)) s result (mutable keys) (mutable values) (mutable texts) (mutable features) }
 {
     if !is_valid(s, &keys[..], &values[..], &texts[..], &features[..]) {
-        return Changed::Refused(Refusal::State, s);
+        return Err(Refused {
+            refusal: Refusal::State,
+            kept: s,
+        });
     }
     if !Text::may_have(key.len()) {
-        return Changed::Refused(Refusal::Text, s);
+        return Err(Refused {
+            refusal: Refusal::Text,
+            kept: s,
+        });
     }
     if !Text::may_have(text.len()) {
-        return Changed::Refused(Refusal::Text, s);
+        return Err(Refused {
+            refusal: Refusal::Text,
+            kept: s,
+        });
     }
     if !is_utf8(key) {
-        return Changed::Refused(Refusal::Utf8, s);
+        return Err(Refused {
+            refusal: Refusal::Utf8,
+            kept: s,
+        });
     }
     if !is_utf8(text) {
-        return Changed::Refused(Refusal::Utf8, s);
+        return Err(Refused {
+            refusal: Refusal::Utf8,
+            kept: s,
+        });
     }
-    let f = s.feature;
-    let Open::Since(o) = f else {
-        return Changed::Refused(Refusal::Turn, s);
+    let Some(o) = s.feature else {
+        return Err(Refused {
+            refusal: Refusal::Turn,
+            kept: s,
+        });
     };
     if s.strict {
         return tag_strict(s, o, key, v, text, keys, values, texts, features);
@@ -166,7 +182,7 @@ pub fn add_tag_float(
 ) -> Changed
     ensures { Does (add_tag (tag_bits float_kind key.now bits)) s result (mutable keys) (mutable values) (mutable texts) (mutable features) }
 {
-    let wide = bits as u64;
+    let wide = u64::from(bits);
     add_bits(s, key, Value::FLOAT, wide, keys, values, texts, features)
 }
 

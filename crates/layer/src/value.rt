@@ -10,7 +10,7 @@ pub(crate) fn value_of(kind: u32, bits: u64) -> Value
     ensures { result ≡ value_of kind bits }
 {
     Value {
-        kind: kind,
+        kind,
         low: low(bits),
         high: high(bits),
     }

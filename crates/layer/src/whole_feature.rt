@@ -15,9 +15,9 @@ use crate::need::has_room;
 use crate::once::takes_keys;
 use crate::state::is_valid;
 use crate::tag_list::{Place, are_short, are_utf8, is_tag_list};
-use crate::{Changed, Figures, Layer, Open};
+use crate::{Changed, Figures, Layer};
 use records::Record;
-use refusal::Refusal;
+use refusal::{Refusal, Refused};
 use words::geometry::Geometry;
 
 // What a feature is besides its lists: its kind, and its id if it has one.
@@ -44,51 +44,43 @@ impl Head {
     pub(crate) const TAGS: usize = 5;
 }
 
-// Whether a feature may be put, ROOM apart.
-#[derive(Clone, Copy)]
-pub(crate) enum Asked {
-    Fine,
-    Barred(Refusal),
-}
-
 // The first refusal but ROOM, in the order of the checks; stands says whether the layer breaks no rule of STATE.
 fn first_refusal(
-    f: Open,
-    strict: bool,
+    s: Layer,
     stands: bool,
     kind: u32,
     words: usize,
     tags: &[u32],
     bytes: &[u8],
-) -> Asked
-    ensures { result ≡ asks f strict stands kind words tags.now bytes.now }
+) -> Result<(), Refusal>
+    ensures { result ≡ asks s.feature s.strict stands kind words tags.now bytes.now }
 {
     if !is_tag_list(tags, bytes.len()) {
-        return Asked::Barred(Refusal::Job);
+        return Err(Refusal::Job);
     }
-    let geometry = Geometry { kind: kind };
+    let geometry = Geometry { kind };
     if !geometry.is_good() {
-        return Asked::Barred(Refusal::Kind);
+        return Err(Refusal::Kind);
     }
     if !stands {
-        return Asked::Barred(Refusal::State);
+        return Err(Refusal::State);
     }
-    if !are_short(tags, bytes.len()) {
-        return Asked::Barred(Refusal::Text);
+    if !are_short(tags) {
+        return Err(Refusal::Text);
     }
     if !are_utf8(tags, bytes) {
-        return Asked::Barred(Refusal::Utf8);
+        return Err(Refusal::Utf8);
     }
-    if !f.is_shut() {
-        return Asked::Barred(Refusal::Turn);
+    if !s.is_shut() {
+        return Err(Refusal::Turn);
     }
-    if !takes_keys(strict, tags, bytes) {
-        return Asked::Barred(Refusal::Again);
+    if !takes_keys(s.strict, tags, bytes) {
+        return Err(Refusal::Again);
     }
     if Geometry::MAX_WORDS < words {
-        return Asked::Barred(Refusal::Room);
+        return Err(Refusal::Room);
     }
-    Asked::Fine
+    Ok(())
 }
 
 fn mark_of(f: Head) -> u32
@@ -131,32 +123,21 @@ fn put_feature(
     let id = id_of(f);
     lay_record(o.features, f.kind, mark, id, words, features);
     let used = Figures {
-        keys: o.keys,
-        values: o.values,
-        texts: o.texts,
         features: o.features + (Record::HEAD + words.len()),
+        ..o
     };
-    let opened = Layer {
-        extent: s.extent,
-        strict: s.strict,
-        name: s.name,
-        used: used,
-        feature: Open::Since(o),
+    let mut t = Layer {
+        used,
+        feature: Some(o),
+        ..s
     };
-    let mut t = opened;
+    // A `while`: a tag is put by its index, of which the loop's invariant speaks.
     let mut i = 0;
     while i < tags.len() {
         t = put_tag_at(t, o, tags, i, bytes, keys, values, texts, features, ki, vi);
         i += Place::WORDS;
     }
-    let last = t.used;
-    Layer {
-        extent: t.extent,
-        strict: t.strict,
-        name: t.name,
-        used: last,
-        feature: Open::Shut,
-    }
+    Layer { feature: None, ..t }
 }
 
 // So much of an index is used as is built of it.
@@ -189,10 +170,9 @@ pub(crate) fn add_known(
     requires { Known s stands built (lists keys.old values.old texts.old features.old) (idx ki.old vi.old) }
     ensures { DoesIndexed (add_feature f words.now tags.now bytes.now) s result (mutable keys) (mutable values) (mutable texts) (mutable features) (mutable ki) (mutable vi) }
 {
-    let q = s.feature;
-    match first_refusal(q, s.strict, stands, f.kind, words.len(), tags, bytes) {
-        Asked::Barred(r) => return Changed::Refused(r, s),
-        Asked::Fine => {}
+    match first_refusal(s, stands, f.kind, words.len(), tags, bytes) {
+        Err(refusal) => return Err(Refused { refusal, kept: s }),
+        Ok(()) => {}
     }
     let a = reach(built, ki.len());
     let b = reach(built, vi.len());
@@ -208,12 +188,15 @@ pub(crate) fn add_known(
         &ki[..a],
         &vi[..b],
     ) {
-        return Changed::Refused(Refusal::Room, s);
+        return Err(Refused {
+            refusal: Refusal::Room,
+            kept: s,
+        });
     }
     let u = s.used;
     let room = Layer::room(keys.len(), values.len(), texts.len(), features.len());
     build_index(u, built, room, &keys[..], &values[..], &texts[..], ki, vi);
-    Changed::Done(put_feature(
+    Ok(put_feature(
         s, f, words, tags, bytes, keys, values, texts, features, ki, vi,
     ))
 }

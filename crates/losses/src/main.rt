@@ -8,8 +8,6 @@ ghost use Rattle.printed.specs.Losses.{losses_room};
 ghost use Rattle.losses.specs.Program.{tally_text, printed};
 
 use encoder::tally::Tally;
-use encoder::whole_job::Course;
-use number_file::Numbers;
 use printed::Text;
 use std::io;
 use std::io::Write;
@@ -33,10 +31,10 @@ fn answer(file: &[u8], numbers: &mut [u32], words: &mut [u32], text: &mut [u8]) 
     ensures { Tells (printed file.now numbers.old words.old) result (mutable text) }
 {
     match number_file::read_numbers(file, numbers) {
-        Numbers::Refused(r) => printed::show_refused(refusal::number(r), 0, text),
-        Numbers::Read(n) => match job_file::finish_file(&numbers[..n], words) {
-            Course::Off(r, accepted) => printed::show_refused(refusal::number(r), accepted, text),
-            Course::On(s) => show_tally(s.tally, text),
+        Err(r) => printed::show_refused(refusal::number(r), 0, text),
+        Ok(n) => match job_file::finish_file(&numbers[..n], words) {
+            Err(e) => printed::show_refused(refusal::number(e.refusal), e.kept, text),
+            Ok(s) => show_tally(s.tally, text),
         },
     }
 }

@@ -8,7 +8,8 @@ use borrow.Author.Tests.{le-leb, lt-leb}
 use lib.Dec.{leb, eqb}
 use lib.ListN.{length, get_or, take, drop, length-drop}
 use lib.Seq.{drop-drop}
-use Rattle.promise.specs.Widened.{Wide}
+use Rattle.std.specs.Int.{from_le_bytes}
+use mir.Syntax.{w32}
 use Rattle.promise.proofs.Steps.{next}
 use Rattle.messages.specs.declared.key.Kind.{Kind}
 use Rattle.messages.specs.declared.key.Holds.{Holds}
@@ -17,15 +18,13 @@ use Rattle.messages.specs.declared.key.Body.TheVariants.{Any as any, Varints as 
 use Rattle.messages.specs.declared.key.Body.{Body}
 use Rattle.messages.specs.declared.key.Follows.{Follows}
 use Rattle.messages.specs.declared.key.Follows.TheVariants.{Wrong as wrong, AVarint as aVarint, Bytes as bytes, ABody as aBody}
-use Rattle.messages.specs.declared.numbers.VarintAt.{VarintAt}
-use Rattle.messages.specs.declared.numbers.VarintAt.TheVariants.{Is as number, Faulty as noNumber}
 use Rattle.messages.specs.declared.field.FieldAt.{FieldAt}
-use Rattle.messages.specs.declared.field.NextField.{NextField}
-use Rattle.messages.specs.declared.field.NextField.TheVariants.{Is as is, Faulty as faulty}
 use Rattle.messages.specs.Keys.{knows, only, content as content_of, max_number, follows}
 use Rattle.messages.specs.Fields.{varint_at, from_little, field_from, numbered, fixed, bodied, content, keyed, field_at}
 use Rattle.messages.specs.Asking.{FourOrEight, four, eight, Short}
 use Rattle.messages.proofs.Fields.{varint_ends}
+use Rattle.std.specs.Prelude.{Some, None}
+use Rattle.messages.specs.Fields.{VarintAt, NextField}
 
 -- ---- bytes are four or eight
 by_type : (b : Bool) (f g : Follows) → Short f → Short g → Short (cond b f g)
@@ -68,8 +67,8 @@ module _ (src : List ℕ) (at : ℕ) where
       )
       refl
 
-  pub four_is : (r : ℕ) → at + 4 ≤ length src → Wide (from_little (get_or src at 0 ∷ get_or src (at + 1) 0 ∷ get_or src (at + 2) 0 ∷ get_or src (at + 3) 0 ∷ [])) r → Wide (from_little (take 4 (drop at src))) r
-  four_is r h w = rw (take_four h) w
+  pub four_is : (r : ℕ) → at + 4 ≤ length src → r ≡ from_le_bytes w32 (get_or src at 0 ∷ get_or src (at + 1) 0 ∷ get_or src (at + 2) 0 ∷ get_or src (at + 3) 0 ∷ []) → r ≡ from_little (take 4 (drop at src))
+  four_is r h e = rw (take_four h) (omega (arith, e))
 
 -- eight are four and four behind them
 split : (bs : List ℕ) → 8 ≤ length bs → from_little (take 8 bs) ≡ from_little (take 4 bs) + 4294967296 * from_little (take 4 (drop 4 bs))
@@ -80,44 +79,44 @@ split (a ∷ b ∷ c ∷ []) l = absurd (omega arith)
 split (a ∷ b ∷ c ∷ d ∷ bs) l = omega arith
 
 module _ (src : List ℕ) (at : ℕ) where
-  pub four_little : (n r : ℕ) → n ≡ 4 → Wide (from_little (take 4 (drop at src))) r → r ≡ from_little (take n (drop at src))
-  four_little n r e w = rw e w.same
+  pub four_little : (n r : ℕ) → n ≡ 4 → r ≡ from_little (take 4 (drop at src)) → r ≡ from_little (take n (drop at src))
+  four_little n r e v = rw e v
 
-  pub eight_little : (n r s : ℕ) → FourOrEight n → (n ≡ 4 → ⊥) → at + n ≤ length src → Wide (from_little (take 4 (drop at src))) r → Wide (from_little (take 4 (drop (at + 4) src))) s
+  pub eight_little : (n r s : ℕ) → FourOrEight n → (n ≡ 4 → ⊥) → at + n ≤ length src → r ≡ from_little (take 4 (drop at src)) → s ≡ from_little (take 4 (drop (at + 4) src))
       → r + 4294967296 * s ≡ from_little (take n (drop at src))
   eight_little n r s f h l v w =
       let e : n ≡ 8 = is_eight f h in
       let d : 8 ≤ length (drop at src) = omega (arith, length-drop at src) in
       let q : drop 4 (drop at src) ≡ drop (at + 4) src = drop-drop 4 at src in
-      rw e (omega (arith, split (drop at src) d, v.same, w.same, ap (λ (x : List ℕ). from_little (take 4 x)) q))
+      rw e (omega (arith, split (drop at src) d, v, w, ap (λ (x : List ℕ). from_little (take 4 x)) q))
 
   -- ---- a field of so many bytes
   module _ (key n : ℕ) (h : at ≤ length src) where
-    pub fixed_past : length src - at < n → faulty ≡ fixed key n at src
+    pub fixed_past : length src - at < n → None ≡ fixed key n at src
     fixed_past l = rw (lt-leb (at + n) (length src) (omega arith)) refl
 
-    pub fixed_is : (r : ℕ) → n ≤ length src - at → r ≡ from_little (take n (drop at src)) → is (field_from key r at (at + n)) ≡ fixed key n at src
+    pub fixed_is : (r : ℕ) → n ≤ length src - at → r ≡ from_little (take n (drop at src)) → Some (field_from key r at (at + n)) ≡ fixed key n at src
     fixed_is r l e = rw (le-leb (at + n) (length src) (omega arith), e) refl
 
   -- ---- a number, or a length and a body
   module _ (key : ℕ) (r : VarintAt) (g : r ≡ varint_at at src) where
-    pub numbered_not : r ≡ noNumber → faulty ≡ numbered key at (varint_at at src)
+    pub numbered_not : r ≡ None → None ≡ numbered key at (varint_at at src)
     numbered_not e = rw (← g, e) refl
 
-    pub bodied_not : r ≡ noNumber → faulty ≡ bodied key src (varint_at at src)
+    pub bodied_not : r ≡ None → None ≡ bodied key src (varint_at at src)
     bodied_not e = rw (← g, e) refl
 
-    module _ (n start : ℕ) (e : r ≡ number n start) where
-      pub numbered_is : is (field_from key n at start) ≡ numbered key at (varint_at at src)
+    module _ (n start : ℕ) (e : r ≡ Some (n, start)) where
+      pub numbered_is : Some (field_from key n at start) ≡ numbered key at (varint_at at src)
       numbered_is = rw (← g, e) refl
 
       pub begins_inside : start ≤ length src
       begins_inside = (varint_ends (sym g ∙ e)).inside
 
-      pub bodied_past : length src - start < n → faulty ≡ bodied key src (varint_at at src)
+      pub bodied_past : length src - start < n → None ≡ bodied key src (varint_at at src)
       bodied_past l = let i = begins_inside in rw (← g, e, lt-leb (start + n) (length src) (omega arith)) refl
 
-      pub bodied_is : n ≤ length src - start → is (field_from key 0 start (start + n)) ≡ bodied key src (varint_at at src)
+      pub bodied_is : n ≤ length src - start → Some (field_from key 0 start (start + n)) ≡ bodied key src (varint_at at src)
       bodied_is l = let i = begins_inside in rw (← g, e, le-leb (start + n) (length src) (omega arith)) refl
 
 -- ---- by what follows the key
@@ -125,7 +124,7 @@ module _ (key at : ℕ) (src : List ℕ) (f : Follows) where
   pub content_bytes : (n : ℕ) → f ≡ bytes n → Short f → FourOrEight n
   content_bytes n e s = rw e at s
 
-  pub content_wrong : f ≡ wrong → faulty ≡ content key at src f
+  pub content_wrong : f ≡ wrong → None ≡ content key at src f
   unfolding content
   content_wrong e = rw e refl
 
@@ -144,11 +143,11 @@ module _ (key at : ℕ) (src : List ℕ) (f : Follows) where
 
 -- ---- a field
 module _ (kind : Kind) (at : ℕ) (src : List ℕ) (v : VarintAt) (g : v ≡ varint_at at src) where
-  pub field_no_key : v ≡ noNumber → faulty ≡ field_at kind at src
+  pub field_no_key : v ≡ None → None ≡ field_at kind at src
   unfolding field_at
   field_no_key e = rw (← g, e) refl
 
-  module _ (key start : ℕ) (e : v ≡ number key start) (f : Follows) (h : f ≡ follows kind key) where
+  module _ (key start : ℕ) (e : v ≡ Some (key, start)) (f : Follows) (h : f ≡ follows kind key) where
     pub field_short : Short f
     field_short = rw h (follows_short kind key)
 
@@ -161,38 +160,38 @@ module _ (kind : Kind) (at : ℕ) (src : List ℕ) (v : VarintAt) (g : v ≡ var
 
 -- ---- a field that was read has a right key
 module _ (key at : ℕ) (src : List ℕ) (f : FieldAt) where
-  no_field : {X : Type 0} → faulty ≡ is f → X
+  no_field : {X : Type 0} → None ≡ Some f → X
   no_field e = absurd (let z : ◌≡◌ {A = ℕ} 0 1 = cc in omega arith)
 
-  numbered_key : (v : VarintAt) → numbered key at v ≡ is f → f.key ≡ key
-  numbered_key (number n end) e = let m : field_from key n at end ≡ f = cc in sym (ap (λ (g : FieldAt). g.key) m)
-  numbered_key noNumber e = no_field e
+  numbered_key : (v : VarintAt) → numbered key at v ≡ Some f → f.key ≡ key
+  numbered_key (Some (n, end)) e = let m : field_from key n at end ≡ f = cc in sym (ap (λ (g : FieldAt). g.key) m)
+  numbered_key None e = no_field e
 
-  inside_key : (b : Bool) (value start end : ℕ) → cond b (is (field_from key value start end)) faulty ≡ is f → f.key ≡ key
+  inside_key : (b : Bool) (value start end : ℕ) → cond b (Some (field_from key value start end)) None ≡ Some f → f.key ≡ key
   inside_key true value start end e = let m : field_from key value start end ≡ f = cc in sym (ap (λ (g : FieldAt). g.key) m)
   inside_key false value start end e = no_field e
 
-  bodied_key : (v : VarintAt) → bodied key src v ≡ is f → f.key ≡ key
-  bodied_key (number n start) e = inside_key (leb (start + n) (length src)) 0 start (start + n) e
-  bodied_key noNumber e = no_field e
+  bodied_key : (v : VarintAt) → bodied key src v ≡ Some f → f.key ≡ key
+  bodied_key (Some (n, start)) e = inside_key (leb (start + n) (length src)) 0 start (start + n) e
+  bodied_key None e = no_field e
 
-  content_key : (c : Follows) → content key at src c ≡ is f → f.key ≡ key
+  content_key : (c : Follows) → content key at src c ≡ Some f → f.key ≡ key
   unfolding content
   content_key wrong e = no_field e
   content_key aVarint e = numbered_key (varint_at at src) e
   content_key (bytes n) e = inside_key (leb (at + n) (length src)) (from_little (take n (drop at src))) at (at + n) e
   content_key (aBody body) e = bodied_key (varint_at at src) e
 
-  content_right : content key at src wrong ≡ is f → ⊥
+  content_right : content key at src wrong ≡ Some f → ⊥
   unfolding content
   content_right e = no_field e
 
-pub field_right : (kind : Kind) (at : ℕ) (src : List ℕ) (f : FieldAt) → field_at kind at src ≡ is f → follows kind f.key ≡ wrong → ⊥
+pub field_right : (kind : Kind) (at : ℕ) (src : List ℕ) (f : FieldAt) → field_at kind at src ≡ Some f → follows kind f.key ≡ wrong → ⊥
 unfolding field_at
 field_right kind at src f e w = by (varint_at at src) e
   where
-    by : (v : VarintAt) → keyed kind src v ≡ is f → ⊥
-    by (number key start) h =
+    by : (v : VarintAt) → keyed kind src v ≡ Some f → ⊥
+    by (Some (key, start)) h =
         let k : follows kind key ≡ wrong = rw (content_key key start src f (follows kind key) h) at w in
         content_right key start src f (rw k at h)
-    by noNumber h = no_field 0 at src f h
+    by None h = no_field 0 at src f h

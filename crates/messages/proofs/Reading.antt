@@ -13,10 +13,10 @@ use mir.Val.{Fits}
 use Rattle.promise.proofs.Steps.{next}
 use Rattle.wire.specs.Reading.{VarintRead, good, cut, over, behind, read_of, read_varint}
 use Rattle.wire.proofs.Varints.{limit}
-use Rattle.messages.specs.declared.numbers.VarintAt.{VarintAt}
-use Rattle.messages.specs.declared.numbers.VarintAt.TheVariants.{Is as number, Faulty as noNumber}
 use Rattle.messages.specs.Fields.{placed, varint_at}
 use Rattle.messages.specs.Asking.{next_of}
+use Rattle.std.specs.Prelude.{Some, None}
+use Rattle.messages.specs.Fields.{VarintAt}
 
 -- ---- what stands at a place decides
 none_left : (top more : ℕ) (src : List ℕ) (i : ℕ) → length src ≤ i → read_of top more (drop i src) ≡ cut
@@ -44,9 +44,9 @@ module _ (src : List ℕ) (i more : ℕ) (h : i < length src) (e : more ≡ 0) w
 
 -- ---- the number so far, the value of a next bit and the place, and what is read from there on
 abbrev taken : ℕ → ℕ → ℕ → VarintRead → VarintAt
-taken n unit i (good m k) = number (n + unit * m) (i + k)
-taken n unit i cut = noNumber
-taken n unit i (over p) = noNumber
+taken n unit i (good m k) = Some (n + unit * m, i + k)
+taken n unit i cut = None
+taken n unit i (over p) = None
 
 taken_behind : (n unit i low : ℕ) (r : VarintRead) → taken n unit i (behind low r) ≡ taken (n + unit * low) (unit * 128) (i + 1) r
 taken_behind n unit i low (good m k) =
@@ -56,12 +56,13 @@ taken_behind n unit i low (good m k) =
 taken_behind n unit i low cut = refl
 taken_behind n unit i low (over p) = refl
 
-pub record Long (src : List ℕ) (at n unit i : ℕ) : Type 0 where
-  pub past : at < i
-  pub few : i - at ≤ 9
-  pub power : unit ≡ limit (i - at)
+-- k bytes from the place on have the highest bit
+pub record Long (src : List ℕ) (at n unit k : ℕ) : Type 0 where
+  pub past : 1 ≤ k
+  pub few : k ≤ 9
+  pub power : unit ≡ limit k
   pub small : n < unit
-  pub rest : varint_at at src ≡ taken n unit i (read_of 2 (9 - (i - at)) (drop i src))
+  pub rest : varint_at at src ≡ taken n unit (at + k) (read_of 2 (9 - k) (drop (at + k) src))
 
 limit_some : (k : ℕ) → 1 ≤ limit k
 limit_some zero = omega arith
@@ -73,16 +74,15 @@ limit_mono (suc j) zero h = absurd (omega arith)
 limit_mono (suc j) (suc k) h = omega (arith, limit_mono j k (omega arith))
 
 -- ---- the loop that reads the number
-pub long_start : (src : List ℕ) (at : ℕ) → at < length src → 128 ≤ get_or src at 0 → (r : ℕ) → r ≡ get_or src at 0 → Long src at (r % 128) 128 (at + 1)
+pub long_start : (src : List ℕ) (at : ℕ) → at < length src → 128 ≤ get_or src at 0 → (r : ℕ) → r ≡ get_or src at 0 → Long src at (r % 128) 128 1
 unfolding varint_at read_varint
 long_start src at h t r e =
-    let d : at + 1 - at ≡ 1 = omega arith in
     record {
       past = omega arith;
       few = omega arith;
-      power = rw d refl;
+      power = refl;
       small = omega arith;
-      rest = ap (placed at) (goes_on src at 9 h 8 refl t) ∙ rw (← e, d) (from_first (read_of 2 8 (drop (at + 1) src)));
+      rest = ap (placed at) (goes_on src at 9 h 8 refl t) ∙ rw (← e) (from_first (read_of 2 8 (drop (at + 1) src)));
     }
   where
     from_first : (v : VarintRead) → placed at (behind (r % 128) v) ≡ taken (r % 128) 128 (at + 1) v
@@ -90,16 +90,16 @@ long_start src at h t r e =
     from_first cut = refl
     from_first (over p) = refl
 
-module _ (src : List ℕ) (at n unit i : ℕ) (I : Long src at n unit i) where
+module _ (src : List ℕ) (at n unit k : ℕ) (I : Long src at n unit k) where
   -- nine bytes of seven bits, eight of them where one may follow
   unit_nine : unit ≤ 9223372036854775808
-  unit_nine = omega (arith, I.power, limit_mono (i - at) 9 I.few)
+  unit_nine = omega (arith, I.power, limit_mono k 9 I.few)
 
-  unit_eight : i - at < 9 → unit ≤ 72057594037927936
-  unit_eight h = omega (arith, I.power, limit_mono (i - at) 8 (omega arith))
+  unit_eight : k < 9 → unit ≤ 72057594037927936
+  unit_eight h = omega (arith, I.power, limit_mono k 8 (omega arith))
 
   -- so that every sum on the way has 64 bits
-  module _ (r b : ℕ) (h : i - at < 9) (t : b < 128) (e : r ≡ b) where
+  module _ (r b : ℕ) (h : k < 9) (t : b < 128) (e : r ≡ b) where
     product : unit * r ≤ 9151314442816847872
     product = let c : r ≤ 127 = omega arith in mul-le-mul (unit_eight h) c
 
@@ -109,13 +109,13 @@ module _ (src : List ℕ) (at n unit i : ℕ) (I : Long src at n unit i) where
     pub sum_fits : Fits w64 (n + unit * r)
     sum_fits = record { fits = omega (arith, product, I.small, unit_nine) }
 
-  pub low_product_fits : (r : ℕ) → i - at < 9 → Fits w64 (unit * (r % 128))
+  pub low_product_fits : (r : ℕ) → k < 9 → Fits w64 (unit * (r % 128))
   low_product_fits r h = product_fits (r % 128) (r % 128) h (omega arith) refl
 
-  pub low_sum_fits : (r : ℕ) → i - at < 9 → Fits w64 (n + unit * (r % 128))
+  pub low_sum_fits : (r : ℕ) → k < 9 → Fits w64 (n + unit * (r % 128))
   low_sum_fits r h = sum_fits (r % 128) (r % 128) h (omega arith) refl
 
-  pub unit_fits : i - at < 9 → Fits w64 (unit * 128)
+  pub unit_fits : k < 9 → Fits w64 (unit * 128)
   unit_fits h = record { fits = omega (arith, unit_eight h) }
 
   module _ (r b : ℕ) (t : b < 2) (e : r ≡ b) where
@@ -128,76 +128,77 @@ module _ (src : List ℕ) (at n unit i : ℕ) (I : Long src at n unit i) where
     pub last_sum_fits : Fits w64 (n + unit * r)
     last_sum_fits = record { fits = omega (arith, last_product, I.small, unit_nine) }
 
-  pub long_cut : length src ≤ i → noNumber ≡ varint_at at src
-  long_cut h = sym (I.rest ∙ rw (none_left 2 (9 - (i - at)) src i h) refl)
+  pub long_cut : length src ≤ at + k → None ≡ varint_at at src
+  long_cut h = sym (I.rest ∙ rw (none_left 2 (9 - k) src (at + k) h) refl)
 
-  pub long_ends : i - at < 9 → i < length src → get_or src i 0 < 128 → (r : ℕ) → r ≡ get_or src i 0 → number (n + unit * r) (i + 1) ≡ varint_at at src
-  long_ends f h t r e = sym (I.rest ∙ rw (ends_here src i (9 - (i - at)) h (8 - (i - at)) (omega arith) t, e) refl)
+  pub long_ends : k < 9 → at + k < length src → get_or src (at + k) 0 < 128 → (r : ℕ) → r ≡ get_or src (at + k) 0 → Some (n + unit * r, at + k + 1) ≡ varint_at at src
+  long_ends f h t r e = sym (I.rest ∙ rw (ends_here src (at + k) (9 - k) h (8 - k) (omega arith) t, e) refl)
 
-  pub long_tenth : 9 ≤ i - at → i < length src → get_or src i 0 < 2 → (r : ℕ) → r ≡ get_or src i 0 → number (n + unit * r) (i + 1) ≡ varint_at at src
-  long_tenth f h t r e = sym (I.rest ∙ rw (tenth_ends src i (9 - (i - at)) h (omega arith) t, e) refl)
+  pub long_tenth : 9 ≤ k → at + k < length src → get_or src (at + k) 0 < 2 → (r : ℕ) → r ≡ get_or src (at + k) 0 → Some (n + unit * r, at + k + 1) ≡ varint_at at src
+  long_tenth f h t r e = sym (I.rest ∙ rw (tenth_ends src (at + k) (9 - k) h (omega arith) t, e) refl)
 
-  pub long_over : 9 ≤ i - at → i < length src → 2 ≤ get_or src i 0 → noNumber ≡ varint_at at src
-  long_over f h t = sym (I.rest ∙ rw (tenth_over src i (9 - (i - at)) h (omega arith) t) refl)
+  pub long_over : 9 ≤ k → at + k < length src → 2 ≤ get_or src (at + k) 0 → None ≡ varint_at at src
+  long_over f h t = sym (I.rest ∙ rw (tenth_over src (at + k) (9 - k) h (omega arith) t) refl)
 
-  pub long_turn : i - at < 9 → i < length src → 128 ≤ get_or src i 0 → (r : ℕ) → r ≡ get_or src i 0 → Long src at (n + unit * (r % 128)) (unit * 128) (i + 1)
+  pub long_turn : k < 9 → at + k < length src → 128 ≤ get_or src (at + k) 0 → (r : ℕ) → r ≡ get_or src (at + k) 0 → Long src at (n + unit * (r % 128)) (unit * 128) (k + 1)
   long_turn f h t r e =
-      let d : i + 1 - at ≡ suc (i - at) = omega (arith, I.past) in
+      let d : k + 1 ≡ suc k = omega arith in
+      let j : at + (k + 1) ≡ at + k + 1 = omega arith in
       let c : r % 128 ≤ 127 = omega arith in
       let g : unit * (r % 128) ≤ unit * 127 = mul-le-mul_left unit c in
-      let m : 8 - (i - at) ≡ 9 - suc (i - at) = omega arith in
+      let m : 9 - (k + 1) ≡ 8 - k = omega arith in
       record {
-        past = omega (arith, I.past);
-        few = omega (arith, I.past);
+        past = omega arith;
+        few = omega arith;
         power = rw d (omega (arith, I.power));
         small = omega (arith, I.small, g);
         rest =
-            I.rest ∙ ap (taken n unit i) (goes_on src i (9 - (i - at)) h (8 - (i - at)) (omega arith) t) ∙ taken_behind n unit i (get_or src i 0 % 128) (read_of 2 (8 - (i - at)) (drop (i + 1) src))
-            ∙ rw (← e, d, m) refl;
+            I.rest ∙ ap (taken n unit (at + k)) (goes_on src (at + k) (9 - k) h (8 - k) (omega arith) t) ∙ taken_behind n unit (at + k) (get_or src (at + k) 0 % 128) (read_of 2 (8 - k) (drop (at + k + 1) src))
+            ∙ rw (← e, j, m) refl;
       }
 
 -- ---- at its first byte
-pub first_none : (src : List ℕ) (at : ℕ) → length src ≤ at → noNumber ≡ varint_at at src
+pub first_none : (src : List ℕ) (at : ℕ) → length src ≤ at → None ≡ varint_at at src
 unfolding varint_at read_varint
 first_none src at h = rw (none_left 2 9 src at h) refl
 
-pub first_ends : (src : List ℕ) (at : ℕ) → at < length src → get_or src at 0 < 128 → (r : ℕ) → r ≡ get_or src at 0 → number r (at + 1) ≡ varint_at at src
+pub first_ends : (src : List ℕ) (at : ℕ) → at < length src → get_or src at 0 < 128 → (r : ℕ) → r ≡ get_or src at 0 → Some (r, at + 1) ≡ varint_at at src
 unfolding varint_at read_varint
 first_ends src at h t r e = rw (ends_here src at 9 h 8 refl t, e) refl
 
 -- ---- the loop that passes over it: the same, with a number that is not kept, and five bytes at most
-pub record Far (src : List ℕ) (at i : ℕ) : Type 0 where
+pub record Far (src : List ℕ) (at k : ℕ) : Type 0 where
   pub n : ℕ
   pub unit : ℕ
-  pub long : Long src at n unit i
+  pub long : Long src at n unit k
 
-pub far_start : (src : List ℕ) (at : ℕ) → at < length src → 128 ≤ get_or src at 0 → Far src at (at + 1)
+pub far_start : (src : List ℕ) (at : ℕ) → at < length src → 128 ≤ get_or src at 0 → Far src at 1
 far_start src at h t = record { n = get_or src at 0 % 128; unit = 128; long = long_start src at h t (get_or src at 0) refl }
 
-module _ (src : List ℕ) (at i : ℕ) (I : Far src at i) where
-  pub far_cut : length src ≤ i → 0 ≡ next_of (varint_at at src)
-  far_cut h = ap next_of (long_cut src at I.n I.unit i I.long h)
+module _ (src : List ℕ) (at k : ℕ) (I : Far src at k) where
+  pub far_cut : length src ≤ at + k → None ≡ next_of (varint_at at src)
+  far_cut h = ap next_of (long_cut src at I.n I.unit k I.long h)
 
-  pub far_ends : i - at < 5 → i < length src → get_or src i 0 < 128 → i + 1 ≡ next_of (varint_at at src)
-  far_ends f h t = ap next_of (long_ends src at I.n I.unit i I.long (omega arith) h t (get_or src i 0) refl)
+  pub far_ends : k < 5 → at + k < length src → get_or src (at + k) 0 < 128 → Some (at + k + 1) ≡ next_of (varint_at at src)
+  far_ends f h t = ap next_of (long_ends src at I.n I.unit k I.long (omega arith) h t (get_or src (at + k) 0) refl)
 
-  pub far_turn : i - at < 5 → i < length src → 128 ≤ get_or src i 0 → Far src at (i + 1)
+  pub far_turn : k < 5 → at + k < length src → 128 ≤ get_or src (at + k) 0 → Far src at (k + 1)
   far_turn f h t =
-      record { n = I.n + I.unit * (get_or src i 0 % 128); unit = I.unit * 128; long = long_turn src at I.n I.unit i I.long (omega arith) h t (get_or src i 0) refl }
+      record { n = I.n + I.unit * (get_or src (at + k) 0 % 128); unit = I.unit * 128; long = long_turn src at I.n I.unit k I.long (omega arith) h t (get_or src (at + k) 0) refl }
 
 module _ (src : List ℕ) (at : ℕ) (r : VarintAt) (g : r ≡ varint_at at src) where
-  pub far_is : (n next : ℕ) → r ≡ number n next → next ≡ next_of (varint_at at src)
+  pub far_is : (n next : ℕ) → r ≡ Some (n, next) → Some next ≡ next_of (varint_at at src)
   far_is n next e = ap next_of (sym e ∙ g)
 
-  pub far_not : r ≡ noNumber → 0 ≡ next_of (varint_at at src)
+  pub far_not : r ≡ None → None ≡ next_of (varint_at at src)
   far_not e = ap next_of (sym e ∙ g)
 
 -- ---- at its second byte
 module _ (src : List ℕ) (at : ℕ) (h : at < length src) (t : 128 ≤ get_or src at 0) where
-  pub second_none : length src - at < 2 → noNumber ≡ varint_at at src
-  second_none g = long_cut src at (get_or src at 0 % 128) 128 (at + 1) (long_start src at h t (get_or src at 0) refl) (omega arith)
+  pub second_none : length src ≤ at + 1 → None ≡ varint_at at src
+  second_none g = long_cut src at (get_or src at 0 % 128) 128 1 (long_start src at h t (get_or src at 0) refl) g
 
-  pub second_ends : 2 ≤ length src - at → get_or src (at + 1) 0 < 128 → (r s : ℕ) → r ≡ get_or src at 0 → s ≡ get_or src (at + 1) 0 → number (r % 128 + 128 * s) (at + 2) ≡ varint_at at src
+  pub second_ends : at + 1 < length src → get_or src (at + 1) 0 < 128 → (r s : ℕ) → r ≡ get_or src at 0 → s ≡ get_or src (at + 1) 0 → Some (r % 128 + 128 * s, at + 2) ≡ varint_at at src
   second_ends g u r s d e =
       let p : at + 2 ≡ at + 1 + 1 = omega arith in
-      rw p (long_ends src at (r % 128) 128 (at + 1) (long_start src at h t r d) (omega arith) (omega arith) u s e)
+      rw p (long_ends src at (r % 128) 128 1 (long_start src at h t r d) (omega arith) g u s e)

@@ -26,15 +26,14 @@ use Rattle.messages.specs.declared.key.Body.{Body}
 use Rattle.messages.specs.declared.key.Body.TheVariants.{Any as any, Varints as varintsIn, Within as within}
 use Rattle.messages.specs.declared.key.Follows.{Follows}
 use Rattle.messages.specs.declared.key.Follows.TheVariants.{AVarint as aVarint, Bytes as bytes, ABody as aBody}
-use Rattle.messages.specs.declared.numbers.VarintAt.TheVariants.{Is as is_number}
 use Rattle.messages.specs.declared.field.FieldAt.{FieldAt}
-use Rattle.messages.specs.declared.field.NextField.TheVariants.{Is as is}
 use Rattle.messages.specs.Keys.{follows}
 use Rattle.messages.specs.Fields.{varint_at, from_little, field_from, content, field_at}
 use Rattle.messages.specs.Fields.{before, fields_from, number_before, numbers_from}
 use Rattle.messages.specs.Tiles.{is_body, is_content, all_hold, is_message}
 use Rattle.messages.specs.Meaning.{body_of, fields_of, packed_numbers}
 use Rattle.messages.proofs.Fields.{field_ends, fields_step, fields_end, numbers_step, numbers_end}
+use Rattle.std.specs.Prelude.{Some}
 
 -- ---- numbers where they stand
 pub little_back : (more n : ℕ) → n < 256 ^ more → from_little (little more n) ≡ n
@@ -42,11 +41,11 @@ little_back zero n h = omega arith
 little_back (suc more) n h = let e = little_back more (n / 256) (omega arith) in omega (arith, e)
 
 module _ (front rest : List ℕ) (at : ℕ) (e : length front ≡ at) where
-  pub varint_here : (n : ℕ) → n < 18446744073709551616 → varint_at at (front ++ (varint n ++ rest)) ≡ is_number n (at + length (varint n))
+  pub varint_here : (n : ℕ) → n < 18446744073709551616 → varint_at at (front ++ (varint n ++ rest)) ≡ Some (n, at + length (varint n))
   unfolding varint_at
   varint_here n h = rw (drop_at front (varint n ++ rest) at e, varint_back n rest h)
 
-  pub head_here : (f : Field) → varint_at at (front ++ (head f ++ rest)) ≡ is_number (key_of f) (at + 1)
+  pub head_here : (f : Field) → varint_at at (front ++ (head f ++ rest)) ≡ Some (key_of f, at + 1)
   unfolding varint_at
   head_here f = rw (drop_at front (head f ++ rest) at e, head_back f rest)
 
@@ -234,7 +233,7 @@ module _ (kind : Kind) (front rest : List ℕ) (f : Field) where
       → field_at kind (length front) src ≡ content (key_of f) (length front + 1) src c
   unfolding field_at
   key_read src e c g =
-      let h : varint_at (length front) src ≡ is_number (key_of f) (length front + 1) =
+      let h : varint_at (length front) src ≡ Some (key_of f, length front + 1) =
       ap (varint_at (length front)) e ∙ head_here front rest (length front) refl f in
       rw (h, g)
 
@@ -242,23 +241,23 @@ module _ (kind : Kind) (front rest : List ℕ) (f : Field) where
   behind_head = length-append front (head f) ∙ omega (arith, head_one f)
 
   pub number_read : (n : ℕ) (after : List ℕ) → rest ≡ varint n ++ after → follows kind (key_of f) ≡ aVarint → n < 18446744073709551616
-      → field_at kind (length front) (front ++ (head f ++ rest)) ≡ is (field_of (length front) (number f n))
+      → field_at kind (length front) (front ++ (head f ++ rest)) ≡ Some (field_of (length front) (number f n))
   unfolding content
   number_read n after r g h =
       let src = front ++ (head f ++ rest) in
       let e : src ≡ (front ++ head f) ++ (varint n ++ after) = sym (append_assoc front (head f) rest) ∙ ap (λ (l : List ℕ). (front ++ head f) ++ l) r in
-      let v : varint_at (length front + 1) src ≡ is_number n (length front + 1 + length (varint n)) =
+      let v : varint_at (length front + 1) src ≡ Some (n, length front + 1 + length (varint n)) =
       ap (varint_at (length front + 1)) e ∙ varint_here (front ++ head f) after (length front + 1) behind_head n h in
       key_read src refl aVarint g ∙ rw (v, head_one f)
 
   pub body_read : (b after : List ℕ) → rest ≡ varint (length b) ++ (b ++ after) → (what : Body) → follows kind (key_of f) ≡ aBody what
-      → length b < 18446744073709551616 → field_at kind (length front) (front ++ (head f ++ rest)) ≡ is (field_of (length front) (body f b))
+      → length b < 18446744073709551616 → field_at kind (length front) (front ++ (head f ++ rest)) ≡ Some (field_of (length front) (body f b))
   unfolding content
   body_read b after r what g h =
       let src = front ++ (head f ++ rest) in
       let e : src ≡ (front ++ head f) ++ (varint (length b) ++ (b ++ after)) =
       sym (append_assoc front (head f) rest) ∙ ap (λ (l : List ℕ). (front ++ head f) ++ l) r in
-      let v : varint_at (length front + 1) src ≡ is_number (length b) (length front + 1 + length (varint (length b))) =
+      let v : varint_at (length front + 1) src ≡ Some (length b, length front + 1 + length (varint (length b))) =
       ap (varint_at (length front + 1)) e ∙ varint_here (front ++ head f) (b ++ after) (length front + 1) behind_head (length b) h in
       let s : length front + length (varint_field f (length b)) ≡ length front + 1 + length (varint (length b)) =
       omega (arith, varint_field_long f (length b)) in
@@ -275,7 +274,7 @@ module _ (kind : Kind) (front rest : List ℕ) (f : Field) where
 
   -- n bytes that stand for a number
   pub fixed_read : (n value : ℕ) (l after : List ℕ) → rest ≡ l ++ after → length l ≡ n → from_little l ≡ value → follows kind (key_of f) ≡ bytes n
-      → field_at kind (length front) (front ++ (head f ++ rest)) ≡ is (field_from (key_of f) value (length front + 1) (length front + 1 + n))
+      → field_at kind (length front) (front ++ (head f ++ rest)) ≡ Some (field_from (key_of f) value (length front + 1) (length front + 1 + n))
   unfolding content
   fixed_read n value l after r t v g =
       let src = front ++ (head f ++ rest) in
@@ -289,7 +288,7 @@ module _ (kind : Kind) (front rest : List ℕ) (f : Field) where
 
 module _ (P : Kind → ℕ → List ℕ → Bool) (kind : Kind) where
   pub piece_read : (front rest : List ℕ) (p : Piece) → Good P kind p
-      → field_at kind (length front) (front ++ (written p ++ rest)) ≡ is (field_of (length front) p)
+      → field_at kind (length front) (front ++ (written p ++ rest)) ≡ Some (field_of (length front) p)
   piece_read front rest (number f n) g = rw append_assoc (number_read kind front (varint n ++ rest) f n rest refl g.0 g.1)
   piece_read front rest (four f n) g =
       rw (append_assoc, head_one f, four_long n)

@@ -1,10 +1,9 @@
 -- PB, a field's key: 8 × number + wire type, the number 1..536,870,911. What follows it goes by the wire type; a field that MVT's schema knows must have its own type.
-use Rattle.std.specs.Prelude.{ℕ, ◌/◌, ◌%◌, Bool, cond, ◌&&◌, leb, eqb}
+use Rattle.std.specs.Prelude.{ℕ, ◌/◌, ◌%◌, cond, ◌&&◌, leb, eqb}
 use Rattle.messages.specs.declared.key.Kind.{Kind}
 use Rattle.messages.specs.declared.key.Kind.TheVariants.{Tile as tile, Layer as layer, Feature as feature, Value as value}
 use Rattle.messages.specs.declared.key.Holds.{Holds}
 use Rattle.messages.specs.declared.key.Holds.TheVariants.{Number as number, Four as four, Eight as eight, Text as text, Numbers as numbers, Message as message, Unknown as unknown}
-use Rattle.messages.specs.declared.key.Body.{Body}
 use Rattle.messages.specs.declared.key.Body.TheVariants.{Any as any, Varints as varints, Within as within}
 use Rattle.messages.specs.declared.key.Follows.{Follows}
 use Rattle.messages.specs.declared.key.Follows.TheVariants.{Wrong as wrong, AVarint as aVarint, Bytes as bytes, ABody as aBody}

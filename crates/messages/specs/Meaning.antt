@@ -1,7 +1,7 @@
 -- Request (i): what the fields of a good tile say. "Fields may come in any order; of a single-valued field that comes twice, the last counts. Tags and geometry
 -- are taken packed or unpacked. A missing version, extent or type reads as the default in MVT's schema, a missing name as empty; 32-bit fields take the low 32
 -- bits. A value with no kind reads as empty, with several as the lowest field."
-use Rattle.std.specs.Prelude.{ℕ, suc, ◌+◌, ◌*◌, ◌-◌, ◌%◌, Bool, cond, not, List, [], ◌∷◌, ◌++◌, map, eqb, ℤ, take, drop}
+use Rattle.std.specs.Prelude.{ℕ, ◌+◌, ◌*◌, ◌%◌, Bool, cond, not, List, [], ◌∷◌, ◌++◌, map, eqb, ℤ, take, drop}
 use Rattle.std.proofs.Math.Option.{Option, none, some}
 use Rattle.whole.specs.Twos.{signed64}
 use Rattle.words.specs.Params.{unparam}

@@ -11,19 +11,19 @@ ghost use Rattle.number.specs.Least.{smaller};
 pub fn wide(word: u32) -> usize
     ensures { Wide word result }
 {
-    word as usize
+    word as usize // `usize` has no `From<u32>`
 }
 
 pub fn long(word: u32) -> u64
     ensures { Wide word result }
 {
-    word as u64
+    u64::from(word)
 }
 
 pub fn signed_long(n: i32) -> i64
     ensures { result ≡ n }
 {
-    n as i64
+    i64::from(n)
 }
 
 // ---- 64 bits as two words
@@ -42,53 +42,38 @@ pub fn high(bits: u64) -> u32
 pub fn of_halves(low: u32, high: u32) -> u64
     ensures { result ≡ wide low high }
 {
-    low as u64 + 4_294_967_296 * high as u64
+    u64::from(low) + 4_294_967_296 * u64::from(high)
 }
 
 // ---- two's complement: a word read as a signed number, and a signed number's bits
-pub fn signed32(n: u32) -> i32
-    ensures { result ≡ signed32 n }
+pub fn signed32(word: u32) -> i32
+    ensures { result ≡ signed32 word }
 {
-    if n < 2_147_483_648 {
-        return n as i32;
-    }
-    -1 - ((4_294_967_295 - n) as i32)
+    word.cast_signed()
 }
 
-pub fn signed64(n: u64) -> i64
-    ensures { result ≡ signed64 n }
+pub fn signed64(bits: u64) -> i64
+    ensures { result ≡ signed64 bits }
 {
-    if n < 9_223_372_036_854_775_808 {
-        return n as i64;
-    }
-    -1 - ((18_446_744_073_709_551_615 - n) as i64)
+    bits.cast_signed()
 }
 
 pub fn bits_of(n: i64) -> u64
     ensures { result ≡ bits_of n }
 {
-    if n < 0 {
-        return 18_446_744_073_709_551_615 - ((-1 - n) as u64);
-    }
-    n as u64
+    n.cast_unsigned()
 }
 
-// ---- how far a number is from zero: the least i64 has no opposite, but the number above it has
+// ---- how far a number is from zero
 pub fn magnitude(n: i64) -> u64
     ensures { result ≡ nat_abs n }
 {
-    if n < 0 {
-        return ((-1 - n) as u64) + 1;
-    }
-    n as u64
+    n.unsigned_abs()
 }
 
 // ---- the smaller of two
 pub fn smaller(a: usize, b: usize) -> usize
     ensures { result ≡ smaller a b }
 {
-    if a <= b {
-        return a;
-    }
-    b
+    a.min(b)
 }

@@ -12,8 +12,8 @@ use Rattle.promise.specs.Laid.{lay}
 use Rattle.refusal.specs.declared.Refusal.TheVariants.{Job, Room}
 use Rattle.refusal.specs.Said.{Said, accepted, refused}
 use Rattle.refusal.proofs.Laws.{one_refusal, never_both}
-use Rattle.number_file.specs.declared.Numbers.{Numbers}
-use Rattle.number_file.specs.declared.Numbers.TheVariants.{Read, Refused}
+use Rattle.std.specs.Prelude.{Result, Ok, Err}
+use Rattle.refusal.specs.declared.Refusal.{Refusal}
 use Rattle.number_file.specs.Numbers.{numbers_of, number_at, said_numbers, max_bytes, reading}
 
 pub numbers_long : (l : List ℕ) → length (numbers_of l) ≡ length l / 4
@@ -37,11 +37,11 @@ numbers_at (a ∷ b ∷ c ∷ d ∷ rest) (suc i) h =
     rw (e0, e1, e2, e3) (numbers_at rest i (omega arith))
 
 -- ---- one value for each answer
-pub one_numbers : (r r' : Numbers) → said_numbers r ≡ said_numbers r' → r ≡ r'
-one_numbers (Read n) (Read n') e = ap (λ (s : Said ℕ). Read s.values) e
-one_numbers (Read n) (Refused r) e = absurd (never_both r e)
-one_numbers (Refused r) (Read n) e = absurd (never_both r (sym e))
-one_numbers (Refused r) (Refused r') e = ap Refused (one_refusal r r' e)
+pub one_numbers : (r r' : Result ℕ Refusal) → said_numbers r ≡ said_numbers r' → r ≡ r'
+one_numbers (Ok n) (Ok n') e = ap (λ (s : Said ℕ). Ok s.values) e
+one_numbers (Ok n) (Err r) e = absurd (never_both r e)
+one_numbers (Err r) (Ok n) e = absurd (never_both r (sym e))
+one_numbers (Err r) (Err r') e = ap Err (one_refusal r r' e)
 
 -- ---- an accepted reading has no more numbers than the list
 pub read_within : (bytes out l : List ℕ) (k : ℕ) → Gives (reading bytes out) (accepted k) l → k ≤ length out

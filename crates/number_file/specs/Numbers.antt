@@ -4,8 +4,8 @@ use Rattle.promise.specs.Answers.{Written, kept}
 use Rattle.promise.specs.Laid.{lay}
 use Rattle.refusal.specs.declared.Refusal.TheVariants.{Job, Room}
 use Rattle.refusal.specs.Said.{Said, accepted, refused}
-use Rattle.number_file.specs.declared.Numbers.{Numbers}
-use Rattle.number_file.specs.declared.Numbers.TheVariants.{Read, Refused}
+use Rattle.std.specs.Prelude.{Result, Ok, Err}
+use Rattle.refusal.specs.declared.Refusal.{Refusal}
 
 abbrev pub max_bytes : ℕ
 max_bytes = 65536
@@ -37,6 +37,6 @@ reading bytes out =
     (kept (refused Job 0) out))
     (kept (refused Job 0) out)
 
-abbrev pub said_numbers : Numbers → Said ℕ
-said_numbers (Read n) = accepted n
-said_numbers (Refused r) = refused r 0
+abbrev pub said_numbers : Result ℕ Refusal → Said ℕ
+said_numbers (Ok n) = accepted n
+said_numbers (Err r) = refused r 0

@@ -13,12 +13,6 @@ pub struct File {
     pub length: usize,
 }
 
-#[derive(Clone, Copy)]
-pub enum Numbers {
-    Read(usize),
-    Refused(Refusal),
-}
-
 impl File {
     pub const MAX_BYTES: usize = 65_536;
 
@@ -33,7 +27,7 @@ impl File {
 fn number_of(a: u8, b: u8, c: u8, d: u8) -> u32
     ensures { result ≡ number a b c d }
 {
-    (a as u32) + 256 * (b as u32) + 65_536 * (c as u32) + 16_777_216 * (d as u32)
+    u32::from_le_bytes([a, b, c, d])
 }
 
 // The number at a place of the bytes.
@@ -49,28 +43,26 @@ fn lay_numbers(bytes: &[u8], out: &mut [u32])
     requires { length bytes.now / 4 ≤ length out.old }
     ensures { out.new ≡ lay 0 (numbers_of bytes.now) out.old }
 {
-    let n = bytes.len() / 4;
-    let mut i = 0;
-    while i < n {
+    for i in 0..bytes.len() / 4 {
         out[i] = number_at(bytes, 4 * i);
-        i += 1;
     }
 }
 
 // Lays a file's numbers at the front of `out`, and answers how many there are.
-pub fn read_numbers(bytes: &[u8], out: &mut [u32]) -> Numbers
+#[tactic(auto, unfolding(crate::specs::Numbers::reading))]
+pub fn read_numbers(bytes: &[u8], out: &mut [u32]) -> Result<usize, Refusal>
     ensures { Gives (reading bytes.now out.old) (said_numbers result) out.new }
 {
     if File::MAX_BYTES < bytes.len() {
-        return Numbers::Refused(Refusal::Job);
+        return Err(Refusal::Job);
     }
     if bytes.len() % 4 != 0 {
-        return Numbers::Refused(Refusal::Job);
+        return Err(Refusal::Job);
     }
     let n = bytes.len() / 4;
     if out.len() < n {
-        return Numbers::Refused(Refusal::Room);
+        return Err(Refusal::Room);
     }
     lay_numbers(bytes, out);
-    Numbers::Read(n)
+    Ok(n)
 }

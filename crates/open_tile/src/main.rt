@@ -7,15 +7,15 @@ use opened::quoted::show_quoted;
 use opened::values::show_value;
 use opened::{Piece, show_feature, show_layer_end, show_layers, show_numbers};
 use printed::{Text, first_bytes, first_words, show_refused};
-use reader::entries::{NextKey, NextValue, ValueAt, next_key_at, next_value_at};
-use reader::features::{FeatureHead, NextFeature, next_feature_at};
-use reader::into::{Laid, geometry_into, tags_into};
-use reader::layers::{LayerHead, NextLayer, Part, next_layer_at};
+use reader::entries::{ValueAt, next_key_at, next_value_at};
+use reader::features::{FeatureHead, next_feature_at};
+use reader::into::{geometry_into, tags_into};
+use reader::layers::{LayerHead, next_layer_at};
 use reader::parts::text_at;
 use refusal::{Fault, Refusal};
 use std::io;
 use std::io::Write;
-use tile_check::{Checked, check};
+use tile_check::check;
 
 // The bytes that a tile may have here: twice what the program `tiles` writes.
 const MOST: usize = 262_144;
@@ -32,9 +32,8 @@ fn print<R: Print>(rt: &R, bytes: &[u8]) -> io::Result<()> {
 }
 
 fn print_refused<R: Print>(rt: &R, f: Fault) -> io::Result<()> {
-    let r = f.refusal;
     let mut text = [0u8; Text::REFUSED];
-    let n = show_refused(refusal::number(r), f.place, &mut text);
+    let n = show_refused(refusal::number(f.refusal), f.place, &mut text);
     print(rt, first_bytes(&text, n))
 }
 
@@ -54,10 +53,8 @@ fn print_escaped<R: Print>(rt: &R, bytes: &[u8], is_text: bool) -> io::Result<()
 fn print_quoted<R: Print>(rt: &R, bytes: &[u8]) -> io::Result<()> {
     let is_text = utf8::is_utf8(bytes);
     print(rt, b"\"")?;
-    let mut at = 0;
-    while at < bytes.len() {
-        print_escaped(rt, first_bytes(&bytes[at..], PORTION), is_text)?;
-        at += PORTION;
+    for portion in bytes.chunks(PORTION) {
+        print_escaped(rt, portion, is_text)?;
     }
     print(rt, b"\"")
 }
@@ -70,19 +67,16 @@ fn print_some<R: Print>(rt: &R, numbers: &[u32]) -> io::Result<()> {
 
 // The numbers of a list, which stand on one line.
 fn print_numbers<R: Print>(rt: &R, numbers: &[u32]) -> io::Result<()> {
-    let mut at = 0;
-    while at < numbers.len() {
-        print_some(rt, first_words(&numbers[at..], PORTION))?;
-        at += PORTION;
+    for portion in numbers.chunks(PORTION) {
+        print_some(rt, portion)?;
     }
     print(rt, b"\n")
 }
 
 // ---- a layer
 fn print_head<R: Print>(rt: &R, src: &[u8], h: LayerHead) -> io::Result<()> {
-    let name = h.name;
     print(rt, b"layer ")?;
-    print_quoted(rt, text_at(src, name.start, name.len))?;
+    print_quoted(rt, text_at(src, h.name.start, h.name.len))?;
     let mut text = [0u8; Piece::LAYER_END];
     let n = show_layer_end(h.version, h.extent, h.keys, h.values, h.features, &mut text);
     print(rt, first_bytes(&text, n))
@@ -90,28 +84,22 @@ fn print_head<R: Print>(rt: &R, src: &[u8], h: LayerHead) -> io::Result<()> {
 
 fn print_keys<R: Print>(rt: &R, src: &[u8], h: LayerHead) -> io::Result<()> {
     let mut at = h.start;
-    let mut i = 0;
-    while i < h.keys {
-        match next_key_at(src, at, h.end) {
-            NextKey::Is(p) => {
-                print(rt, b"key ")?;
-                print_quoted(rt, text_at(src, p.start, p.len))?;
-                print(rt, b"\n")?;
-                at = p.start + p.len;
-            }
-            NextKey::End => return Ok(()),
-            NextKey::Refused(_) => return Ok(()),
-        }
-        i += 1;
+    for _ in 0..h.keys {
+        let Ok(Some(p)) = next_key_at(src, at, h.end) else {
+            return Ok(());
+        };
+        print(rt, b"key ")?;
+        print_quoted(rt, text_at(src, p.start, p.len))?;
+        print(rt, b"\n")?;
+        at = p.start + p.len;
     }
     Ok(())
 }
 
 fn print_value<R: Print>(rt: &R, src: &[u8], v: ValueAt) -> io::Result<()> {
     if v.kind == TEXT {
-        let p = v.text;
         print(rt, b"value text ")?;
-        print_quoted(rt, text_at(src, p.start, p.len))?;
+        print_quoted(rt, text_at(src, v.text.start, v.text.len))?;
         return print(rt, b"\n");
     }
     let mut text = [0u8; Piece::VALUE];
@@ -121,17 +109,12 @@ fn print_value<R: Print>(rt: &R, src: &[u8], v: ValueAt) -> io::Result<()> {
 
 fn print_values<R: Print>(rt: &R, src: &[u8], h: LayerHead) -> io::Result<()> {
     let mut at = h.start;
-    let mut i = 0;
-    while i < h.values {
-        match next_value_at(src, at, h.end) {
-            NextValue::Is(v) => {
-                print_value(rt, src, v)?;
-                at = v.end;
-            }
-            NextValue::End => return Ok(()),
-            NextValue::Refused(_) => return Ok(()),
-        }
-        i += 1;
+    for _ in 0..h.values {
+        let Ok(Some(v)) = next_value_at(src, at, h.end) else {
+            return Ok(());
+        };
+        print_value(rt, src, v)?;
+        at = v.end;
     }
     Ok(())
 }
@@ -139,15 +122,15 @@ fn print_values<R: Print>(rt: &R, src: &[u8], h: LayerHead) -> io::Result<()> {
 // ---- a feature
 fn print_feature_head<R: Print>(rt: &R, h: FeatureHead) -> io::Result<()> {
     let mut text = [0u8; Piece::FEATURE];
-    let n = show_feature(h.kind, h.has_id, h.id, &mut text);
+    let n = show_feature(h.kind, h.id, &mut text);
     print(rt, first_bytes(&text, n))
 }
 
-fn print_laid<R: Print>(rt: &R, laid: Laid, list: &[u32]) -> io::Result<()> {
-    match laid {
-        Laid::Words(n) => print_numbers(rt, first_words(list, n)),
-        Laid::Refused(_) => Ok(()),
-    }
+fn print_laid<R: Print>(rt: &R, laid: Result<usize, Fault>, list: &[u32]) -> io::Result<()> {
+    let Ok(n) = laid else {
+        return Ok(());
+    };
+    print_numbers(rt, first_words(list, n))
 }
 
 fn print_feature<R: Print>(rt: &R, src: &[u8], h: FeatureHead, list: &mut [u32]) -> io::Result<()> {
@@ -162,17 +145,12 @@ fn print_feature<R: Print>(rt: &R, src: &[u8], h: FeatureHead, list: &mut [u32])
 
 fn print_features<R: Print>(rt: &R, src: &[u8], h: LayerHead, list: &mut [u32]) -> io::Result<()> {
     let mut at = h.start;
-    let mut i = 0;
-    while i < h.features {
-        match next_feature_at(src, at, h.end) {
-            NextFeature::Is(f) => {
-                print_feature(rt, src, f, list)?;
-                at = f.end;
-            }
-            NextFeature::End => return Ok(()),
-            NextFeature::Refused(_) => return Ok(()),
-        }
-        i += 1;
+    for _ in 0..h.features {
+        let Ok(Some(f)) = next_feature_at(src, at, h.end) else {
+            return Ok(());
+        };
+        print_feature(rt, src, f, list)?;
+        at = f.end;
     }
     Ok(())
 }
@@ -190,17 +168,12 @@ fn print_tile<R: Print>(rt: &R, src: &[u8], layers: usize) -> io::Result<()> {
     let mut list = [0u32; MOST];
     print_layers(rt, layers)?;
     let mut at = 0;
-    let mut i = 0;
-    while i < layers {
-        match next_layer_at(src, at) {
-            NextLayer::Is(h) => {
-                print_layer(rt, src, h, &mut list)?;
-                at = h.end;
-            }
-            NextLayer::End => return Ok(()),
-            NextLayer::Refused(_) => return Ok(()),
-        }
-        i += 1;
+    for _ in 0..layers {
+        let Ok(Some(h)) = next_layer_at(src, at) else {
+            return Ok(());
+        };
+        print_layer(rt, src, h, &mut list)?;
+        at = h.end;
     }
     Ok(())
 }
@@ -214,8 +187,8 @@ fn answer<R: Print>(rt: &R, src: &[u8]) -> io::Result<()> {
         return print_refused(rt, fault);
     }
     match check(src) {
-        Checked::Good(layers) => print_tile(rt, src, layers),
-        Checked::Refused(f) => print_refused(rt, f),
+        Ok(layers) => print_tile(rt, src, layers),
+        Err(f) => print_refused(rt, f),
     }
 }
 

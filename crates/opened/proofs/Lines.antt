@@ -1,9 +1,9 @@
 -- The lines with numbers: these are laid one behind the other, and the line's end behind the last; and no line is longer than its room.
-use mathlib.Core.Bool.{Bool, true, false}
 use mathlib.Core.List.{List, [], ◌∷◌, ◌++◌, append-nil}
 use Prim.Native.Nat.{ℕ, ◌≤◌}
 use native.Mathlib.Omega.{arith}
 use lib.ListN.{length, length-append}
+use Rattle.std.specs.Prelude.{Option as Maybe, Some, None}
 use Rattle.promise.specs.Answers.{Gives}
 use Rattle.printed.specs.Lending.{appended}
 use Rattle.printed.specs.Printed.{newline, shown}
@@ -16,27 +16,27 @@ pub layers_short : (n : ℕ) → length (layers_text n) ≤ layers_room
 layers_short n = rw (length-append (named layers_head n) (newline ∷ [])) (omega (arith, named_short layers_head n))
 
 -- ---- a feature
-module _ (kind id : ℕ) (text : List ℕ) (h : feature_room ≤ length text) {r s : ℕ} {l n : List ℕ} (g : Gives (appended (named feature_head kind) 0 text) r l) where
-  pub with_id : {q : ℕ} {m : List ℕ} → Gives (appended (named id_head id) r l) q m → Gives (appended (newline ∷ []) q m) s n → Gives (shown feature_room (feature_text kind true id) text) s n
-  with_id {q = q} {m = m} k j = by (named feature_head kind) (named id_head id) (named_short feature_head kind) (named_short id_head id) g k
+module _ (kind : ℕ) (text : List ℕ) (h : feature_room ≤ length text) {r s : ℕ} {l n : List ℕ} (g : Gives (appended (named feature_head kind) 0 text) r l) where
+  pub with_id : (id : ℕ) {q : ℕ} {m : List ℕ} → Gives (appended (named id_head id) r l) q m → Gives (appended (newline ∷ []) q m) s n → Gives (shown feature_room (feature_text kind (Some id)) text) s n
+  with_id id {q = q} {m = m} k j = by (named feature_head kind) (named id_head id) (named_short feature_head kind) (named_short id_head id) g k
     where
       by : (a b : List ℕ) → length a ≤ 33 → length b ≤ 24 → Gives (appended a 0 text) r l → Gives (appended b r l) q m → Gives (shown feature_room (line (a ++ b)) text) s n
       by a b p o g1 g2 =
           front feature_room (line (a ++ b)) text h
           (then_laid (a ++ b) (newline ∷ []) text 0 (rw (length-append a b) (omega arith)) (then_laid a b text 0 (omega arith) g1 g2) j)
 
-  pub without_id : Gives (appended (newline ∷ []) r l) s n → Gives (shown feature_room (feature_text kind false id) text) s n
+  pub without_id : Gives (appended (newline ∷ []) r l) s n → Gives (shown feature_room (feature_text kind None) text) s n
   without_id j = by (named feature_head kind) (named_short feature_head kind) g
     where
       by : (a : List ℕ) → length a ≤ 33 → Gives (appended a 0 text) r l → Gives (shown feature_room (line (a ++ [])) text) s n
       by a p g1 = rw (append-nil a) (front feature_room (line a) text h (then_laid a (newline ∷ []) text 0 (omega arith) g1 j))
 
-pub feature_short : (kind : ℕ) (hasId : Bool) (id : ℕ) → length (feature_text kind hasId id) ≤ feature_room
-feature_short kind true id = by (named feature_head kind) (named id_head id) (named_short feature_head kind) (named_short id_head id)
+pub feature_short : (kind : ℕ) (id : Maybe ℕ) → length (feature_text kind id) ≤ feature_room
+feature_short kind (Some id) = by (named feature_head kind) (named id_head id) (named_short feature_head kind) (named_short id_head id)
   where
     by : (a b : List ℕ) → length a ≤ 33 → length b ≤ 24 → length (line (a ++ b)) ≤ feature_room
     by a b p q = simp length-append (omega arith)
-feature_short kind false id = by (named feature_head kind) (named_short feature_head kind)
+feature_short kind None = by (named feature_head kind) (named_short feature_head kind)
   where
     by : (a : List ℕ) → length a ≤ 33 → length (line (a ++ [])) ≤ feature_room
     by a p = simp length-append (omega arith)

@@ -3,7 +3,7 @@
 --     "layer " TEXT " version " D " extent " D " keys " D " values " D " features " D LF
 --     "feature type " D [" id " D] LF "tags" (" " D)* LF "geometry" (" " D)* LF
 -- Here is what has a number in it; TEXT is in Quoted, the lines of values are in Values, and the other words stand in the program as they are.
-use Rattle.std.specs.Prelude.{ℕ, ◌*◌, Bool, cond, List, [], ◌∷◌, ◌++◌, length}
+use Rattle.std.specs.Prelude.{ℕ, ◌*◌, List, [], ◌∷◌, ◌++◌, length, Option as Maybe, Some, None}
 use Rattle.printed.specs.Decimal.{decimal}
 use Rattle.printed.specs.Printed.{newline, space}
 
@@ -56,8 +56,12 @@ abbrev pub layer_end_text : ℕ → ℕ → ℕ → ℕ → ℕ → List ℕ
 layer_end_text version extent keys values features =
     line (named version_head version ++ named extent_head extent ++ named keys_head keys ++ named values_head values ++ named features_head features)
 
-abbrev pub feature_text : ℕ → Bool → ℕ → List ℕ
-feature_text kind hasId id = line (named feature_head kind ++ cond hasId (named id_head id) [])
+abbrev pub id_text : Maybe ℕ → List ℕ
+id_text None = []
+id_text (Some id) = named id_head id
+
+abbrev pub feature_text : ℕ → Maybe ℕ → List ℕ
+feature_text kind id = line (named feature_head kind ++ id_text id)
 
 -- a portion of the tags or of a geometry, which stand on one line
 abbrev pub numbers_text : List ℕ → List ℕ

@@ -11,8 +11,7 @@ ghost use Rattle.printed.specs.Lending.{Appends, Shows};
 ghost use Rattle.opened.specs.Opened.{named, layers_text, layers_room, layer_end_text, layer_end_room, feature_text, feature_room, numbers_text, numbers_room};
 ghost use Rattle.opened.specs.Values.{hex_digits};
 
-use number::long;
-use runs::lay_bytes;
+use runs::lay;
 
 // The texts that a program lends for a piece.
 #[derive(Clone, Copy)]
@@ -34,7 +33,7 @@ pub(crate) fn append(bytes: &[u8], at: usize, text: &mut [u8]) -> usize
     requires { at + length bytes.now ≤ length text.old }
     ensures { Appends bytes.now at result (mutable text) }
 {
-    lay_bytes(bytes, text, at);
+    lay(bytes, text, at);
     at + bytes.len()
 }
 
@@ -99,14 +98,14 @@ pub fn show_layer_end(
 }
 
 // `feature type N`, with its id where it has one: how many bytes it is. A text shorter than `Piece::FEATURE` stays as it is, and the answer is 0.
-pub fn show_feature(kind: u32, has_id: bool, id: u64, text: &mut [u8]) -> usize
-    ensures { Shows feature_room (feature_text kind has_id id) result (mutable text) }
+pub fn show_feature(kind: u32, id: Option<u64>, text: &mut [u8]) -> usize
+    ensures { Shows feature_room (feature_text kind id) result (mutable text) }
 {
     if text.len() < Piece::FEATURE {
         return 0;
     }
     let at = append_named(b"feature type ", kind as u64, 0, text);
-    if has_id {
+    if let Some(id) = id {
         let next = append_named(b" id ", id, at, text);
         return append(b"\n", next, text);
     }
@@ -122,10 +121,8 @@ pub fn show_numbers(numbers: &[u32], text: &mut [u8]) -> usize
         return 0;
     }
     let mut next = 0;
-    let mut i = 0;
-    while i < n {
-        next = append_named(b" ", long(numbers[i]), next, text);
-        i += 1;
+    for number in numbers {
+        next = append_named(b" ", u64::from(*number), next, text);
     }
     next
 }

@@ -51,10 +51,8 @@ pub fn show_quoted(bytes: &[u8], is_text: bool, text: &mut [u8]) -> usize
         return 0;
     }
     let mut next = 0;
-    let mut i = 0;
-    while i < n {
-        next = append_escaped(bytes[i], is_text, next, text);
-        i += 1;
+    for b in bytes {
+        next = append_escaped(*b, is_text, next, text);
     }
     next
 }

@@ -1,5 +1,6 @@
 // What the programs print, laid out in lent bytes: lines of numbers in decimal, one or two to a line, rows of them, lines of a tile's outcomes, and of
-// bytes in hexadecimal; and how much of a list, and of a text, is printed.
+// bytes in hexadecimal; and how much of a list, and of a text, is printed. By hand and not by `Display`: there is no heap, and a text is proved to its
+// bytes.
 #![tactic(auto)]
 
 pub mod faults; // a refusal, and its place where it has one
@@ -55,11 +56,7 @@ pub(crate) fn append(bytes: &[u8], at: usize, text: &mut [u8])
     requires { at + length bytes.now ≤ length text.old }
     ensures { text.new ≡ lay at bytes.now text.old }
 {
-    let mut i = 0;
-    while i < bytes.len() {
-        text[at + i] = bytes[i];
-        i += 1;
-    }
+    text[at..at + bytes.len()].copy_from_slice(bytes);
 }
 
 // Lays a number's digits and then `end` at a place of the text, and answers the place after them. A u64 has at most twenty digits.
@@ -81,10 +78,8 @@ fn append_words(words: &[u32], at: usize, text: &mut [u8]) -> usize
     ensures { Appends (column words.now) at result (mutable text) }
 {
     let mut next = at;
-    let mut i = 0;
-    while i < words.len() {
-        next = append_number(long(words[i]), b'\n', next, text);
-        i += 1;
+    for word in words {
+        next = append_number(long(*word), b'\n', next, text);
     }
     next
 }
@@ -134,12 +129,8 @@ fn append_pairs(numbers: &[u32], at: usize, text: &mut [u8]) -> usize
 {
     let n = numbers.len() / 2;
     let mut next = at;
-    let mut i = 0;
-    while i < n {
-        let first = numbers[2 * i];
-        let second = numbers[2 * i + 1];
-        next = append_pair(first, second, next, text);
-        i += 1;
+    for i in 0..n {
+        next = append_pair(numbers[2 * i], numbers[2 * i + 1], next, text);
     }
     next
 }
@@ -193,11 +184,9 @@ pub fn show_row(numbers: &[i64], text: &mut [u8]) -> usize
         return 0;
     }
     let mut next = 0;
-    let mut i = 0;
-    while i < n {
+    for (i, number) in numbers.iter().enumerate() {
         let end = separator(i, n);
-        next = append_signed(numbers[i], end, next, text);
-        i += 1;
+        next = append_signed(*number, end, next, text);
     }
     next
 }
@@ -221,10 +210,8 @@ fn append_outcomes(outcomes: &[u32], at: usize, text: &mut [u8]) -> usize
     ensures { Appends (outcome_lines outcomes.now) at result (mutable text) }
 {
     let mut next = at;
-    let mut i = 0;
-    while i < outcomes.len() {
-        next = append_outcome(outcomes[i], next, text);
-        i += 1;
+    for outcome in outcomes {
+        next = append_outcome(*outcome, next, text);
     }
     next
 }
@@ -271,11 +258,9 @@ fn append_hex(bytes: &[u8], at: usize, text: &mut [u8]) -> usize
 {
     let n = bytes.len();
     let mut next = at;
-    let mut i = 0;
-    while i < n {
+    for (i, byte) in bytes.iter().enumerate() {
         let ends = ends_line(i, n);
-        next = append_byte(bytes[i], ends, next, text);
-        i += 1;
+        next = append_byte(*byte, ends, next, text);
     }
     next
 }

@@ -27,12 +27,10 @@ fn digit_ids(numbers: &[i32]) -> bool
     ensures { result ≡ digit_ids numbers.now }
 {
     let n = numbers.len() / 3;
-    let mut i = 0;
-    while i < n {
+    for i in 0..n {
         if !is_digit(numbers[3 * i]) {
             return false;
         }
-        i += 1;
     }
     true
 }
@@ -56,13 +54,11 @@ fn append_vertices(numbers: &[i32], at: usize, text: &mut [u8]) -> usize
 {
     let n = numbers.len() / 3;
     let mut next = at;
-    let mut i = 0;
-    while i < n {
+    for i in 0..n {
         let id = numbers[3 * i];
         let x = numbers[3 * i + 1];
         let y = numbers[3 * i + 2];
         next = append_vertex(id, x, y, next, text);
-        i += 1;
     }
     next
 }

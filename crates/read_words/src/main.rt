@@ -7,8 +7,6 @@ ghost use Rattle.printed.specs.Lending.{Tells};
 ghost use Rattle.printed.specs.Vertices.{vertices_room};
 ghost use Rattle.read_words.specs.Program.{printed};
 
-use decoder::Reading;
-use number_file::Numbers;
 use printed::Text;
 use printed::faults::show_fault;
 use std::io;
@@ -20,13 +18,10 @@ fn answer(file: &[u8], words: &mut [u32], out: &mut [i32], text: &mut [u8]) -> u
     ensures { Tells (printed file.now words.old out.old) result (mutable text) }
 {
     match number_file::read_numbers(file, words) {
-        Numbers::Refused(r) => show_fault(refusal::number(r), 0, text),
-        Numbers::Read(n) => match decoder::decode(&words[..n], out) {
-            Reading::Refused(f) => {
-                let r = f.refusal;
-                show_fault(refusal::number(r), f.place, text)
-            }
-            Reading::Read(vertices) => printed::vertices::show_vertices(&out[..3 * vertices], text),
+        Err(r) => show_fault(refusal::number(r), 0, text),
+        Ok(n) => match decoder::decode(&words[..n], out) {
+            Err(f) => show_fault(refusal::number(f.refusal), f.place, text),
+            Ok(vertices) => printed::vertices::show_vertices(&out[..3 * vertices], text),
         },
     }
 }

@@ -7,18 +7,15 @@ use mathlib.Core.Option.{Option, none, some}
 use native.Mathlib.Omega.{arith}
 use lib.Dec.{ltb}
 use lib.ListN.{length}
-use Rattle.messages.specs.declared.numbers.VarintAt.{VarintAt}
-use Rattle.messages.specs.declared.numbers.VarintAt.TheVariants.{Is as number, Faulty as noNumber}
-use Rattle.messages.specs.Fields.{varint_at, number_before, number_then, numbers_by, numbers_from}
+use Rattle.std.specs.Prelude.{Some, None}
+use Rattle.messages.specs.Fields.{VarintAt, varint_at, number_before, number_then, numbers_by, numbers_from}
 use Rattle.messages.proofs.Fields.{varint_ends, numbers_step, numbers_end}
-use Rattle.reader.specs.declared.packed.Count.{Count}
-use Rattle.reader.specs.declared.packed.Count.TheVariants.{Are, Faulty}
-use Rattle.reader.specs.Packed.{counted}
+use Rattle.reader.specs.Packed.{Count, counted}
 
 -- so many more
 abbrev more : ℕ → Count → Count
-more n (Are k) = Are (n + k)
-more n Faulty = Faulty
+more n (Some k) = Some (n + k)
+more n None = None
 
 more_before : (n m : ℕ) (o : Option (List ℕ)) → more n (counted (number_before m o)) ≡ more (n + 1) (counted o)
 more_before n m none = refl
@@ -26,7 +23,7 @@ more_before n m (some ns) = let e : n + suc (length ns) ≡ n + 1 + length ns = 
 
 more_none : (o : Option (List ℕ)) → counted o ≡ more 0 (counted o)
 more_none none = refl
-more_none (some ns) = let e : length ns ≡ 0 + length ns = omega arith in ap Are e
+more_none (some ns) = let e : length ns ≡ 0 + length ns = omega arith in ap Some e
 
 pub record Counting (src : List ℕ) (at i n : ℕ) : Type 0 where
   pub few : n ≤ i
@@ -36,15 +33,15 @@ pub count_start : (src : List ℕ) (at : ℕ) → Counting src at at 0
 count_start src at = record { few = omega arith; rest = more_none (numbers_from at src) }
 
 module _ (src : List ℕ) (at i n : ℕ) (I : Counting src at i n) where
-  pub count_end : length src ≤ i → Are n ≡ counted (numbers_from at src)
+  pub count_end : length src ≤ i → Some n ≡ counted (numbers_from at src)
   count_end h = let e : n + 0 ≡ n = omega arith in sym (I.rest ∙ rw (numbers_end src i h, e) refl)
 
   module _ (r : VarintAt) (h : i < length src) (e : r ≡ varint_at i src) where
-    pub count_faulty : r ≡ noNumber → Faulty ≡ counted (numbers_from at src)
-    count_faulty f = let v : varint_at i src ≡ noNumber = sym e ∙ f in sym (I.rest ∙ rw (numbers_step src i h, v) refl)
+    pub count_faulty : r ≡ None → None ≡ counted (numbers_from at src)
+    count_faulty f = let v : varint_at i src ≡ None = sym e ∙ f in sym (I.rest ∙ rw (numbers_step src i h, v) refl)
 
-    module _ (m next : ℕ) (f : r ≡ number m next) where
-      there : varint_at i src ≡ number m next
+    module _ (m next : ℕ) (f : r ≡ Some (m, next)) where
+      there : varint_at i src ≡ Some (m, next)
       there = sym e ∙ f
 
       pub count_turn : Counting src at next (n + 1)
@@ -65,9 +62,9 @@ few_before src at m next (some ms) ns a b h e = let l : m ∷ ms ≡ ns = cc in 
 
 few_then : (src : List ℕ) (at : ℕ) (go : ℕ → Option (List ℕ)) (r : VarintAt) (ns : List ℕ) → varint_at at src ≡ r
     → ((next : ℕ) → next ≤ length src → (ms : List ℕ) → go next ≡ some ms → next + length ms ≤ length src) → number_then r go ≡ some ns → at + length ns ≤ length src
-few_then src at go (number m next) ns v h e =
+few_then src at go (Some (m, next)) ns v h e =
     few_before src at m next (go next) ns (varint_ends v).later (varint_ends v).inside (h next (varint_ends v).inside) e
-few_then src at go noNumber ns v h e = absurd (let z : ◌≡◌ {A = ℕ} 0 1 = cc in omega arith)
+few_then src at go None ns v h e = absurd (let z : ◌≡◌ {A = ℕ} 0 1 = cc in omega arith)
 
 few_test : (src : List ℕ) (at : ℕ) (b : Bool) (o : Option (List ℕ)) (ns : List ℕ) → at ≤ length src
     → (o ≡ some ns → at + length ns ≤ length src) → cond b o (some []) ≡ some ns → at + length ns ≤ length src

@@ -1,21 +1,21 @@
 -- A feature's head by its fields, and by one field more behind them.
 use Prim.Native.Nat.{ℕ, ◌+◌}
 use mathlib.Core.Path.{◌≡◌, refl, sym, ap, ◌∙◌}
-use mathlib.Core.Bool.{Bool, cond}
+use mathlib.Core.Bool.{cond}
 use mathlib.Core.List.{List, [], ◌∷◌, ◌++◌, append_assoc, append-nil}
 use mathlib.Core.Option.{Option, none, some}
 use native.Mathlib.Omega.{arith}
 use borrow.Author.Tests.{eq-eqb, ne_eqb}
 use lib.Dec.{eqb}
 use lib.ListN.{length, length-append, length-map}
+use Rattle.std.specs.Prelude.{Option as Maybe}
 use Rattle.wire.specs.declared.field.Field.{Field}
 use Rattle.wire.specs.declared.field.Field.TheVariants.{FeatureTags, FeatureGeometry}
 use Rattle.wire.specs.Schema.{key_of}
 use Rattle.messages.specs.declared.field.FieldAt.{FieldAt}
-use Rattle.messages.specs.Tiles.{is_read}
 use Rattle.messages.specs.Meaning.{later, last_of, low32, number_or, packed_numbers, single_key, words_in, words_of, id_of}
 use Rattle.reader.specs.declared.features.FeatureHead.{FeatureHead}
-use Rattle.reader.specs.Heads.{or_zero}
+use Rattle.reader.specs.Heads.{id_told}
 use Rattle.reader.specs.FeatureSteps.{head_from, with_id, with_kind, with_tags, with_words}
 
 -- ---- among fields, one more behind them
@@ -67,13 +67,13 @@ module _ (src : List ℕ) (fs : List FieldAt) (f : FieldAt) where
         let z : length (words_in field src f) ≡ length (packed_numbers src f) = rw (eq-eqb f.key (key_of field) h) (length-map (packed_numbers src f) low32) in
         count_behind ∙ omega (arith, z)
 
--- a head by its five parts
+-- a head by its four parts
 module _ (start end : ℕ) where
-  abbrev made : Bool → ℕ → ℕ → ℕ → ℕ → FeatureHead
-  made has id kind tags words = record { has_id = has; id = id; kind = kind; tags = tags; words = words; start = start; end = end }
+  abbrev made : Maybe ℕ → ℕ → ℕ → ℕ → FeatureHead
+  made id kind tags words = record { id = id; kind = kind; tags = tags; words = words; start = start; end = end }
 
   abbrev parts_of : Option FieldAt → Option FieldAt → ℕ → ℕ → FeatureHead
-  parts_of id kind tags words = made (is_read (id_of id)) (or_zero (id_of id)) (low32 (number_or 0 kind)) tags words
+  parts_of id kind tags words = made (id_told (id_of id)) (low32 (number_or 0 kind)) tags words
 
   same_parts : {i i' k k' : Option FieldAt} {t t' w w' : ℕ} → i ≡ i' → k ≡ k' → t ≡ t' → w ≡ w' → parts_of i k t w ≡ parts_of i' k' t' w'
   same_parts a b c d = rw (a, b, c, d) refl

@@ -7,64 +7,62 @@ use native.Mathlib.Omega.{arith}
 use borrow.Author.Tests.{eqb-true}
 use lib.Dec.{leb, eqb}
 use lib.ListN.{length, take, drop}
+use Rattle.std.specs.Prelude.{Some, None}
 use Rattle.messages.specs.declared.key.Kind.{Kind}
 use Rattle.messages.specs.declared.key.Kind.TheVariants.{Feature as feature}
 use Rattle.messages.specs.declared.key.Holds.TheVariants.{Number as a_number, Numbers as numbers, Unknown as unknown}
 use Rattle.messages.specs.declared.key.Body.TheVariants.{Any as any, Varints as varints, Within as inner}
 use Rattle.messages.specs.declared.key.Follows.{Follows}
 use Rattle.messages.specs.declared.key.Follows.TheVariants.{Wrong as wrong, AVarint as aVarint, Bytes as bytes, ABody as aBody}
-use Rattle.messages.specs.declared.numbers.VarintAt.{VarintAt}
-use Rattle.messages.specs.declared.numbers.VarintAt.TheVariants.{Is as number, Faulty as noNumber}
 use Rattle.messages.specs.declared.field.FieldAt.{FieldAt}
-use Rattle.messages.specs.declared.field.NextField.TheVariants.{Is as is, Faulty as faulty}
 use Rattle.messages.specs.Keys.{content as content_of, max_number, follows}
-use Rattle.messages.specs.Fields.{varint_at, from_little, field_from, numbered, bodied, content, keyed, field_at, numbers_from}
+use Rattle.messages.specs.Fields.{VarintAt, varint_at, from_little, field_from, numbered, bodied, content, keyed, field_at, numbers_from}
 use Rattle.messages.specs.Tiles.{is_read, is_content, holds, nested}
 
 -- ---- a field that can be read has a right key
 module _ (kind : Kind) (src : List ℕ) (f : FieldAt) where
-  no_field : faulty ≡ is f → ⊥
+  no_field : None ≡ Some f → ⊥
   no_field e = let z : ◌≡◌ {A = ℕ} 0 1 = cc in omega arith
 
   module _ (key at : ℕ) where
-    key_made : (value start end : ℕ) → is (field_from key value start end) ≡ is f → f.key ≡ key
+    key_made : (value start end : ℕ) → Some (field_from key value start end) ≡ Some f → f.key ≡ key
     key_made value start end e = let g : field_from key value start end ≡ f = cc in sym (ap (λ (x : FieldAt). x.key) g)
 
-    key_numbered : (r : VarintAt) → numbered key at r ≡ is f → f.key ≡ key
-    key_numbered (number n next) e = key_made n at next e
-    key_numbered noNumber e = absurd (no_field e)
+    key_numbered : (r : VarintAt) → numbered key at r ≡ Some f → f.key ≡ key
+    key_numbered (Some (n, next)) e = key_made n at next e
+    key_numbered None e = absurd (no_field e)
 
-    key_fixed : (n : ℕ) (b : Bool) → cond b (is (field_from key (from_little (take n (drop at src))) at (at + n))) faulty ≡ is f → f.key ≡ key
+    key_fixed : (n : ℕ) (b : Bool) → cond b (Some (field_from key (from_little (take n (drop at src))) at (at + n))) None ≡ Some f → f.key ≡ key
     key_fixed n true e = key_made (from_little (take n (drop at src))) at (at + n) e
     key_fixed n false e = absurd (no_field e)
 
-    key_body : (n start : ℕ) (b : Bool) → cond b (is (field_from key 0 start (start + n))) faulty ≡ is f → f.key ≡ key
+    key_body : (n start : ℕ) (b : Bool) → cond b (Some (field_from key 0 start (start + n))) None ≡ Some f → f.key ≡ key
     key_body n start true e = key_made 0 start (start + n) e
     key_body n start false e = absurd (no_field e)
 
-    key_bodied : (r : VarintAt) → bodied key src r ≡ is f → f.key ≡ key
-    key_bodied (number n start) e = key_body n start (leb (start + n) (length src)) e
-    key_bodied noNumber e = absurd (no_field e)
+    key_bodied : (r : VarintAt) → bodied key src r ≡ Some f → f.key ≡ key
+    key_bodied (Some (n, start)) e = key_body n start (leb (start + n) (length src)) e
+    key_bodied None e = absurd (no_field e)
 
-    key_content : (c : Follows) → content key at src c ≡ is f → f.key ≡ key
+    key_content : (c : Follows) → content key at src c ≡ Some f → f.key ≡ key
     unfolding content
     key_content wrong e = absurd (no_field e)
     key_content aVarint e = key_numbered (varint_at at src) e
     key_content (bytes n) e = key_fixed n (leb (at + n) (length src)) e
     key_content (aBody body) e = key_bodied (varint_at at src) e
 
-    right_content : content key at src (follows kind key) ≡ is f → follows kind f.key ≡ wrong → ⊥
+    right_content : content key at src (follows kind key) ≡ Some f → follows kind f.key ≡ wrong → ⊥
     unfolding content
     right_content e w =
         let k : f.key ≡ key = key_content (follows kind key) e in
         let g : follows kind key ≡ wrong = sym (ap (follows kind) k) ∙ w in
         no_field (rw g at e)
 
-  right_keyed : (r : VarintAt) → keyed kind src r ≡ is f → follows kind f.key ≡ wrong → ⊥
-  right_keyed (number key at) e w = right_content key at e w
-  right_keyed noNumber e w = no_field e
+  right_keyed : (r : VarintAt) → keyed kind src r ≡ Some f → follows kind f.key ≡ wrong → ⊥
+  right_keyed (Some (key, at)) e w = right_content key at e w
+  right_keyed None e w = no_field e
 
-  pub right_key : (at : ℕ) → field_at kind at src ≡ is f → follows kind f.key ≡ wrong → ⊥
+  pub right_key : (at : ℕ) → field_at kind at src ≡ Some f → follows kind f.key ≡ wrong → ⊥
   unfolding field_at
   right_key at e w = right_keyed (varint_at at src) e w
 
@@ -121,7 +119,7 @@ module _ (src : List ℕ) (f : FieldAt) where
   loose_content (aBody varints) l h = absurd l
   loose_content (aBody (inner kind)) l h = absurd l
 
-  pub holds_any : (at : ℕ) → field_at feature at src ≡ is f → (f.key ≡ 18 → ⊥) → (f.key ≡ 34 → ⊥) → holds (nested 0) feature src f ≡ true
+  pub holds_any : (at : ℕ) → field_at feature at src ≡ Some f → (f.key ≡ 18 → ⊥) → (f.key ≡ 34 → ⊥) → holds (nested 0) feature src f ≡ true
   holds_any at e a b = loose_content (follows feature f.key) (loose_follows f.key a b) (right_key feature src f at e)
 
   holds_varints : follows feature f.key ≡ aBody varints → holds (nested 0) feature src f ≡ is_read (numbers_from f.start (take f.end src))

@@ -9,29 +9,25 @@ use borrow.Author.Tests.{eq-eqb, ne_eqb, eqb-true, eqb-false}
 use lib.Dec.{eqb}
 use lib.ListN.{length, take, length-map}
 use lib.Seq.{length-take-le}
+use Rattle.std.specs.Prelude.{Some, None}
 use Rattle.wire.specs.declared.field.Field.{Field}
 use Rattle.wire.specs.declared.field.Field.TheVariants.{FeatureTags, FeatureGeometry}
 use Rattle.wire.specs.Schema.{key_of}
 use Rattle.messages.specs.declared.key.Kind.TheVariants.{Feature as feature}
 use Rattle.messages.specs.declared.field.FieldAt.{FieldAt}
-use Rattle.messages.specs.declared.field.NextField.{NextField}
-use Rattle.messages.specs.declared.field.NextField.TheVariants.{Is as is, Faulty as faulty}
-use Rattle.messages.specs.Fields.{before, field_at, fields_from, numbers_from}
+use Rattle.messages.specs.Fields.{NextField, before, field_at, fields_from, numbers_from}
 use Rattle.messages.specs.Tiles.{is_read, holds, all_hold, if_read, nested}
 use Rattle.messages.specs.Meaning.{low32, or_nothing, packed_numbers, single_key, words_in, words_of}
 use Rattle.messages.proofs.Fields.{field_ends, fields_step, fields_end}
-use Rattle.reader.specs.declared.packed.Count.{Count}
 use Rattle.reader.specs.declared.features.FeatureHead.{FeatureHead}
-use Rattle.reader.specs.declared.features.FeatureRead.{FeatureRead}
-use Rattle.reader.specs.declared.features.FeatureRead.TheVariants.{Is as ReadIs, Broken as ReadBroken}
-use Rattle.reader.specs.Packed.{counted}
-use Rattle.reader.specs.FeatureSteps.{head_from, feature_read, with_tags, with_words, tags_read, words_read, with_field, Adds, Ample}
+use Rattle.reader.specs.Packed.{Count, counted}
+use Rattle.reader.specs.FeatureSteps.{FeatureRead, head_from, feature_read, with_tags, with_words, tags_read, words_read, with_field, Adds, Ample}
 use Rattle.reader.proofs.Counting.{numbers_few}
 use Rattle.reader.proofs.FeatureKeys.{holds_any, holds_tags, holds_words}
 use Rattle.reader.proofs.FeatureFields.{count_behind, grown_id, grown_kind, grown_tag, grown_word, grown_tags, grown_words, grown_none}
 
 -- ---- one field more, that can be read: it is good and in the head, or the feature is broken
-module _ (start end : ℕ) (src : List ℕ) (fs : List FieldAt) (at : ℕ) (f : FieldAt) (r : field_at feature at src ≡ is f) where
+module _ (start end : ℕ) (src : List ℕ) (fs : List FieldAt) (at : ℕ) (f : FieldAt) (r : field_at feature at src ≡ Some f) where
   abbrev was : FeatureHead
   was = head_from start end src fs
 
@@ -39,38 +35,38 @@ module _ (start end : ℕ) (src : List ℕ) (fs : List FieldAt) (at : ℕ) (f : 
   numbers = numbers_from f.start (take f.end src)
 
   abbrev Taken : Type 0
-  Taken = with_field was src f ≡ cond (holds (nested 0) feature src f) (ReadIs (head_from start end src (fs ++ (f ∷ [])))) ReadBroken
+  Taken = with_field was src f ≡ cond (holds (nested 0) feature src f) (Some (head_from start end src (fs ++ (f ∷ [])))) None
 
   taken_id : f.key ≡ 8 → Taken
   unfolding with_field
-  taken_id e = rw (eq-eqb f.key 8 e, holds_any src f at r (λ z. omega arith) (λ z. omega arith)) (ap ReadIs (sym (grown_id start end src fs f e)))
+  taken_id e = rw (eq-eqb f.key 8 e, holds_any src f at r (λ z. omega arith) (λ z. omega arith)) (ap Some (sym (grown_id start end src fs f e)))
 
   module _ (a : f.key ≡ 8 → ⊥) where
     taken_kind : f.key ≡ 24 → Taken
     unfolding with_field
     taken_kind e =
-        rw (ne_eqb f.key 8 a, eq-eqb f.key 24 e, holds_any src f at r (λ z. omega arith) (λ z. omega arith)) (ap ReadIs (sym (grown_kind start end src fs f e)))
+        rw (ne_eqb f.key 8 a, eq-eqb f.key 24 e, holds_any src f at r (λ z. omega arith) (λ z. omega arith)) (ap Some (sym (grown_kind start end src fs f e)))
 
     module _ (b : f.key ≡ 24 → ⊥) where
       taken_tag : f.key ≡ 16 → Taken
       unfolding with_field
       taken_tag e =
           rw (ne_eqb f.key 8 a, ne_eqb f.key 24 b, eq-eqb f.key 16 e, holds_any src f at r (λ z. omega arith) (λ z. omega arith))
-          (ap ReadIs (sym (grown_tag start end src fs f e)))
+          (ap Some (sym (grown_tag start end src fs f e)))
 
       module _ (c : f.key ≡ 16 → ⊥) where
         taken_word : f.key ≡ 32 → Taken
         unfolding with_field
         taken_word e =
             rw (ne_eqb f.key 8 a, ne_eqb f.key 24 b, ne_eqb f.key 16 c, eq-eqb f.key 32 e, holds_any src f at r (λ z. omega arith) (λ z. omega arith))
-            (ap ReadIs (sym (grown_word start end src fs f e)))
+            (ap Some (sym (grown_word start end src fs f e)))
 
         module _ (d : f.key ≡ 32 → ⊥) where
-          tags_by : (o : Option (List ℕ)) → tags_read was (counted o) ≡ cond (is_read o) (ReadIs (with_tags was (length (or_nothing o)))) ReadBroken
+          tags_by : (o : Option (List ℕ)) → tags_read was (counted o) ≡ cond (is_read o) (Some (with_tags was (length (or_nothing o)))) None
           tags_by none = refl
           tags_by (some ns) = refl
 
-          words_by_lem : (o : Option (List ℕ)) → words_read was (counted o) ≡ cond (is_read o) (ReadIs (with_words was (length (or_nothing o)))) ReadBroken
+          words_by_lem : (o : Option (List ℕ)) → words_read was (counted o) ≡ cond (is_read o) (Some (with_words was (length (or_nothing o)))) None
           words_by_lem none = refl
           words_by_lem (some ns) = refl
 
@@ -108,7 +104,7 @@ module _ (start end : ℕ) (src : List ℕ) (fs : List FieldAt) (at : ℕ) (f : 
                   ne_eqb f.key 34 h,
                   holds_any src f at r g h,
                 )
-                (ap ReadIs (sym (grown_none start end src fs f a b c d g h)))
+                (ap Some (sym (grown_none start end src fs f a b c d g h)))
 
             by_words : (t : Bool) → eqb f.key 34 ≡ t → Taken
             by_words true e = taken_words (eqb-true f.key 34 e)
@@ -144,7 +140,7 @@ part_few src f h k none e = omega arith
 part_few src f h k (some ns) e =
     let l = length-take-le f.end src k in omega (arith, l, numbers_few (take f.end src) f.start ns (omega (arith, l)) e)
 
-module _ (src : List ℕ) (f : FieldAt) (at : ℕ) (r : field_at feature at src ≡ is f) (field : Field) where
+module _ (src : List ℕ) (f : FieldAt) (at : ℕ) (r : field_at feature at src ≡ Some f) (field : Field) where
   packed_few : f.start + length (packed_numbers src f) ≤ f.end
   packed_few = let e = field_ends feature r in part_few src f e.ordered e.inside (numbers_from f.start (take f.end src)) refl
 
@@ -204,25 +200,25 @@ reading_start src start =
     record { done = []; fields = onto_none (fields_from feature start src); held = refl; head = refl; few_tags = omega arith; few_words = omega arith }
 
 module _ {src : List ℕ} {start : ℕ} {h : FeatureHead} {at : ℕ} (I : Reading src start h at) where
-  broken_by : (o : Option (List FieldAt)) → fields_from feature start src ≡ o → if_read (nested 0) feature src o ≡ false → ReadBroken ≡ feature_read start src
+  broken_by : (o : Option (List FieldAt)) → fields_from feature start src ≡ o → if_read (nested 0) feature src o ≡ false → None ≡ feature_read start src
   unfolding feature_read nested
   broken_by o e g = rw (e, g) refl
 
-  pub reading_end : length src ≤ at → ReadIs h ≡ feature_read start src
+  pub reading_end : length src ≤ at → Some h ≡ feature_read start src
   unfolding feature_read nested
   reading_end l =
       let e : fields_from feature start src ≡ some (I.done ++ []) = I.fields ∙ ap (onto I.done) (fields_end src feature at l) in
-      rw (e, append-nil I.done, I.held) (ap ReadIs I.head)
+      rw (e, append-nil I.done, I.held) (ap Some I.head)
 
   module _ (r : NextField) (l : at < length src) (e : r ≡ field_at feature at src) where
-    pub reading_faulty : r ≡ faulty → ReadBroken ≡ feature_read start src
+    pub reading_faulty : r ≡ None → None ≡ feature_read start src
     reading_faulty g =
-        let v : field_at feature at src ≡ faulty = sym e ∙ g in
+        let v : field_at feature at src ≡ None = sym e ∙ g in
         let s : fields_from feature at src ≡ none = fields_step src feature at l ∙ rw v refl in
         broken_by none (I.fields ∙ ap (onto I.done) s) refl
 
-    module _ (f : FieldAt) (g : r ≡ is f) where
-      there : field_at feature at src ≡ is f
+    module _ (f : FieldAt) (g : r ≡ Some f) where
+      there : field_at feature at src ≡ Some f
       there = sym e ∙ g
 
       pub reading_ample : Ample h f (length src)
@@ -238,7 +234,7 @@ module _ {src : List ℕ} {start : ℕ} {h : FeatureHead} {at : ℕ} (I : Readin
           let s : fields_from feature at src ≡ before f (fields_from feature f.end src) = fields_step src feature at l ∙ rw there refl in
           I.fields ∙ ap (onto I.done) s ∙ onto_before I.done f (fields_from feature f.end src)
 
-      now_taken : with_field h src f ≡ cond (holds (nested 0) feature src f) (ReadIs (head_from start (length src) src (I.done ++ (f ∷ [])))) ReadBroken
+      now_taken : with_field h src f ≡ cond (holds (nested 0) feature src f) (Some (head_from start (length src) src (I.done ++ (f ∷ [])))) None
       now_taken = rw I.head (taken start (length src) src I.done at f there)
 
       held_now : (b : Bool) → holds (nested 0) feature src f ≡ b → all_hold (nested 0) feature src (I.done ++ (f ∷ [])) ≡ b
@@ -246,22 +242,22 @@ module _ {src : List ℕ} {start : ℕ} {h : FeatureHead} {at : ℕ} (I : Readin
       held_now false k = held_both src I.done (f ∷ []) I.held ∙ rw k refl
 
       module _ (w : FeatureRead) (m : w ≡ with_field h src f) where
-        pub reading_broken : w ≡ ReadBroken → ReadBroken ≡ feature_read start src
+        pub reading_broken : w ≡ None → None ≡ feature_read start src
         reading_broken k = by (holds (nested 0) feature src f) refl (sym now_taken ∙ sym m ∙ k)
           where
             rest : (o : Option (List FieldAt)) → holds (nested 0) feature src f ≡ false → if_read (nested 0) feature src (onto (I.done ++ (f ∷ [])) o) ≡ false
             rest none n = refl
             rest (some gs) n = ap (all_hold (nested 0) feature src) (append_assoc I.done (f ∷ []) gs) ∙ held_both src I.done (f ∷ gs) I.held ∙ rw n refl
 
-            by : (b : Bool) → holds (nested 0) feature src f ≡ b → cond b (ReadIs (head_from start (length src) src (I.done ++ (f ∷ [])))) ReadBroken ≡ ReadBroken
-                → ReadBroken ≡ feature_read start src
+            by : (b : Bool) → holds (nested 0) feature src f ≡ b → cond b (Some (head_from start (length src) src (I.done ++ (f ∷ [])))) None ≡ None
+                → None ≡ feature_read start src
             by true n q = absurd (let z : ◌≡◌ {A = ℕ} 0 1 = cc in omega arith)
             by false n q = broken_by (onto (I.done ++ (f ∷ [])) (fields_from feature f.end src)) step (rest (fields_from feature f.end src) n)
 
-        pub reading_turn : (h' : FeatureHead) → w ≡ ReadIs h' → Reading src start h' f.end
+        pub reading_turn : (h' : FeatureHead) → w ≡ Some h' → Reading src start h' f.end
         reading_turn h' k = by (holds (nested 0) feature src f) refl (sym now_taken ∙ sym m ∙ k)
           where
-            by : (b : Bool) → holds (nested 0) feature src f ≡ b → cond b (ReadIs (head_from start (length src) src (I.done ++ (f ∷ [])))) ReadBroken ≡ ReadIs h'
+            by : (b : Bool) → holds (nested 0) feature src f ≡ b → cond b (Some (head_from start (length src) src (I.done ++ (f ∷ [])))) None ≡ Some h'
                 → Reading src start h' f.end
             by true n q =
                 record {

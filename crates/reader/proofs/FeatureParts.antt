@@ -8,14 +8,13 @@ use native.Mathlib.Omega.{arith}
 use lib.Dec.{ltb}
 use lib.ListN.{length, take}
 use lib.Seq.{take-take}
+use Rattle.std.specs.Prelude.{Some, None}
 use Rattle.wire.specs.declared.field.Field.{Field}
 use Rattle.wire.specs.declared.field.Field.TheVariants.{FeatureTags, FeatureGeometry}
 use Rattle.messages.specs.declared.key.Kind.{Kind}
 use Rattle.messages.specs.declared.key.Kind.TheVariants.{Feature as feature}
 use Rattle.messages.specs.declared.field.FieldAt.{FieldAt}
-use Rattle.messages.specs.declared.field.NextField.{NextField}
-use Rattle.messages.specs.declared.field.NextField.TheVariants.{Is as is, Faulty as faulty}
-use Rattle.messages.specs.Fields.{before, and_then, field_at, field_from, fields_by, fields_from}
+use Rattle.messages.specs.Fields.{NextField, before, and_then, field_at, field_from, fields_by, fields_from}
 use Rattle.messages.specs.Meaning.{Feature, or_nothing, words_in, words_of, feature_says}
 use Rattle.messages.proofs.Fields.{field_ends}
 use Rattle.reader.specs.Heads.{feature_head}
@@ -32,8 +31,8 @@ module _ (kind : Kind) (src : List ℕ) where
 
   inside_then : (at : ℕ) (go : FieldAt → Option (List FieldAt)) (r : NextField) → field_at kind at src ≡ r → ((f : FieldAt) → Inside (length src) (or_nothing (go f)))
       → Inside (length src) (or_nothing (and_then r go))
-  inside_then at go (is f) e h = inside_before f (go f) (field_ends kind e).inside (h f)
-  inside_then at go faulty e h = tt
+  inside_then at go (Some f) e h = inside_before f (go f) (field_ends kind e).inside (h f)
+  inside_then at go None e h = tt
 
   inside_test : (b : Bool) (o : Option (List FieldAt)) → Inside (length src) (or_nothing o) → Inside (length src) (or_nothing (cond b o (some [])))
   inside_test true o h = h

@@ -10,6 +10,7 @@ use borrow.Author.Tests.{le-leb}
 use lib.Dec.{eqb}
 use lib.ListN.{length, take}
 use lib.Seq.{length-take-le, take-take}
+use Rattle.std.specs.Prelude.{Some, None, Ok}
 use Rattle.wire.specs.declared.field.Field.{Field}
 use Rattle.wire.specs.declared.field.Field.TheVariants.{LayerFeature, FeatureTags, FeatureGeometry}
 use Rattle.wire.specs.Schema.{key_of}
@@ -23,7 +24,6 @@ use Rattle.messages.specs.Fields.{fields_from, numbers_from}
 use Rattle.messages.specs.Tiles.{Verdict, nested}
 use Rattle.messages.specs.Meaning.{or_nothing, each_of, low32, fields_of, packed_numbers, single_key, words_in, words_of, feature_says, feature_of}
 use Rattle.messages.proofs.Fields.{field_ends}
-use Rattle.reader.specs.declared.features.NextFeature.TheVariants.{Is as FeatureIs, End as NoFeature}
 use Rattle.reader.specs.Heads.{feature_head}
 use Rattle.reader.specs.Answers.{next_feature, laid_out, words_into}
 use Rattle.reader.proofs.Walking.{Walk, behind, All, nested_read, GoodBody, good_bodies, walk_call, GoodLayer, fields_are, layer_read_lem, long, walk_found}
@@ -76,10 +76,10 @@ module _ (v : Verdict) (src : List ℕ) (f : FieldAt) (k : GoodLayer src f) wher
       few [] l a = tt
       few (h ∷ fs) l a = (omega (arith, a.0, l), few fs l a.1)
 
-  pub walk_features : Walk (λ at. next_feature at f.end src v) NoFeature (λ g. FeatureIs (feature_head g (feature_of src g))) f.start (each_of (key_of LayerFeature) (fields_of layer src f))
+  pub walk_features : Walk (λ at. next_feature at f.end src v) (Ok None) (λ g. Ok (Some (feature_head g (feature_of src g)))) f.start (each_of (key_of LayerFeature) (fields_of layer src f))
   unfolding next_feature
   walk_features =
-      walk_call layer (key_of LayerFeature) (take f.end src) (λ at. next_feature at f.end src v) NoFeature (λ g. FeatureIs (feature_head g (feature_of src g)))
+      walk_call layer (key_of LayerFeature) (take f.end src) (λ at. next_feature at f.end src v) (Ok None) (λ g. Ok (Some (feature_head g (feature_of src g))))
       (GoodBody 1 feature (take f.end src))
       (λ at h e. rw (le-leb at f.end (omega (arith, h, long v src f k)), le-leb f.end (length src) k.inside, e) refl)
       (λ at g h e b. rw (le-leb at f.end (omega (arith, h, long v src f k)), le-leb f.end (length src) k.inside, e, b.good, feature_same g b) refl)

@@ -9,21 +9,19 @@ use native.Mathlib.Omega.{arith}
 use borrow.Author.Tests.{ne_eqb}
 use lib.Dec.{eqb}
 use lib.ListN.{length}
+use Rattle.std.specs.Prelude.{Some, None, Ok, Err}
 use Rattle.wire.specs.declared.field.Field.TheVariants.{LayerName, LayerFeature, LayerKey, LayerValue, LayerExtent, LayerVersion}
 use Rattle.wire.specs.Schema.{key_of}
 use Rattle.messages.specs.declared.key.Kind.TheVariants.{Layer as layer}
 use Rattle.messages.specs.declared.field.FieldAt.{FieldAt}
-use Rattle.messages.specs.declared.field.NextField.{NextField}
-use Rattle.messages.specs.declared.field.NextField.TheVariants.{Is as is, Faulty as faulty}
-use Rattle.messages.specs.Fields.{field_at, before, and_then, fields_from}
+use Rattle.messages.specs.Fields.{NextField, field_at, before, and_then, fields_from}
 use Rattle.messages.specs.Meaning.{later, last_of, each_of, low32, number_or}
 use Rattle.messages.proofs.Fields.{FieldEnds, field_ends, fields_step, fields_end}
 use Rattle.reader.specs.declared.layers.Part.{Part}
 use Rattle.reader.specs.declared.layers.LayerHead.{LayerHead}
-use Rattle.reader.specs.declared.layers.LayerStep.{LayerStep}
-use Rattle.reader.specs.declared.layers.LayerStep.TheVariants.{Is as LayerIs, Broken as LayerBroken}
 use Rattle.reader.specs.Heads.{part_from, part_of, part_or, layer_head}
-use Rattle.reader.specs.Steps.{layer_with_key, layer_with, Counted, Taken, layer_in}
+use Rattle.reader.specs.declared.cause.Cause.TheVariants.{Broken}
+use Rattle.reader.specs.Steps.{LayerStep, layer_with_key, layer_with, Counted, Taken, layer_in}
 
 -- ---- a field by its key: each case of the code
 module _ (h : LayerHead) (f : FieldAt) where
@@ -171,8 +169,8 @@ over_none h =
 
 -- ---- the loop: what the layer's fields say is what the head says with those behind
 abbrev ended : LayerHead → Option (List FieldAt) → LayerStep
-ended h none = LayerBroken
-ended h (some fs) = LayerIs (layer_over h fs)
+ended h none = Err Broken
+ended h (some fs) = Ok (Some (layer_over h fs))
 
 pub record Heading (src : List ℕ) (start : ℕ) (before : LayerHead) (at : ℕ) (h : LayerHead) : Type 0 where
   pub counted : Counted h (suc at)
@@ -207,11 +205,11 @@ heading_first f src = record { counted = record { keys = omega arith; values = o
 over_all : (f : FieldAt) (o : Option (List FieldAt)) → layer_in f o ≡ ended (first f) o
 unfolding layer_in
 over_all f none = refl
-over_all f (some fs) = ap LayerIs (over_first f fs)
+over_all f (some fs) = ap Ok (ap Some (over_first f fs))
 
 ended_with : (h : LayerHead) (g : FieldAt) (o : Option (List FieldAt)) → ended h (before g o) ≡ ended (layer_with h g) o
 ended_with h g none = refl
-ended_with h g (some fs) = ap LayerIs (over_with h g fs)
+ended_with h g (some fs) = ap Ok (ap Some (over_with h g fs))
 
 counted_with : (h : LayerHead) (g : FieldAt) (n : ℕ) → Counted h n → Counted (layer_with h g) (suc n)
 unfolding layer_with
@@ -231,17 +229,17 @@ counted_up c l = record { keys = omega (arith, c.keys); values = omega (arith, c
 
 module _ (src : List ℕ) (at : ℕ) (h : LayerHead) where
   module _ (f : FieldAt) (I : Heading src f.start (first f) at h) where
-    pub heading_done : length src ≤ at → LayerIs h ≡ layer_in f (fields_from layer f.start src)
-    heading_done l = sym (over_all f (fields_from layer f.start src) ∙ I.rest ∙ ap (ended h) (fields_end src layer at l) ∙ ap LayerIs (over_none h))
+    pub heading_done : length src ≤ at → Ok (Some h) ≡ layer_in f (fields_from layer f.start src)
+    heading_done l = sym (over_all f (fields_from layer f.start src) ∙ I.rest ∙ ap (ended h) (fields_end src layer at l) ∙ ap Ok (ap Some (over_none h)))
 
   module _ (l : at < length src) (r : NextField) (e : r ≡ field_at layer at src) where
     turn : (x : NextField) → r ≡ x → ended h (fields_from layer at src) ≡ ended h (and_then x (λ g. fields_from layer g.end src))
     turn x k = ap (ended h) (fields_step src layer at l ∙ ap (λ (y : NextField). and_then y (λ g. fields_from layer g.end src)) (sym e ∙ k))
 
-    pub heading_broken : (f : FieldAt) → Heading src f.start (first f) at h → r ≡ faulty → LayerBroken ≡ layer_in f (fields_from layer f.start src)
-    heading_broken f I k = sym (over_all f (fields_from layer f.start src) ∙ I.rest ∙ turn faulty k)
+    pub heading_broken : (f : FieldAt) → Heading src f.start (first f) at h → r ≡ None → Err Broken ≡ layer_in f (fields_from layer f.start src)
+    heading_broken f I k = sym (over_all f (fields_from layer f.start src) ∙ I.rest ∙ turn None k)
 
-    module _ (start : ℕ) (h₀ : LayerHead) (I : Heading src start h₀ at h) (g : FieldAt) (k : r ≡ is g) where
+    module _ (start : ℕ) (h₀ : LayerHead) (I : Heading src start h₀ at h) (g : FieldAt) (k : r ≡ Some g) where
       with_ends : FieldEnds at src g
       with_ends = field_ends layer (sym e ∙ k)
 
@@ -261,5 +259,5 @@ module _ (src : List ℕ) (at : ℕ) (h : LayerHead) where
           subst (Heading src start h₀ g.end) (sym w)
           (record {
             counted = counted_up (counted_with h g g.start with_taken.counted) with_ends.ordered;
-            rest = I.rest ∙ turn (is g) k ∙ ended_with h g (fields_from layer g.end src);
+            rest = I.rest ∙ turn (Some g) k ∙ ended_with h g (fields_from layer g.end src);
           })

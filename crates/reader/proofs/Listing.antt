@@ -6,9 +6,8 @@ use mathlib.Core.List.{List, ◌∷◌}
 use mathlib.Core.Option.{Option, none, some}
 use native.Mathlib.Omega.{arith}
 use lib.ListN.{length, set, length-map}
-use Rattle.messages.specs.declared.numbers.VarintAt.{VarintAt}
-use Rattle.messages.specs.declared.numbers.VarintAt.TheVariants.{Is as number, Faulty as noNumber}
-use Rattle.messages.specs.Fields.{varint_at, number_before, numbers_from}
+use Rattle.std.specs.Prelude.{Some, None}
+use Rattle.messages.specs.Fields.{VarintAt, varint_at, number_before, numbers_from}
 use Rattle.messages.specs.Tiles.{is_read}
 use Rattle.messages.specs.Meaning.{low32, or_nothing}
 use Rattle.messages.proofs.Fields.{varint_ends, numbers_step, numbers_end}
@@ -42,16 +41,16 @@ module _ {src : List ℕ} {at from : ℕ} {out₀ out : List ℕ} {i n : ℕ} (I
   list_end h = onward_end I.on (ap low_of (numbers_end src i h))
 
   module _ (r : VarintAt) (h : i < length src) (e : r ≡ varint_at i src) where
-    pub list_never : r ≡ noNumber → ⊥
+    pub list_never : r ≡ None → ⊥
     list_never f =
-        let v : varint_at i src ≡ noNumber = sym e ∙ f in
+        let v : varint_at i src ≡ None = sym e ∙ f in
         let g : numbers_from i src ≡ none = numbers_step src i h ∙ rw v refl in
         let b : false ≡ true = sym (ap is_read g) ∙ I.can in
         let z : ◌≡◌ {A = ℕ} 0 1 = cc in
         omega arith
 
-    module _ (m next : ℕ) (f : r ≡ number m next) where
-      there : varint_at i src ≡ number m next
+    module _ (m next : ℕ) (f : r ≡ Some (m, next)) where
+      there : varint_at i src ≡ Some (m, next)
       there = sym e ∙ f
 
       step : numbers_from i src ≡ number_before m (numbers_from next src)

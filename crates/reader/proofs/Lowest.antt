@@ -10,22 +10,20 @@ use borrow.Author.Tests.{ltb-true, ltb-false, eqb-true, lt-ltb, le-ltb, eq-eqb, 
 use lib.Dec.{ltb, eqb}
 use lib.IntN.{pos, negsuc, neg_ℤ, ◌-ℤ◌}
 use lib.ListN.{length}
+use Rattle.std.specs.Prelude.{Some, None, Ok, Err}
 use Rattle.promise.proofs.Joined.{never}
 use Rattle.words.specs.Params.{unparam}
 use Rattle.messages.specs.declared.key.Kind.TheVariants.{Value as value}
 use Rattle.messages.specs.declared.field.FieldAt.{FieldAt}
-use Rattle.messages.specs.declared.field.NextField.{NextField}
-use Rattle.messages.specs.declared.field.NextField.TheVariants.{Is as is, Faulty as faulty}
-use Rattle.messages.specs.Fields.{field_from, field_at, before, and_then, fields_from}
+use Rattle.messages.specs.Fields.{NextField, field_from, field_at, before, and_then, fields_from}
 use Rattle.messages.specs.Meaning.{later, last_of, unless, kind_field}
 use Rattle.messages.proofs.Fields.{field_ends, fields_step, fields_end}
 use Rattle.reader.specs.declared.layers.Part.{Part}
 use Rattle.reader.specs.declared.entries.ValueAt.{ValueAt}
-use Rattle.reader.specs.declared.entries.ValueStep.{ValueStep}
-use Rattle.reader.specs.declared.entries.ValueStep.TheVariants.{Is as ValueIs, Broken as ValueBroken}
 use Rattle.reader.specs.Bits.{bits64}
 use Rattle.reader.specs.Heads.{part_from, part_of, bits_of, text_in, value_head}
-use Rattle.reader.specs.Steps.{is_kind, kind_with, OfKind, kept_head, value_in}
+use Rattle.reader.specs.declared.cause.Cause.TheVariants.{Broken}
+use Rattle.reader.specs.Steps.{ValueStep, is_kind, kind_with, OfKind, kept_head, value_in}
 
 -- ---- zigzag undone
 one_less : (k : ℕ) → neg_ℤ (pos k) -ℤ pos 1 ≡ negsuc k
@@ -249,12 +247,12 @@ kept_over h g fs = ap (over h) (kind_before g fs) ∙ sym (over_with h g (is_kin
 
 -- ---- the loop: what the value's fields say is what the kept one says with those behind
 abbrev ended : ℕ → FieldAt → Option (List FieldAt) → ValueStep
-ended end h none = ValueBroken
-ended end h (some fs) = ValueIs (kept_head end (over h (kind_field fs)))
+ended end h none = Err Broken
+ended end h (some fs) = Ok (Some (kept_head end (over h (kind_field fs))))
 
 ended_with : (end : ℕ) (h g : FieldAt) (o : Option (List FieldAt)) → ended end h (before g o) ≡ ended end (kind_with h g) o
 ended_with end h g none = refl
-ended_with end h g (some fs) = ap (λ (x : FieldAt). ValueIs (kept_head end x)) (kept_over h g fs)
+ended_with end h g (some fs) = ap (λ (x : FieldAt). Ok (Some (kept_head end x))) (kept_over h g fs)
 
 pub record Keeping (f : FieldAt) (src : List ℕ) (at : ℕ) (kept : FieldAt) : Type 0 where
   pub of_kind : OfKind kept
@@ -267,7 +265,7 @@ head_over f (some k) = refl
 ended_all : (f : FieldAt) (o : Option (List FieldAt)) → value_in f o ≡ ended f.end (field_from 0 0 0 0) o
 unfolding value_in
 ended_all f none = refl
-ended_all f (some fs) = ap ValueIs (head_over f (kind_field fs))
+ended_all f (some fs) = ap Ok (ap Some (head_over f (kind_field fs)))
 
 pub keeping_first : (f : FieldAt) (src : List ℕ) → Keeping f src f.start (field_from 0 0 0 0)
 keeping_first f src = record { of_kind = record { low = omega arith; ordered = omega arith }; rest = ended_all f (fields_from value f.start src) }
@@ -283,17 +281,17 @@ kind_of h g k l = by (is_kind g.key) refl (eqb h.key 0) (ltb h.key g.key)
     by false t c d = k
 
 module _ (f : FieldAt) (src : List ℕ) (at : ℕ) (h : FieldAt) (I : Keeping f src at h) where
-  pub keeping_done : length src ≤ at → (x : ValueAt) → x ≡ kept_head f.end h → ValueIs x ≡ value_in f (fields_from value f.start src)
-  keeping_done l x e = ap ValueIs e ∙ sym (I.rest ∙ ap (ended f.end h) (fields_end src value at l))
+  pub keeping_done : length src ≤ at → (x : ValueAt) → x ≡ kept_head f.end h → Ok (Some x) ≡ value_in f (fields_from value f.start src)
+  keeping_done l x e = ap Ok (ap Some e) ∙ sym (I.rest ∙ ap (ended f.end h) (fields_end src value at l))
 
   module _ (l : at < length src) (r : NextField) (e : r ≡ field_at value at src) where
     turn : (x : NextField) → r ≡ x → ended f.end h (fields_from value at src) ≡ ended f.end h (and_then x (λ g. fields_from value g.end src))
     turn x k = ap (ended f.end h) (fields_step src value at l ∙ ap (λ (y : NextField). and_then y (λ g. fields_from value g.end src)) (sym e ∙ k))
 
-    pub keeping_broken : r ≡ faulty → ValueBroken ≡ value_in f (fields_from value f.start src)
-    keeping_broken k = sym (I.rest ∙ turn faulty k)
+    pub keeping_broken : r ≡ None → Err Broken ≡ value_in f (fields_from value f.start src)
+    keeping_broken k = sym (I.rest ∙ turn None k)
 
-    module _ (g : FieldAt) (k : r ≡ is g) where
+    module _ (g : FieldAt) (k : r ≡ Some g) where
       pub keeping_less : length src - g.end < length src - at
       keeping_less = omega (arith, (field_ends value (sym e ∙ k)).later)
 
@@ -302,5 +300,5 @@ module _ (f : FieldAt) (src : List ℕ) (at : ℕ) (h : FieldAt) (I : Keeping f 
           subst (Keeping f src g.end) (sym w)
           (record {
             of_kind = kind_of h g I.of_kind (field_ends value (sym e ∙ k)).ordered;
-            rest = I.rest ∙ turn (is g) k ∙ ended_with f.end h g (fields_from value g.end src);
+            rest = I.rest ∙ turn (Some g) k ∙ ended_with f.end h g (fields_from value g.end src);
           })

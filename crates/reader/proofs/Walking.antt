@@ -12,15 +12,14 @@ use borrow.Author.Tests.{ltb-true, ltb-false, eqb-true, le-leb}
 use lib.Dec.{ltb, eqb}
 use lib.ListN.{length, take}
 use lib.Seq.{length-take-le, take-take}
+use Rattle.std.specs.Prelude.{Some, None, Ok}
 use Rattle.promise.proofs.Joined.{never, cond_both}
 use Rattle.wire.specs.declared.field.Field.TheVariants.{TileLayer, LayerKey, LayerValue}
 use Rattle.wire.specs.Schema.{key_of}
 use Rattle.messages.specs.declared.key.Kind.{Kind}
 use Rattle.messages.specs.declared.key.Kind.TheVariants.{Tile as tile, Layer as layer, Value as value}
 use Rattle.messages.specs.declared.field.FieldAt.{FieldAt}
-use Rattle.messages.specs.declared.field.NextField.{NextField}
-use Rattle.messages.specs.declared.field.NextField.TheVariants.{Is as is, Faulty as faulty}
-use Rattle.messages.specs.Fields.{field_at, before, and_then, fields_from}
+use Rattle.messages.specs.Fields.{NextField, field_at, before, and_then, fields_from}
 use Rattle.messages.specs.declared.key.Body.TheVariants.{Within as within}
 use Rattle.messages.specs.declared.key.Follows.{Follows}
 use Rattle.messages.specs.declared.key.Follows.TheVariants.{ABody as aBody}
@@ -28,12 +27,7 @@ use Rattle.messages.specs.Keys.{follows}
 use Rattle.messages.specs.Tiles.{Verdict, is_content, holds, all_hold, if_read, nested, is_good}
 use Rattle.messages.specs.Meaning.{or_nothing, each_of, fields_of, kind_field, layer_fields}
 use Rattle.messages.proofs.Fields.{fields_step, fields_end}
-use Rattle.reader.specs.declared.find.Found.{Found}
-use Rattle.reader.specs.declared.find.Found.TheVariants.{At, Nothing}
-use Rattle.reader.specs.declared.layers.NextLayer.TheVariants.{Is as LayerIs, End as NoLayer}
-use Rattle.reader.specs.declared.entries.NextKey.TheVariants.{Is as KeyIs, End as NoKey}
-use Rattle.reader.specs.declared.entries.NextValue.TheVariants.{Is as ValueIs, End as NoValue}
-use Rattle.reader.specs.Finding.{or_later, first_of}
+use Rattle.reader.specs.Finding.{Found, or_later, first_of}
 use Rattle.reader.specs.Heads.{part_of, layer_head, value_head}
 use Rattle.reader.specs.Answers.{layer_read, next_layer, next_key, value_read, next_value}
 use Rattle.reader.proofs.Finding.{first_step, first_end, found_at}
@@ -46,7 +40,7 @@ Walk call nothing one at (f ∷ fs) = (call at ≡ one f) × Walk call nothing o
 -- ---- the fields of a message from a place on: none where it ends, or one and those behind it
 pub record Behind (kind : Kind) (at : ℕ) (src : List ℕ) (f : FieldAt) (fs : List FieldAt) : Type 0 where
   pub inside : at < length src
-  pub here : field_at kind at src ≡ is f
+  pub here : field_at kind at src ≡ Some f
   pub rest : fields_from kind f.end src ≡ some fs
 
 no_fields : {A : Type 0} {fs : List FieldAt} → none ≡ some fs → A
@@ -65,8 +59,8 @@ module _ (kind : Kind) (src : List ℕ) where
     none_before g (some gs) e = no_first e
 
     none_read : (r : NextField) → and_then r from ≡ some [] → ⊥
-    none_read (is g) e = none_before g (from g) e
-    none_read faulty e = no_fields e
+    none_read (Some g) e = none_before g (from g) e
+    none_read None e = no_fields e
 
     over : fields_from kind at src ≡ some [] → length src ≤ at
     over e = by (ltb at (length src)) refl
@@ -76,16 +70,16 @@ module _ (kind : Kind) (src : List ℕ) where
         by false t = ltb-false at (length src) t
 
     module _ (f : FieldAt) (fs : List FieldAt) where
-      one_before : at < length src → (g : FieldAt) → field_at kind at src ≡ is g → (o : Option (List FieldAt)) → from g ≡ o → before g o ≡ some (f ∷ fs) → Behind kind at src f fs
+      one_before : at < length src → (g : FieldAt) → field_at kind at src ≡ Some g → (o : Option (List FieldAt)) → from g ≡ o → before g o ≡ some (f ∷ fs) → Behind kind at src f fs
       one_before h g e none m k = no_fields k
       one_before h g e (some gs) m k =
           let a : g ≡ f = cc in
           let b : gs ≡ fs = cc in
-          record { inside = h; here = e ∙ ap is a; rest = ap from (sym a) ∙ m ∙ ap some b }
+          record { inside = h; here = e ∙ ap Some a; rest = ap from (sym a) ∙ m ∙ ap some b }
 
       one_read : at < length src → (r : NextField) → field_at kind at src ≡ r → and_then r from ≡ some (f ∷ fs) → Behind kind at src f fs
-      one_read h (is g) e k = one_before h g e (from g) refl k
-      one_read h faulty e k = no_fields k
+      one_read h (Some g) e k = one_before h g e (from g) refl k
+      one_read h None e k = no_fields k
 
       pub behind : fields_from kind at src ≡ some (f ∷ fs) → Behind kind at src f fs
       behind e = by (ltb at (length src)) refl
@@ -100,16 +94,16 @@ module _ (kind : Kind) (src : List ℕ) where
     finds at = first_of kind key at src
 
     -- a field with another key is passed over
-    same_walk : (at end : ℕ) → finds at ≡ finds end → (fs : List FieldAt) → Walk finds Nothing At end fs → Walk finds Nothing At at fs
+    same_walk : (at end : ℕ) → finds at ≡ finds end → (fs : List FieldAt) → Walk finds (Ok None) (λ g. Ok (Some g)) end fs → Walk finds (Ok None) (λ g. Ok (Some g)) at fs
     same_walk at end e [] w = e ∙ w
     same_walk at end e (f ∷ fs) w = (e ∙ w.0, w.1)
 
-    walk_by : (at : ℕ) (f : FieldAt) (fs : List FieldAt) → finds at ≡ or_later key (is f) (λ g. finds g.end) → Walk finds Nothing At f.end (each_of key fs) →
-        (b : Bool) → eqb f.key key ≡ b → Walk finds Nothing At at (cond b (f ∷ each_of key fs) (each_of key fs))
+    walk_by : (at : ℕ) (f : FieldAt) (fs : List FieldAt) → finds at ≡ or_later key (Some f) (λ g. finds g.end) → Walk finds (Ok None) (λ g. Ok (Some g)) f.end (each_of key fs) →
+        (b : Bool) → eqb f.key key ≡ b → Walk finds (Ok None) (λ g. Ok (Some g)) at (cond b (f ∷ each_of key fs) (each_of key fs))
     walk_by at f fs e w true t = (rw t at e, w)
     walk_by at f fs e w false t = same_walk at f.end (rw t at e) (each_of key fs) w
 
-    pub walk_each : (at : ℕ) (fs : List FieldAt) → fields_from kind at src ≡ some fs → Walk finds Nothing At at (each_of key fs)
+    pub walk_each : (at : ℕ) (fs : List FieldAt) → fields_from kind at src ≡ some fs → Walk finds (Ok None) (λ g. Ok (Some g)) at (each_of key fs)
     walk_each at [] e = first_end kind key src at (over at e)
     walk_each at (f ∷ fs) e =
         let b = behind at f fs e in
@@ -158,7 +152,7 @@ pub record GoodBody (deep : ℕ) (sub : Kind) (src : List ℕ) (f : FieldAt) : T
   pub good : nested deep sub f.start (take f.end src) ≡ true
 
 module _ (kind : Kind) (key : ℕ) (src : List ℕ) where
-  walk_inside : (deep : ℕ) (sub : Kind) (at : ℕ) (fs : List FieldAt) → Walk (finds kind src key) Nothing At at fs →
+  walk_inside : (deep : ℕ) (sub : Kind) (at : ℕ) (fs : List FieldAt) → Walk (finds kind src key) (Ok None) (λ g. Ok (Some g)) at fs →
       All (λ f. nested deep sub f.start (take f.end src) ≡ true) fs → All (GoodBody deep sub src) fs
   walk_inside deep sub at [] w g = tt
   walk_inside deep sub at (f ∷ fs) w g =
@@ -171,9 +165,9 @@ module _ (kind : Kind) (key : ℕ) (src : List ℕ) where
 
   -- a walk of a call that answers by what is found; P is known of each
   module _ {A : Type 0} (call : ℕ → A) (nothing : A) (one : FieldAt → A) (P : FieldAt → Type 0)
-      (ends : (at : ℕ) → at ≤ length src → finds kind src key at ≡ Nothing → call at ≡ nothing)
-      (goes : (at : ℕ) (f : FieldAt) → at ≤ length src → finds kind src key at ≡ At f → P f → call at ≡ one f) where
-    pub walk_call : (at : ℕ) (fs : List FieldAt) → at ≤ length src → Walk (finds kind src key) Nothing At at fs → All P fs → Walk call nothing one at fs
+      (ends : (at : ℕ) → at ≤ length src → finds kind src key at ≡ Ok None → call at ≡ nothing)
+      (goes : (at : ℕ) (f : FieldAt) → at ≤ length src → finds kind src key at ≡ Ok (Some f) → P f → call at ≡ one f) where
+    pub walk_call : (at : ℕ) (fs : List FieldAt) → at ≤ length src → Walk (finds kind src key) (Ok None) (λ g. Ok (Some g)) at fs → All P fs → Walk call nothing one at fs
     walk_call at [] h w g = ends at h w
     walk_call at (f ∷ fs) h w g = (goes at f h w.0 g.0, walk_call f.end fs (found_at kind key src w.0).inside w.1 g.1)
 
@@ -202,20 +196,20 @@ good_layers src g =
     subst (λ (fs : List FieldAt). All (GoodLayer src) (each_of (key_of TileLayer) fs)) (fields_are (fields_from tile 0 src) r.read) (good_bodies tile (key_of TileLayer) src 2 layer layer_follows 0 r)
 
 module _ (v : Verdict) (src : List ℕ) where
-  layer_is : (f : FieldAt) (o : Option (List FieldAt)) (fs : List FieldAt) → o ≡ some fs → layer_read v f o ≡ LayerIs (layer_head f (or_nothing o))
+  layer_is : (f : FieldAt) (o : Option (List FieldAt)) (fs : List FieldAt) → o ≡ some fs → layer_read v f o ≡ Ok (Some (layer_head f (or_nothing o)))
   layer_is f o fs e = rw e refl
 
-  pub walk_layers : is_good src ≡ true → Walk (λ at. next_layer at src v) NoLayer (λ f. LayerIs (layer_head f (fields_of layer src f))) 0 (layer_fields src)
+  pub walk_layers : is_good src ≡ true → Walk (λ at. next_layer at src v) (Ok None) (λ f. Ok (Some (layer_head f (fields_of layer src f)))) 0 (layer_fields src)
   unfolding next_layer
   walk_layers g =
       let r = tile_read src g in
-      walk_call tile (key_of TileLayer) src (λ at. next_layer at src v) NoLayer (λ f. LayerIs (layer_head f (fields_of layer src f))) (GoodLayer src)
+      walk_call tile (key_of TileLayer) src (λ at. next_layer at src v) (Ok None) (λ f. Ok (Some (layer_head f (fields_of layer src f)))) (GoodLayer src)
       (λ at h e. rw (le-leb at (length src) h, e) refl)
       (λ at f h e k.
       let m = nested_read 1 layer f.start (take f.end src) k.good in
       rw (le-leb at (length src) h, e) (layer_is f (fields_from layer f.start (take f.end src)) m.fields m.read))
       0 (layer_fields src) (omega arith)
-      (subst (λ (fs : List FieldAt). Walk (finds tile src (key_of TileLayer)) Nothing At 0 (each_of (key_of TileLayer) fs)) (fields_are (fields_from tile 0 src) r.read) (walk_each tile src (key_of TileLayer) 0 r.fields r.read))
+      (subst (λ (fs : List FieldAt). Walk (finds tile src (key_of TileLayer)) (Ok None) (λ g. Ok (Some g)) 0 (each_of (key_of TileLayer) fs)) (fields_are (fields_from tile 0 src) r.read) (walk_each tile src (key_of TileLayer) 0 r.fields r.read))
       (good_layers src g)
 
   -- ---- the keys and values of a good layer
@@ -227,9 +221,9 @@ module _ (v : Verdict) (src : List ℕ) where
     long = length-take-le f.end src k.inside
 
     -- every field with a key, as found from the layer's start on
-    pub walk_found : (key : ℕ) → Walk (finds layer (take f.end src) key) Nothing At f.start (each_of key (fields_of layer src f))
+    pub walk_found : (key : ℕ) → Walk (finds layer (take f.end src) key) (Ok None) (λ g. Ok (Some g)) f.start (each_of key (fields_of layer src f))
     walk_found key =
-        subst (λ (fs : List FieldAt). Walk (finds layer (take f.end src) key) Nothing At f.start (each_of key fs))
+        subst (λ (fs : List FieldAt). Walk (finds layer (take f.end src) key) (Ok None) (λ g. Ok (Some g)) f.start (each_of key fs))
         (fields_are (fields_from layer f.start (take f.end src)) layer_read_lem.read)
         (walk_each layer (take f.end src) key f.start layer_read_lem.fields layer_read_lem.read)
 
@@ -237,15 +231,15 @@ module _ (v : Verdict) (src : List ℕ) where
     any [] = tt
     any (g ∷ fs) = (tt, any fs)
 
-    pub walk_keys : Walk (λ at. next_key at f.end src v) NoKey (λ g. KeyIs (part_of g)) f.start (each_of (key_of LayerKey) (fields_of layer src f))
+    pub walk_keys : Walk (λ at. next_key at f.end src v) (Ok None) (λ g. Ok (Some (part_of g))) f.start (each_of (key_of LayerKey) (fields_of layer src f))
     unfolding next_key
     walk_keys =
-        walk_call layer (key_of LayerKey) (take f.end src) (λ at. next_key at f.end src v) NoKey (λ g. KeyIs (part_of g)) (λ g. Unit {0})
+        walk_call layer (key_of LayerKey) (take f.end src) (λ at. next_key at f.end src v) (Ok None) (λ g. Ok (Some (part_of g))) (λ g. Unit {0})
         (λ at h e. rw (le-leb at f.end (omega (arith, h, long)), le-leb f.end (length src) k.inside, e) refl)
         (λ at g h e u. rw (le-leb at f.end (omega (arith, h, long)), le-leb f.end (length src) k.inside, e) refl)
         f.start (each_of (key_of LayerKey) (fields_of layer src f)) (omega (arith, k.ordered, long)) (walk_found (key_of LayerKey)) (any (each_of (key_of LayerKey) (fields_of layer src f)))
 
-    value_is_lem : (g : FieldAt) (o : Option (List FieldAt)) (fs : List FieldAt) → o ≡ some fs → value_read v g o ≡ ValueIs (value_head g (kind_field (or_nothing o)))
+    value_is_lem : (g : FieldAt) (o : Option (List FieldAt)) (fs : List FieldAt) → o ≡ some fs → value_read v g o ≡ Ok (Some (value_head g (kind_field (or_nothing o))))
     value_is_lem g o fs e = rw e refl
 
     good_values : All (GoodBody 1 value (take f.end src)) (each_of (key_of LayerValue) (fields_of layer src f))
@@ -254,10 +248,10 @@ module _ (v : Verdict) (src : List ℕ) where
         (fields_are (fields_from layer f.start (take f.end src)) layer_read_lem.read)
         (good_bodies layer (key_of LayerValue) (take f.end src) 1 value value_follows f.start layer_read_lem)
 
-    pub walk_values : Walk (λ at. next_value at f.end src v) NoValue (λ g. ValueIs (value_head g (kind_field (fields_of value src g)))) f.start (each_of (key_of LayerValue) (fields_of layer src f))
+    pub walk_values : Walk (λ at. next_value at f.end src v) (Ok None) (λ g. Ok (Some (value_head g (kind_field (fields_of value src g))))) f.start (each_of (key_of LayerValue) (fields_of layer src f))
     unfolding next_value
     walk_values =
-        walk_call layer (key_of LayerValue) (take f.end src) (λ at. next_value at f.end src v) NoValue (λ g. ValueIs (value_head g (kind_field (fields_of value src g))))
+        walk_call layer (key_of LayerValue) (take f.end src) (λ at. next_value at f.end src v) (Ok None) (λ g. Ok (Some (value_head g (kind_field (fields_of value src g)))))
         (GoodBody 1 value (take f.end src))
         (λ at h e. rw (le-leb at f.end (omega (arith, h, long)), le-leb f.end (length src) k.inside, e) refl)
         (λ at g h e b.

@@ -8,12 +8,11 @@ use mathlib.Core.Option.{Option, none, some}
 use native.Mathlib.Omega.{arith}
 use borrow.Author.Tests.{eq-eqb, ne_eqb}
 use lib.ListN.{length, take, set, length-append}
+use Rattle.std.specs.Prelude.{Some, None}
 use Rattle.promise.proofs.Laying.{lay_nothing, lay_one}
 use Rattle.messages.specs.declared.key.Kind.TheVariants.{Feature as feature}
 use Rattle.messages.specs.declared.field.FieldAt.{FieldAt}
-use Rattle.messages.specs.declared.field.NextField.{NextField}
-use Rattle.messages.specs.declared.field.NextField.TheVariants.{Is as is, Faulty as faulty}
-use Rattle.messages.specs.Fields.{before, field_at, fields_from, numbers_from}
+use Rattle.messages.specs.Fields.{NextField, before, field_at, fields_from, numbers_from}
 use Rattle.messages.specs.Tiles.{is_read, holds, all_hold, if_read, nested}
 use Rattle.messages.specs.Meaning.{low32, or_nothing}
 use Rattle.messages.proofs.Fields.{field_ends, fields_step, fields_end}
@@ -88,16 +87,16 @@ module _ (packed single : ℕ) (src : List ℕ) where
     fields_done h = onward_end I.on (ap (λ (o : Option (List FieldAt)). words_at packed single src (or_nothing o)) (fields_end src feature at h))
 
     module _ (r : NextField) (h : at < length src) (e : r ≡ field_at feature at src) where
-      pub fields_never : r ≡ faulty → ⊥
+      pub fields_never : r ≡ None → ⊥
       fields_never g =
-          let v : field_at feature at src ≡ faulty = sym e ∙ g in
+          let v : field_at feature at src ≡ None = sym e ∙ g in
           let s : fields_from feature at src ≡ none = fields_step src feature at h ∙ rw v refl in
           let b : false ≡ true = sym (ap (if_read (nested 0) feature src) s) ∙ I.good in
           let z : ◌≡◌ {A = ℕ} 0 1 = cc in
           omega arith
 
-      module _ (f : FieldAt) (g : r ≡ is f) where
-        there : field_at feature at src ≡ is f
+      module _ (f : FieldAt) (g : r ≡ Some f) where
+        there : field_at feature at src ≡ Some f
         there = sym e ∙ g
 
         step : fields_from feature at src ≡ before f (fields_from feature f.end src)

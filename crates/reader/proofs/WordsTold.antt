@@ -8,6 +8,7 @@ use native.Mathlib.Omega.{arith}
 use borrow.Author.Tests.{le-leb, lt-leb}
 use lib.Dec.{leb}
 use lib.ListN.{length, take}
+use Rattle.std.specs.Prelude.{Some, None, Ok, Err}
 use Rattle.promise.specs.Answers.{Written, Gives, kept}
 use Rattle.promise.specs.Laid.{lay}
 use Rattle.refusal.specs.declared.Refusal.TheVariants.{State, Room}
@@ -21,19 +22,16 @@ use Rattle.messages.specs.Fields.{fields_from}
 use Rattle.messages.specs.Tiles.{Verdict, Answers, nested}
 use Rattle.messages.specs.Meaning.{or_nothing, single_key, words_in, words_of}
 use Rattle.reader.specs.declared.features.FeatureHead.{FeatureHead}
-use Rattle.reader.specs.declared.features.FeatureRead.{FeatureRead}
-use Rattle.reader.specs.declared.features.FeatureRead.TheVariants.{Is as ReadIs, Broken as ReadBroken}
 use Rattle.reader.specs.declared.into.Which.{Which}
 use Rattle.reader.specs.declared.into.Which.TheVariants.{Tags, Geometry}
-use Rattle.reader.specs.declared.into.WordsStep.{WordsStep}
-use Rattle.reader.specs.declared.into.WordsStep.TheVariants.{Words as StepWords, NoRoom as StepNoRoom, Outside as StepOutside, Broken as StepBroken}
-use Rattle.reader.specs.declared.into.Laid.{Laid}
-use Rattle.reader.specs.declared.into.Laid.TheVariants.{Words, Refused}
+use Rattle.reader.specs.declared.cause.Cause.{Cause}
+use Rattle.reader.specs.declared.cause.Cause.TheVariants.{Outside, NoRoom, Broken}
 use Rattle.reader.specs.Packed.{PutsAt}
-use Rattle.reader.specs.Answers.{blamed, within, laid_out, words_into}
-use Rattle.reader.specs.FeatureSteps.{head_from, feature_read}
-use Rattle.reader.specs.WordSteps.{field_of, packed_of, single_of, count_of, words_at, AllFit, step_laid, words_step, told_words, told_into}
-use Rattle.reader.proofs.Telling.{settled, by_verdict}
+use Rattle.reader.specs.Answers.{Laid, blamed, fault_of, within, laid_out, words_into}
+use Rattle.reader.specs.FeatureSteps.{FeatureRead, head_from, feature_read}
+use Rattle.reader.specs.WordSteps.{WordsStep, field_of, packed_of, single_of, count_of, words_at, AllFit, step_laid, words_step, told_into}
+use Rattle.reader.specs.Steps.{told}
+use Rattle.reader.proofs.Telling.{says, refuses}
 
 -- ---- which numbers
 words_same : (field : Field) (src : List ℕ) (fs : List FieldAt) → words_at (key_of field) (single_key field) src fs ≡ words_of field src fs
@@ -54,11 +52,11 @@ count_is Geometry start end src fs = refl
 
 -- ---- the ways of the code
 module _ (which : Which) (start end : ℕ) (src out : List ℕ) where
-  pub words_before : end < start → Gives (words_step (field_of which) start end src out) StepOutside out
+  pub words_before : end < start → Gives (words_step (field_of which) start end src out) (Err Outside) out
   unfolding words_step
   words_before h = rw (lt-leb start end h) (record { answer = refl; memory = refl })
 
-  pub words_beyond : start ≤ end → length src < end → Gives (words_step (field_of which) start end src out) StepOutside out
+  pub words_beyond : start ≤ end → length src < end → Gives (words_step (field_of which) start end src out) (Err Outside) out
   unfolding words_step
   words_beyond h k = rw (le-leb start end h, lt-leb end (length src) k) (record { answer = refl; memory = refl })
 
@@ -73,31 +71,31 @@ module _ (which : Which) (start end : ℕ) (src out : List ℕ) where
       good : nested 1 feature start (take end src) ≡ true
       head : x ≡ head_from start (length (take end src)) (take end src) fields
 
-    read_is : (x : FeatureHead) → r ≡ ReadIs x → Read x
+    read_is : (x : FeatureHead) → r ≡ Some x → Read x
     unfolding feature_read
     read_is x g = by (nested 1 feature start (take end src)) refl (sym e ∙ g)
       where
-        by : (b : Bool) → nested 1 feature start (take end src) ≡ b → cond b (ReadIs (head_from start (length (take end src)) (take end src) fields)) ReadBroken ≡ ReadIs x → Read x
+        by : (b : Bool) → nested 1 feature start (take end src) ≡ b → cond b (Some (head_from start (length (take end src)) (take end src) fields)) None ≡ Some x → Read x
         by true n m = record { good = n; head = let z : head_from start (length (take end src)) (take end src) fields ≡ x = cc in sym z }
         by false n m = absurd (let z : ◌≡◌ {A = ℕ} 0 1 = cc in omega arith)
 
-    not_read : r ≡ ReadBroken → nested 1 feature start (take end src) ≡ false
+    not_read : r ≡ None → nested 1 feature start (take end src) ≡ false
     unfolding feature_read
     not_read g = by (nested 1 feature start (take end src)) (sym e ∙ g)
       where
-        by : (b : Bool) → cond b (ReadIs (head_from start (length (take end src)) (take end src) fields)) ReadBroken ≡ ReadBroken → b ≡ false
+        by : (b : Bool) → cond b (Some (head_from start (length (take end src)) (take end src) fields)) None ≡ None → b ≡ false
         by true m = absurd (let z : ◌≡◌ {A = ℕ} 0 1 = cc in omega arith)
         by false m = refl
 
-    pub words_broken : r ≡ ReadBroken → Gives (words_step (field_of which) start end src out) StepBroken out
+    pub words_broken : r ≡ None → Gives (words_step (field_of which) start end src out) (Err Broken) out
     unfolding words_step
     words_broken g = rw (le-leb start end h, le-leb end (length src) k, not_read g) (record { answer = refl; memory = refl })
 
-    module _ (x : FeatureHead) (g : r ≡ ReadIs x) (n : ℕ) (m : n ≡ count_of which x) where
+    module _ (x : FeatureHead) (g : r ≡ Some x) (n : ℕ) (m : n ≡ count_of which x) where
       count : n ≡ length found
       count = m ∙ ap (count_of which) (read_is x g).head ∙ count_is which start (length (take end src)) (take end src) fields
 
-      pub words_no_room : length out < n → Gives (words_step (field_of which) start end src out) StepNoRoom out
+      pub words_no_room : length out < n → Gives (words_step (field_of which) start end src out) (Err NoRoom) out
       unfolding words_step
       words_no_room l =
           let f : length out < length found = omega (arith, count) in
@@ -110,26 +108,26 @@ module _ (which : Which) (start end : ℕ) (src out : List ℕ) where
         pub words_able : AllFit p s (take end src) start out
         words_able = record { a_list = rw a (a_list_of which); good = (read_is x g).good; fits = omega (arith, ap length words_are, count) }
 
-        pub words_laid : (w : ℕ) (o : List ℕ) → PutsAt 0 (words_at p s (take end src) fields) out w o → Gives (words_step (field_of which) start end src out) (StepWords w) o
+        pub words_laid : (w : ℕ) (o : List ℕ) → PutsAt 0 (words_at p s (take end src) fields) out w o → Gives (words_step (field_of which) start end src out) (Ok w) o
         unfolding words_step
         words_laid w o q =
             let f : length found ≤ length out = omega (arith, count) in
             let c : w ≡ length found = omega (arith, q.place, ap length words_are) in
             rw (le-leb start end h, le-leb end (length src) k, (read_is x g).good, le-leb (length found) (length out) f)
-            (record { answer = ap StepWords c; memory = q.list ∙ ap (λ (ws : List ℕ). lay 0 ws out) words_are })
+            (record { answer = ap Ok c; memory = q.list ∙ ap (λ (ws : List ℕ). lay 0 ws out) words_are })
 
 -- ---- the call is what is told of the step
 pub words_told : (v : Verdict) (field : Field) (start end : ℕ) (src out : List ℕ) → told_into v (words_step field start end src out) ≡ words_into field start end src out v
 unfolding words_step words_into
 words_told v field start end src out = by (within start end src) (nested 1 feature start (take end src)) (words_of field (take end src) (or_nothing (fields_from feature start (take end src))))
   where
-    laid : (ws : List ℕ) (b : Bool) → told_into v (cond b (record { answer = StepWords (length ws); memory = lay 0 ws out }) (kept StepNoRoom out))
-        ≡ cond b (record { answer = Words (length ws); memory = lay 0 ws out }) (kept (Refused (plain Room)) out)
+    laid : (ws : List ℕ) (b : Bool) → told_into v (cond b (record { answer = Ok (length ws); memory = lay 0 ws out }) (kept (Err NoRoom) out))
+        ≡ cond b (record { answer = Ok (length ws); memory = lay 0 ws out }) (kept (Err (plain Room)) out)
     laid ws true = refl
     laid ws false = refl
 
-    by : (a b : Bool) (ws : List ℕ) → told_into v (cond a (cond b (step_laid ws out) (kept StepBroken out)) (kept StepOutside out))
-        ≡ cond a (cond b (laid_out ws out) (kept (Refused (blamed v)) out)) (kept (Refused (plain State)) out)
+    by : (a b : Bool) (ws : List ℕ) → told_into v (cond a (cond b (step_laid ws out) (kept (Err Broken) out)) (kept (Err Outside) out))
+        ≡ cond a (cond b (laid_out ws out) (kept (Err (blamed v)) out)) (kept (Err (plain State)) out)
     by true true ws = laid ws (leb (length ws) (length out))
     by true false ws = refl
     by false b ws = refl
@@ -139,26 +137,17 @@ module _ (field : Field) (start end : ℕ) (src out : List ℕ) (s : WordsStep) 
   abbrev written : Laid → Written Laid (List ℕ)
   written r = record { answer = r; memory = l }
 
-  abbrev told : Verdict → WordsStep → Written Laid (List ℕ)
-  told v x = written (told_words v x)
-
-  same : (v : Verdict) (w : Written WordsStep (List ℕ)) → s ≡ w.answer → l ≡ w.memory → told v s ≡ told_into v w
+  same : (v : Verdict) (w : Written WordsStep (List ℕ)) → s ≡ w.answer → l ≡ w.memory → written (told v s) ≡ told_into v w
   same v w a b = rw (a, b) refl
 
-  into_by : (v : Verdict) → words_into field start end src out v ≡ told v s
+  into_by : (v : Verdict) → words_into field start end src out v ≡ written (told v s)
   into_by v = sym (same v (words_step field start end src out) g.answer g.memory ∙ words_told v field start end src out)
 
   abbrev Promised : Laid → Type 0
   Promised r = Answers src (words_into field start end src out) (written r)
 
-  pub into_words : (n : ℕ) → s ≡ StepWords n → Promised (Words n)
-  into_words n k = settled src (words_into field start end src out) told s into_by (StepWords n) k (written (Words n)) (λ v. refl)
+  pub into_words : (n : ℕ) → s ≡ Ok n → Promised (Ok n)
+  into_words n k = says src (words_into field start end src out) s written into_by n k
 
-  pub into_no_room : s ≡ StepNoRoom → Promised (Refused (plain Room))
-  into_no_room k = settled src (words_into field start end src out) told s into_by StepNoRoom k (written (Refused (plain Room))) (λ v. refl)
-
-  pub into_outside : s ≡ StepOutside → Promised (Refused (plain State))
-  into_outside k = settled src (words_into field start end src out) told s into_by StepOutside k (written (Refused (plain State))) (λ v. refl)
-
-  pub into_broken : s ≡ StepBroken → (f : Fault) → Answers src blamed f → Promised (Refused f)
-  into_broken k f a = by_verdict src (words_into field start end src out) told s into_by StepBroken k (λ x. written (Refused x)) f (λ v. refl) a
+  pub into_refused : (c : Cause) → s ≡ Err c → (f : Fault) → Answers src (fault_of c) f → Promised (Err f)
+  into_refused c k f a = refuses src (words_into field start end src out) s written into_by c k f a

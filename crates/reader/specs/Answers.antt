@@ -1,6 +1,6 @@
 -- Request (i), the calls: what each answers on any bytes and at any place. A place beyond the bytes is STATE. What cannot be read is the tile's fault, WIRE with
 -- its place; where the tile is good, the place that was given is no field's, and it is STATE. ROOM comes last.
-use Rattle.std.specs.Prelude.{ℕ, Bool, cond, ◌&&◌, List, leb, length, take}
+use Rattle.std.specs.Prelude.{ℕ, Bool, cond, ◌&&◌, List, leb, length, take, Option as Maybe, Some, None, Result, Ok, Err}
 use Rattle.std.proofs.Math.Option.{Option, none, some}
 use Rattle.promise.specs.Answers.{Written, kept}
 use Rattle.promise.specs.Laid.{lay}
@@ -15,24 +15,40 @@ use Rattle.messages.specs.declared.field.FieldAt.{FieldAt}
 use Rattle.messages.specs.Fields.{fields_from}
 use Rattle.messages.specs.Tiles.{Verdict, good, fault, nested}
 use Rattle.messages.specs.Meaning.{or_nothing, kind_field, words_of, feature_of}
-use Rattle.reader.specs.declared.find.Found.{Found}
-use Rattle.reader.specs.declared.find.Found.TheVariants.{At, Nothing, Broken}
-use Rattle.reader.specs.declared.layers.NextLayer.{NextLayer}
-use Rattle.reader.specs.declared.layers.NextLayer.TheVariants.{Is as LayerIs, End as NoLayer, Refused as LayerRefused}
-use Rattle.reader.specs.declared.features.NextFeature.{NextFeature}
-use Rattle.reader.specs.declared.features.NextFeature.TheVariants.{Is as FeatureIs, End as NoFeature, Refused as FeatureRefused}
-use Rattle.reader.specs.declared.entries.NextKey.{NextKey}
-use Rattle.reader.specs.declared.entries.NextKey.TheVariants.{Is as KeyIs, End as NoKey, Refused as KeyRefused}
-use Rattle.reader.specs.declared.entries.NextValue.{NextValue}
-use Rattle.reader.specs.declared.entries.NextValue.TheVariants.{Is as ValueIs, End as NoValue, Refused as ValueRefused}
-use Rattle.reader.specs.declared.into.Laid.{Laid}
-use Rattle.reader.specs.declared.into.Laid.TheVariants.{Words, Refused}
-use Rattle.reader.specs.Finding.{first_of}
+use Rattle.reader.specs.declared.cause.Cause.{Cause}
+use Rattle.reader.specs.declared.cause.Cause.TheVariants.{Outside, NoRoom, Broken}
+use Rattle.reader.specs.declared.layers.Part.{Part}
+use Rattle.reader.specs.declared.layers.LayerHead.{LayerHead}
+use Rattle.reader.specs.declared.features.FeatureHead.{FeatureHead}
+use Rattle.reader.specs.declared.entries.ValueAt.{ValueAt}
+use Rattle.reader.specs.Finding.{Found, first_of}
 use Rattle.reader.specs.Heads.{part_of, layer_head, feature_head, value_head}
+
+-- what the calls answer: what stands next, None where nothing follows, or a refusal; and how many numbers are laid
+abbrev pub NextLayer : Type 0
+NextLayer = Result (Maybe LayerHead) Fault
+
+abbrev pub NextFeature : Type 0
+NextFeature = Result (Maybe FeatureHead) Fault
+
+abbrev pub NextKey : Type 0
+NextKey = Result (Maybe Part) Fault
+
+abbrev pub NextValue : Type 0
+NextValue = Result (Maybe ValueAt) Fault
+
+abbrev pub Laid : Type 0
+Laid = Result ℕ Fault
 
 abbrev pub blamed : Verdict → Fault
 blamed good = plain State
 blamed (fault place) = placed Wire place
+
+-- of what keeps a call from its answer, the fault that it tells
+abbrev pub fault_of : Cause → Verdict → Fault
+fault_of Outside v = plain State
+fault_of NoRoom v = plain Room
+fault_of Broken v = blamed v
 
 -- a place, and an end of the message that it is in
 abbrev pub within : ℕ → ℕ → List ℕ → Bool
@@ -41,56 +57,56 @@ within at end src = leb at end && leb end (length src)
 module _ (v : Verdict) where
   -- ---- the next layer of a tile
   abbrev pub layer_read : FieldAt → Option (List FieldAt) → NextLayer
-  layer_read f none = LayerRefused (blamed v)
-  layer_read f (some fs) = LayerIs (layer_head f fs)
+  layer_read f none = Err (blamed v)
+  layer_read f (some fs) = Ok (Some (layer_head f fs))
 
   abbrev pub layer_found : List ℕ → Found → NextLayer
-  layer_found src (At f) = layer_read f (fields_from layer f.start (take f.end src))
-  layer_found src Nothing = NoLayer
-  layer_found src Broken = LayerRefused (blamed v)
+  layer_found src (Ok (Some f)) = layer_read f (fields_from layer f.start (take f.end src))
+  layer_found src (Ok None) = Ok None
+  layer_found src (Err c) = Err (fault_of c v)
 
   -- ---- the next feature, key and value of a layer whose message ends where the bytes do
   abbrev pub feature_found : List ℕ → Found → NextFeature
-  feature_found src (At f) = cond (nested 1 feature f.start (take f.end src)) (FeatureIs (feature_head f (feature_of src f))) (FeatureRefused (blamed v))
-  feature_found src Nothing = NoFeature
-  feature_found src Broken = FeatureRefused (blamed v)
+  feature_found src (Ok (Some f)) = cond (nested 1 feature f.start (take f.end src)) (Ok (Some (feature_head f (feature_of src f)))) (Err (blamed v))
+  feature_found src (Ok None) = Ok None
+  feature_found src (Err c) = Err (fault_of c v)
 
   abbrev pub key_found : Found → NextKey
-  key_found (At f) = KeyIs (part_of f)
-  key_found Nothing = NoKey
-  key_found Broken = KeyRefused (blamed v)
+  key_found (Ok (Some f)) = Ok (Some (part_of f))
+  key_found (Ok None) = Ok None
+  key_found (Err c) = Err (fault_of c v)
 
   abbrev pub value_read : FieldAt → Option (List FieldAt) → NextValue
-  value_read f none = ValueRefused (blamed v)
-  value_read f (some fs) = ValueIs (value_head f (kind_field fs))
+  value_read f none = Err (blamed v)
+  value_read f (some fs) = Ok (Some (value_head f (kind_field fs)))
 
   abbrev pub value_found : List ℕ → Found → NextValue
-  value_found src (At f) = value_read f (fields_from value f.start (take f.end src))
-  value_found src Nothing = NoValue
-  value_found src Broken = ValueRefused (blamed v)
+  value_found src (Ok (Some f)) = value_read f (fields_from value f.start (take f.end src))
+  value_found src (Ok None) = Ok None
+  value_found src (Err c) = Err (fault_of c v)
 
 -- ---- the calls
 unfoldable pub next_layer : ℕ → List ℕ → Verdict → NextLayer
-next_layer at src v = cond (leb at (length src)) (layer_found v src (first_of tile (key_of TileLayer) at src)) (LayerRefused (plain State))
+next_layer at src v = cond (leb at (length src)) (layer_found v src (first_of tile (key_of TileLayer) at src)) (Err (plain State))
 
 unfoldable pub next_feature : ℕ → ℕ → List ℕ → Verdict → NextFeature
 next_feature at end src v =
-    cond (within at end src) (feature_found v (take end src) (first_of layer (key_of LayerFeature) at (take end src))) (FeatureRefused (plain State))
+    cond (within at end src) (feature_found v (take end src) (first_of layer (key_of LayerFeature) at (take end src))) (Err (plain State))
 
 unfoldable pub next_key : ℕ → ℕ → List ℕ → Verdict → NextKey
-next_key at end src v = cond (within at end src) (key_found v (first_of layer (key_of LayerKey) at (take end src))) (KeyRefused (plain State))
+next_key at end src v = cond (within at end src) (key_found v (first_of layer (key_of LayerKey) at (take end src))) (Err (plain State))
 
 unfoldable pub next_value : ℕ → ℕ → List ℕ → Verdict → NextValue
 next_value at end src v =
-    cond (within at end src) (value_found v (take end src) (first_of layer (key_of LayerValue) at (take end src))) (ValueRefused (plain State))
+    cond (within at end src) (value_found v (take end src) (first_of layer (key_of LayerValue) at (take end src))) (Err (plain State))
 
 -- the numbers of a feature whose message stands at these places: "given room"
 abbrev pub laid_out : List ℕ → List ℕ → Written Laid (List ℕ)
-laid_out ws out = cond (leb (length ws) (length out)) (record { answer = Words (length ws); memory = lay 0 ws out }) (kept (Refused (plain Room)) out)
+laid_out ws out = cond (leb (length ws) (length out)) (record { answer = Ok (length ws); memory = lay 0 ws out }) (kept (Err (plain Room)) out)
 
 unfoldable pub words_into : Field → ℕ → ℕ → List ℕ → List ℕ → Verdict → Written Laid (List ℕ)
 words_into field start end src out v =
     cond (within start end src)
     (cond (nested 1 feature start (take end src)) (laid_out (words_of field (take end src) (or_nothing (fields_from feature start (take end src)))) out)
-    (kept (Refused (blamed v)) out))
-    (kept (Refused (plain State)) out)
+    (kept (Err (blamed v)) out))
+    (kept (Err (plain State)) out)

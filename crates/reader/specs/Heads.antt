@@ -1,13 +1,12 @@
 -- What the calls hand out of a layer, a feature, a key and a value: where it stands, what its own fields say, and how much is in it. What they say is that of
 -- messages/specs/Meaning.
-use Rattle.std.specs.Prelude.{ℕ, ◌-◌, ◌/◌, cond, List, eqb, ℤ, length}
+use Rattle.std.specs.Prelude.{ℕ, ◌-◌, ◌/◌, cond, List, eqb, length, Option as Maybe, Some, None}
 use Rattle.std.proofs.Math.Option.{Option, none, some}
 use Rattle.words.specs.Params.{unparam}
 use Rattle.wire.specs.declared.field.ValueKind.TheVariants.{Text, Sint, Bool as Truth}
 use Rattle.wire.specs.declared.field.Field.TheVariants.{LayerName, LayerFeature, LayerKey, LayerValue, Value}
 use Rattle.wire.specs.Schema.{key_of}
 use Rattle.messages.specs.declared.field.FieldAt.{FieldAt}
-use Rattle.messages.specs.Tiles.{is_read}
 use Rattle.messages.specs.Meaning.{Feature, last_of, each_of, version_in, extent_in}
 use Rattle.reader.specs.declared.layers.Part.{Part}
 use Rattle.reader.specs.declared.layers.LayerHead.{LayerHead}
@@ -41,15 +40,14 @@ layer_head f fs =
     }
 
 -- ---- a feature, by its field in the layer and what it says
-abbrev pub or_zero : Option ℕ → ℕ
-or_zero none = 0
-or_zero (some n) = n
+abbrev pub id_told : Option ℕ → Maybe ℕ
+id_told none = None
+id_told (some n) = Some n
 
 abbrev pub feature_head : FieldAt → Feature → FeatureHead
 feature_head f s =
     record {
-      has_id = is_read s.id;
-      id = or_zero s.id;
+      id = id_told s.id;
       kind = s.kind;
       tags = length s.tags;
       words = length s.geometry;

@@ -1,15 +1,16 @@
 -- The numbers of a packed list: how many there are, and their low 32 bits laid in a lent list.
-use Rattle.std.specs.Prelude.{ℕ, ◌+◌, ◌≤◌, ◌≡◌, true, List, map, length}
+use Rattle.std.specs.Prelude.{ℕ, ◌+◌, ◌≤◌, ◌≡◌, true, List, map, length, Option as Maybe, Some, None}
 use Rattle.std.proofs.Math.Option.{Option, none, some}
 use Rattle.promise.specs.Laid.{lay}
 use Rattle.messages.specs.Tiles.{is_read}
 use Rattle.messages.specs.Meaning.{low32, or_nothing}
-use Rattle.reader.specs.declared.packed.Count.{Count}
-use Rattle.reader.specs.declared.packed.Count.TheVariants.{Are, Faulty}
+
+abbrev pub Count : Type 0
+Count = Maybe ℕ
 
 abbrev pub counted : Option (List ℕ) → Count
-counted none = Faulty
-counted (some ns) = Are (length ns)
+counted none = None
+counted (some ns) = Some (length ns)
 
 abbrev pub low_of : Option (List ℕ) → List ℕ
 low_of ns = map low32 (or_nothing ns)

@@ -1,9 +1,8 @@
--- What a call meets at a place, before it is known whose fault it is that something cannot be read: `told…` makes the call's answer of it and the tile's
--- verdict, and `…-told` of proofs/Telling says that this is the answer of specs/Answers.
-use Rattle.std.specs.Prelude.{ℕ, ◌+◌, ◌/◌, ◌≤◌, ◌<◌, Bool, cond, ◌||◌, List, ltb, leb, eqb, length, take}
+-- What a call meets at a place, before it is known whose fault it is that something cannot be read: `told` makes the call's answer of it and the tile's
+-- verdict, and `…_told` of proofs/Telling says that this is the answer of specs/Answers.
+use Rattle.std.specs.Prelude.{ℕ, ◌+◌, ◌/◌, ◌≤◌, ◌<◌, Bool, cond, ◌||◌, List, ltb, leb, eqb, length, take, Option as Maybe, Some, None, Result, Ok, Err}
 use Rattle.std.proofs.Math.Option.{Option, none, some}
-use Rattle.refusal.specs.declared.Refusal.TheVariants.{State}
-use Rattle.refusal.specs.Said.{plain}
+use Rattle.refusal.specs.declared.Fault.{Fault}
 use Rattle.wire.specs.declared.field.ValueKind.TheVariants.{Text, Float, Double, Int, Uint, Sint, Bool as Truth}
 use Rattle.wire.specs.declared.field.Field.TheVariants.{TileLayer, LayerName, LayerFeature, LayerKey, LayerValue, LayerExtent, LayerVersion, Value}
 use Rattle.wire.specs.Schema.{key_of}
@@ -12,25 +11,27 @@ use Rattle.messages.specs.declared.field.FieldAt.{FieldAt}
 use Rattle.messages.specs.Fields.{fields_from}
 use Rattle.messages.specs.Tiles.{Verdict}
 use Rattle.messages.specs.Meaning.{low32, kind_field}
-use Rattle.reader.specs.declared.find.Found.{Found}
-use Rattle.reader.specs.declared.find.Found.TheVariants.{At, Nothing, Broken}
+use Rattle.reader.specs.declared.cause.Cause.{Cause}
+use Rattle.reader.specs.declared.cause.Cause.TheVariants.{Outside, Broken}
+use Rattle.reader.specs.declared.layers.Part.{Part}
 use Rattle.reader.specs.declared.layers.LayerHead.{LayerHead}
-use Rattle.reader.specs.declared.layers.LayerStep.{LayerStep}
-use Rattle.reader.specs.declared.layers.LayerStep.TheVariants.{Is as LayerIs, End as NoLayer, Outside as LayerOutside, Broken as LayerBroken}
-use Rattle.reader.specs.declared.layers.NextLayer.{NextLayer}
-use Rattle.reader.specs.declared.layers.NextLayer.TheVariants.{Is as SaysLayer, End as SaysNoLayer, Refused as RefusesLayer}
-use Rattle.reader.specs.declared.entries.KeyStep.{KeyStep}
-use Rattle.reader.specs.declared.entries.KeyStep.TheVariants.{Is as KeyIs, End as NoKey, Outside as KeyOutside, Broken as KeyBroken}
-use Rattle.reader.specs.declared.entries.NextKey.{NextKey}
-use Rattle.reader.specs.declared.entries.NextKey.TheVariants.{Is as SaysKey, End as SaysNoKey, Refused as RefusesKey}
 use Rattle.reader.specs.declared.entries.ValueAt.{ValueAt}
-use Rattle.reader.specs.declared.entries.ValueStep.{ValueStep}
-use Rattle.reader.specs.declared.entries.ValueStep.TheVariants.{Is as ValueIs, End as NoValue, Outside as ValueOutside, Broken as ValueBroken}
-use Rattle.reader.specs.declared.entries.NextValue.{NextValue}
-use Rattle.reader.specs.declared.entries.NextValue.TheVariants.{Is as SaysValue, End as SaysNoValue, Refused as RefusesValue}
-use Rattle.reader.specs.Finding.{first_of}
+use Rattle.reader.specs.Finding.{Found, first_of}
 use Rattle.reader.specs.Heads.{part_of, text_in, bits_of, layer_head, value_head}
-use Rattle.reader.specs.Answers.{blamed, within}
+use Rattle.reader.specs.Answers.{fault_of, within}
+
+abbrev pub told : {A : Type 0} → Verdict → Result A Cause → Result A Fault
+told v (Ok x) = Ok x
+told v (Err c) = Err (fault_of c v)
+
+abbrev pub LayerStep : Type 0
+LayerStep = Result (Maybe LayerHead) Cause
+
+abbrev pub KeyStep : Type 0
+KeyStep = Result (Maybe Part) Cause
+
+abbrev pub ValueStep : Type 0
+ValueStep = Result (Maybe ValueAt) Cause
 
 -- ---- a layer
 -- a head with one more field; the key stands by itself, so that a proof can say what it is
@@ -62,37 +63,25 @@ pub record Taken (h : LayerHead) (f : FieldAt) : Type 0 where
   pub counted : Counted h f.start
 
 unfoldable pub layer_in : FieldAt → Option (List FieldAt) → LayerStep
-layer_in f none = LayerBroken
-layer_in f (some fs) = LayerIs (layer_head f fs)
+layer_in f none = Err Broken
+layer_in f (some fs) = Ok (Some (layer_head f fs))
 
 abbrev pub layer_at : List ℕ → Found → LayerStep
-layer_at src (At f) = layer_in f (fields_from layer f.start (take f.end src))
-layer_at src Nothing = NoLayer
-layer_at src Broken = LayerBroken
+layer_at src (Ok (Some f)) = layer_in f (fields_from layer f.start (take f.end src))
+layer_at src (Ok None) = Ok None
+layer_at src (Err c) = Err c
 
 unfoldable pub layer_step : ℕ → List ℕ → LayerStep
-layer_step at src = cond (leb at (length src)) (layer_at src (first_of tile (key_of TileLayer) at src)) LayerOutside
-
-abbrev pub told_layer : Verdict → LayerStep → NextLayer
-told_layer v (LayerIs h) = SaysLayer h
-told_layer v NoLayer = SaysNoLayer
-told_layer v LayerOutside = RefusesLayer (plain State)
-told_layer v LayerBroken = RefusesLayer (blamed v)
+layer_step at src = cond (leb at (length src)) (layer_at src (first_of tile (key_of TileLayer) at src)) (Err Outside)
 
 -- ---- a key
 abbrev pub key_at : Found → KeyStep
-key_at (At f) = KeyIs (part_of f)
-key_at Nothing = NoKey
-key_at Broken = KeyBroken
+key_at (Ok (Some f)) = Ok (Some (part_of f))
+key_at (Ok None) = Ok None
+key_at (Err c) = Err c
 
 unfoldable pub key_step : ℕ → ℕ → List ℕ → KeyStep
-key_step at end src = cond (within at end src) (key_at (first_of layer (key_of LayerKey) at (take end src))) KeyOutside
-
-abbrev pub told_key : Verdict → KeyStep → NextKey
-told_key v (KeyIs p) = SaysKey p
-told_key v NoKey = SaysNoKey
-told_key v KeyOutside = RefusesKey (plain State)
-told_key v KeyBroken = RefusesKey (blamed v)
+key_step at end src = cond (within at end src) (key_at (first_of layer (key_of LayerKey) at (take end src))) (Err Outside)
 
 -- ---- a value
 -- the keys of the seven kinds
@@ -114,19 +103,13 @@ abbrev pub kept_head : ℕ → FieldAt → ValueAt
 kept_head end f = record { kind = f.key / 8; text = text_in f; bits = bits_of f; end = end }
 
 unfoldable pub value_in : FieldAt → Option (List FieldAt) → ValueStep
-value_in f none = ValueBroken
-value_in f (some fs) = ValueIs (value_head f (kind_field fs))
+value_in f none = Err Broken
+value_in f (some fs) = Ok (Some (value_head f (kind_field fs)))
 
 abbrev pub value_at : List ℕ → Found → ValueStep
-value_at src (At f) = value_in f (fields_from value f.start (take f.end src))
-value_at src Nothing = NoValue
-value_at src Broken = ValueBroken
+value_at src (Ok (Some f)) = value_in f (fields_from value f.start (take f.end src))
+value_at src (Ok None) = Ok None
+value_at src (Err c) = Err c
 
 unfoldable pub value_step : ℕ → ℕ → List ℕ → ValueStep
-value_step at end src = cond (within at end src) (value_at (take end src) (first_of layer (key_of LayerValue) at (take end src))) ValueOutside
-
-abbrev pub told_value : Verdict → ValueStep → NextValue
-told_value v (ValueIs x) = SaysValue x
-told_value v NoValue = SaysNoValue
-told_value v ValueOutside = RefusesValue (plain State)
-told_value v ValueBroken = RefusesValue (blamed v)
+value_step at end src = cond (within at end src) (value_at (take end src) (first_of layer (key_of LayerValue) at (take end src))) (Err Outside)

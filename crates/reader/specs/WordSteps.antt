@@ -1,9 +1,7 @@
 -- A feature's tag indices or geometry words laid in a lent list, before the tile's verdict is asked.
-use Rattle.std.specs.Prelude.{ℕ, ◌+◌, ◌≤◌, ◌≡◌, ◌⊎◌, true, cond, List, [], ◌∷◌, ◌++◌, leb, eqb, length, take}
+use Rattle.std.specs.Prelude.{ℕ, ◌+◌, ◌≤◌, ◌≡◌, ◌⊎◌, true, cond, List, [], ◌∷◌, ◌++◌, leb, eqb, length, take, Result, Ok, Err}
 use Rattle.promise.specs.Answers.{Written, kept}
 use Rattle.promise.specs.Laid.{lay}
-use Rattle.refusal.specs.declared.Refusal.TheVariants.{State, Room}
-use Rattle.refusal.specs.Said.{plain}
 use Rattle.wire.specs.declared.field.Field.{Field}
 use Rattle.wire.specs.declared.field.Field.TheVariants.{FeatureTags, FeatureGeometry}
 use Rattle.wire.specs.Schema.{key_of}
@@ -15,12 +13,11 @@ use Rattle.messages.specs.Meaning.{low32, or_nothing, single_key, words_of}
 use Rattle.reader.specs.declared.features.FeatureHead.{FeatureHead}
 use Rattle.reader.specs.declared.into.Which.{Which}
 use Rattle.reader.specs.declared.into.Which.TheVariants.{Tags, Geometry}
-use Rattle.reader.specs.declared.into.WordsStep.{WordsStep}
-use Rattle.reader.specs.declared.into.WordsStep.TheVariants.{Words as StepWords, NoRoom as StepNoRoom, Outside as StepOutside, Broken as StepBroken}
-use Rattle.reader.specs.declared.into.Laid.{Laid}
-use Rattle.reader.specs.declared.into.Laid.TheVariants.{Words, Refused}
+use Rattle.reader.specs.declared.cause.Cause.{Cause}
+use Rattle.reader.specs.declared.cause.Cause.TheVariants.{Outside, NoRoom, Broken}
 use Rattle.reader.specs.Packed.{low_of}
-use Rattle.reader.specs.Answers.{blamed, within}
+use Rattle.reader.specs.Answers.{Laid, within}
+use Rattle.reader.specs.Steps.{told}
 
 -- ---- which numbers
 abbrev pub field_of : Which → Field
@@ -61,22 +58,19 @@ pub record AllFit (packed single : ℕ) (src : List ℕ) (start : ℕ) (out : Li
   pub fits : length (words_at packed single src (or_nothing (fields_from feature start src))) ≤ length out
 
 -- ---- the call
+abbrev pub WordsStep : Type 0
+WordsStep = Result ℕ Cause
+
 abbrev pub step_laid : List ℕ → List ℕ → Written WordsStep (List ℕ)
-step_laid ws out = cond (leb (length ws) (length out)) (record { answer = StepWords (length ws); memory = lay 0 ws out }) (kept StepNoRoom out)
+step_laid ws out = cond (leb (length ws) (length out)) (record { answer = Ok (length ws); memory = lay 0 ws out }) (kept (Err NoRoom) out)
 
 unfoldable pub words_step : Field → ℕ → ℕ → List ℕ → List ℕ → Written WordsStep (List ℕ)
 words_step field start end src out =
     cond (within start end src)
     (cond (nested 1 feature start (take end src)) (step_laid (words_of field (take end src) (or_nothing (fields_from feature start (take end src)))) out)
-    (kept StepBroken out))
-    (kept StepOutside out)
+    (kept (Err Broken) out))
+    (kept (Err Outside) out)
 
 -- what the step is, told by the tile's verdict
-abbrev pub told_words : Verdict → WordsStep → Laid
-told_words v (StepWords n) = Words n
-told_words v StepNoRoom = Refused (plain Room)
-told_words v StepOutside = Refused (plain State)
-told_words v StepBroken = Refused (blamed v)
-
 abbrev pub told_into : Verdict → Written WordsStep (List ℕ) → Written Laid (List ℕ)
-told_into v w = record { answer = told_words v w.answer; memory = w.memory }
+told_into v w = record { answer = told v w.answer; memory = w.memory }

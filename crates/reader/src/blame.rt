@@ -3,16 +3,16 @@ ghost use Rattle.messages.specs.Tiles.{Answers};
 ghost use Rattle.reader.specs.Answers.{blamed};
 
 use refusal::{Fault, Refusal};
-use tile_check::{Checked, check};
+use tile_check::check;
 
 pub(crate) fn blame(src: &[u8]) -> Fault
     ensures { Answers src.now blamed result }
 {
     match check(src) {
-        Checked::Good(layers) => Fault {
+        Ok(layers) => Fault {
             refusal: Refusal::State,
             place: 0,
         },
-        Checked::Refused(f) => f,
+        Err(f) => f,
     }
 }

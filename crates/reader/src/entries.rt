@@ -9,20 +9,12 @@ ghost use Rattle.reader.specs.Bits.{bits64};
 ghost use Rattle.reader.specs.Heads.{bits_of, text_in};
 ghost use Rattle.reader.specs.Steps.{is_kind, kind_with, OfKind, kept_head, key_step, value_in, value_step};
 
-use crate::blame::blame;
-use crate::find::{Found, first_of};
+use crate::cause::{Cause, fault_of};
+use crate::find::first_of;
 use crate::layers::{Part, part_of};
-use messages::field::{FieldAt, NextField, field_at};
+use messages::field::{FieldAt, field_at};
 use messages::key::{Key, Kind};
-use refusal::{Fault, Refusal};
-
-#[derive(Clone, Copy)]
-pub enum NextKey {
-    // Where its text stands; the next key is behind it.
-    Is(Part),
-    End,
-    Refused(Fault),
-}
+use refusal::Fault;
 
 // A value: 1 text, 2 float, 3 double, 4 int, 5 uint, 6 sint, 7 bool, or 0 where it is empty.
 #[derive(Clone, Copy)]
@@ -36,50 +28,23 @@ pub struct ValueAt {
     pub end: usize,
 }
 
-#[derive(Clone, Copy)]
-pub enum NextValue {
-    Is(ValueAt),
-    End,
-    Refused(Fault),
-}
-
-// What a call meets, before it is known whose fault it is that something cannot be read.
-#[derive(Clone, Copy)]
-pub(crate) enum KeyStep {
-    Is(Part),
-    End,
-    // The places are not in order, or lie beyond the bytes.
-    Outside,
-    // A field cannot be read.
-    Broken,
-}
-
-#[derive(Clone, Copy)]
-pub(crate) enum ValueStep {
-    Is(ValueAt),
-    End,
-    Outside,
-    Broken,
-}
-
 // The largest number of 64 bits, which stands for -1.
 const MINUS_ONE: u64 = 18_446_744_073_709_551_615;
 
 // The first key from a place of a layer on, which ends where its message does.
-fn key_step(src: &[u8], at: usize, end: usize) -> KeyStep
+fn key_step(src: &[u8], at: usize, end: usize) -> Result<Option<Part>, Cause>
     ensures { result ≡ key_step at end src.now }
 {
     if end < at {
-        return KeyStep::Outside;
+        return Err(Cause::Outside);
     }
     if src.len() < end {
-        return KeyStep::Outside;
+        return Err(Cause::Outside);
     }
-    match first_of(Kind::Layer, Key::LAYER_KEY, &src[..end], at) {
-        Found::Nothing => KeyStep::End,
-        Found::Broken => KeyStep::Broken,
-        Found::At(f) => KeyStep::Is(part_of(f)),
-    }
+    let Some(f) = first_of(Kind::Layer, Key::LAYER_KEY, &src[..end], at)? else {
+        return Ok(None);
+    };
+    Ok(Some(part_of(f)))
 }
 
 fn is_kind(key: u64) -> bool
@@ -154,12 +119,12 @@ fn value_of(f: FieldAt, end: usize) -> ValueAt
         kind: (f.key / 8) as u32,
         text: text_in(f),
         bits: bits_of(f),
-        end: end,
+        end,
     }
 }
 
 // What a value's fields say, in bytes that end where its message does.
-fn value_in(f: FieldAt, src: &[u8]) -> ValueStep
+fn value_in(f: FieldAt, src: &[u8]) -> Result<Option<ValueAt>, Cause>
     ensures { result ≡ value_in f (fields_from value f.start src.now) }
 {
     let mut at = f.start;
@@ -169,64 +134,50 @@ fn value_in(f: FieldAt, src: &[u8]) -> ValueStep
         start: 0,
         end: 0,
     };
+    // A turn goes on where its field ends, so that no `for` says it plainer.
     while at < src.len() {
-        match field_at(Kind::Value, src, at) {
-            NextField::Faulty => return ValueStep::Broken,
-            NextField::Is(g) => {
-                kept = kind_with(kept, g);
-                at = g.end;
-            }
-        }
+        let Some(g) = field_at(Kind::Value, src, at) else {
+            return Err(Cause::Broken);
+        };
+        kept = kind_with(kept, g);
+        at = g.end;
     }
-    ValueStep::Is(value_of(kept, f.end))
+    Ok(Some(value_of(kept, f.end)))
 }
 
 // The first value from a place of a layer on, which ends where its message does.
-fn value_step(src: &[u8], at: usize, end: usize) -> ValueStep
+fn value_step(src: &[u8], at: usize, end: usize) -> Result<Option<ValueAt>, Cause>
     ensures { result ≡ value_step at end src.now }
 {
     if end < at {
-        return ValueStep::Outside;
+        return Err(Cause::Outside);
     }
     if src.len() < end {
-        return ValueStep::Outside;
+        return Err(Cause::Outside);
     }
-    match first_of(Kind::Layer, Key::LAYER_VALUE, &src[..end], at) {
-        Found::Nothing => ValueStep::End,
-        Found::Broken => ValueStep::Broken,
-        Found::At(f) => {
-            let behind = f.end;
-            value_in(f, &src[..behind])
-        }
-    }
+    let Some(f) = first_of(Kind::Layer, Key::LAYER_VALUE, &src[..end], at)? else {
+        return Ok(None);
+    };
+    value_in(f, &src[..f.end])
 }
 
-// The next key of a layer whose message ends at a place, from another on: where it starts, or where the key before it ends.
-pub fn next_key_at(src: &[u8], at: usize, end: usize) -> NextKey
+// The next key of a layer whose message ends at a place, from another on: where it starts, or where the key before it ends. The answer is where its text stands,
+// or None where no key follows; the next key is behind it.
+pub fn next_key_at(src: &[u8], at: usize, end: usize) -> Result<Option<Part>, Fault>
     ensures { Answers src.now (next_key at end src.now) result }
 {
     match key_step(src, at, end) {
-        KeyStep::Is(text) => NextKey::Is(text),
-        KeyStep::End => NextKey::End,
-        KeyStep::Outside => NextKey::Refused(Fault {
-            refusal: Refusal::State,
-            place: 0,
-        }),
-        KeyStep::Broken => NextKey::Refused(blame(src)),
+        Ok(key) => Ok(key),
+        Err(e) => Err(fault_of(src, e)),
     }
 }
 
 // The next value, alike.
-pub fn next_value_at(src: &[u8], at: usize, end: usize) -> NextValue
+pub fn next_value_at(src: &[u8], at: usize, end: usize) -> Result<Option<ValueAt>, Fault>
     ensures { Answers src.now (next_value at end src.now) result }
 {
     match value_step(src, at, end) {
-        ValueStep::Is(v) => NextValue::Is(v),
-        ValueStep::End => NextValue::End,
-        ValueStep::Outside => NextValue::Refused(Fault {
-            refusal: Refusal::State,
-            place: 0,
-        }),
-        ValueStep::Broken => NextValue::Refused(blame(src)),
+        Ok(value) => Ok(value),
+        Err(e) => Err(fault_of(src, e)),
     }
 }

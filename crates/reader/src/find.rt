@@ -2,31 +2,28 @@
 ghost use Rattle.std.specs.Prelude.{◌≡◌};
 ghost use Rattle.reader.specs.Finding.{first_of};
 
-use messages::field::{FieldAt, NextField, field_at};
+use crate::cause::Cause;
+use messages::field::{FieldAt, field_at};
 use messages::key::Kind;
 
-#[derive(Clone, Copy)]
-pub(crate) enum Found {
-    At(FieldAt),
-    Nothing,
-    // A field on the way cannot be read.
-    Broken,
-}
-
-pub(crate) fn first_of(kind: Kind, key: u64, src: &[u8], start: usize) -> Found
+pub(crate) fn first_of(
+    kind: Kind,
+    key: u64,
+    src: &[u8],
+    start: usize,
+) -> Result<Option<FieldAt>, Cause>
     ensures { result ≡ first_of kind key start src.now }
 {
     let mut at = start;
+    // A turn goes on where its field ends, so that no `for` says it plainer.
     while at < src.len() {
-        match field_at(kind, src, at) {
-            NextField::Faulty => return Found::Broken,
-            NextField::Is(f) => {
-                if f.key == key {
-                    return Found::At(f);
-                }
-                at = f.end;
-            }
+        let Some(f) = field_at(kind, src, at) else {
+            return Err(Cause::Broken);
+        };
+        if f.key == key {
+            return Ok(Some(f));
         }
+        at = f.end;
     }
-    Found::Nothing
+    Ok(None)
 }

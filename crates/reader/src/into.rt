@@ -10,36 +10,19 @@ ghost use Rattle.reader.specs.Answers.{words_into};
 ghost use Rattle.reader.specs.Packed.{PutsAt};
 ghost use Rattle.reader.specs.WordSteps.{field_of, packed_of, single_of, count_of, words_by, words_at, FieldFits, AllFit, words_step};
 
-use crate::blame::blame;
-use crate::features::{FeatureHead, FeatureRead, feature_head};
+use crate::cause::{Cause, fault_of};
+use crate::features::{FeatureHead, feature_head};
 use crate::layers::low32;
 use crate::packed::lay_varints;
-use messages::field::{FieldAt, NextField, field_at};
+use messages::field::{FieldAt, field_at};
 use messages::key::{Key, Kind};
-use refusal::{Fault, Refusal};
-
-#[derive(Clone, Copy)]
-pub enum Laid {
-    // How many there are, at the front of the list.
-    Words(usize),
-    Refused(Fault),
-}
+use refusal::Fault;
 
 // The numbers of a feature that a call lays.
 #[derive(Clone, Copy)]
 pub(crate) enum Which {
     Tags,
     Geometry,
-}
-
-// What a call did, before it is asked whose fault it is that the feature cannot be read.
-#[derive(Clone, Copy)]
-pub(crate) enum WordsStep {
-    Words(usize),
-    NoRoom,
-    // The places are not in the bytes.
-    Outside,
-    Broken,
 }
 
 // The key of a packed list.
@@ -84,10 +67,8 @@ fn lay_field(
     requires { FieldFits packed single src.now f from out.old }
     ensures { PutsAt from (words_by packed single src.now f) out.old result out.new }
 {
-    let start = f.start;
-    let end = f.end;
     if f.key == packed {
-        return lay_varints(&src[..end], start, from, out);
+        return lay_varints(&src[..f.end], f.start, from, out);
     }
     if f.key == single {
         out[from] = low32(f.value);
@@ -103,76 +84,71 @@ fn lay_fields(packed: u64, single: u64, src: &[u8], start: usize, out: &mut [u32
 {
     let mut at = start;
     let mut n = 0;
+    // A turn goes on where its field ends, so that no `for` says it plainer.
     while at < src.len() {
-        match field_at(Kind::Feature, src, at) {
-            NextField::Faulty => return n,
-            NextField::Is(f) => {
-                n = lay_field(packed, single, src, f, n, out);
-                at = f.end;
-            }
-        }
+        let Some(f) = field_at(Kind::Feature, src, at) else {
+            return n;
+        };
+        n = lay_field(packed, single, src, f, n, out);
+        at = f.end;
     }
     n
 }
 
-// Lays the numbers of the feature whose message stands from `start` to `end`.
+// Lays the numbers of the feature whose message stands from `start` to `end` at the front of the list, and answers how many there are.
 pub(crate) fn words_step(
     which: Which,
     src: &[u8],
     start: usize,
     end: usize,
     out: &mut [u32],
-) -> WordsStep
+) -> Result<usize, Cause>
     ensures { Gives (words_step (field_of which) start end src.now out.old) result out.new }
 {
     if end < start {
-        return WordsStep::Outside;
+        return Err(Cause::Outside);
     }
     if src.len() < end {
-        return WordsStep::Outside;
+        return Err(Cause::Outside);
     }
     let part = &src[..end];
-    match feature_head(part, start) {
-        FeatureRead::Broken => WordsStep::Broken,
-        FeatureRead::Is(h) => {
-            let n = count_of(which, h);
-            if out.len() < n {
-                return WordsStep::NoRoom;
-            }
-            let packed = packed_key(which);
-            let single = single_key(which);
-            WordsStep::Words(lay_fields(packed, single, part, start, out))
-        }
+    let Some(h) = feature_head(part, start) else {
+        return Err(Cause::Broken);
+    };
+    let n = count_of(which, h);
+    if out.len() < n {
+        return Err(Cause::NoRoom);
     }
+    let packed = packed_key(which);
+    let single = single_key(which);
+    Ok(lay_fields(packed, single, part, start, out))
 }
 
 // Both calls: what was done, and whose fault it is where the feature cannot be read.
-fn words_into(which: Which, src: &[u8], start: usize, end: usize, out: &mut [u32]) -> Laid
+fn words_into(
+    which: Which,
+    src: &[u8],
+    start: usize,
+    end: usize,
+    out: &mut [u32],
+) -> Result<usize, Fault>
     ensures { Answers src.now (words_into (field_of which) start end src.now out.old) (record { answer = result; memory = out.new }) }
 {
     match words_step(which, src, start, end, out) {
-        WordsStep::Words(n) => Laid::Words(n),
-        WordsStep::NoRoom => Laid::Refused(Fault {
-            refusal: Refusal::Room,
-            place: 0,
-        }),
-        WordsStep::Outside => Laid::Refused(Fault {
-            refusal: Refusal::State,
-            place: 0,
-        }),
-        WordsStep::Broken => Laid::Refused(blame(src)),
+        Ok(n) => Ok(n),
+        Err(e) => Err(fault_of(src, e)),
     }
 }
 
-// The tag indices of the feature whose message stands from `start` to `end`.
-pub fn tags_into(src: &[u8], start: usize, end: usize, out: &mut [u32]) -> Laid
+// The tag indices of the feature whose message stands from `start` to `end`, at the front of the list: how many there are.
+pub fn tags_into(src: &[u8], start: usize, end: usize, out: &mut [u32]) -> Result<usize, Fault>
     ensures { Answers src.now (words_into FeatureTags start end src.now out.old) (record { answer = result; memory = out.new }) }
 {
     words_into(Which::Tags, src, start, end, out)
 }
 
-// The geometry words of the feature whose message stands from `start` to `end`.
-pub fn geometry_into(src: &[u8], start: usize, end: usize, out: &mut [u32]) -> Laid
+// The geometry words of the feature whose message stands from `start` to `end`, alike.
+pub fn geometry_into(src: &[u8], start: usize, end: usize, out: &mut [u32]) -> Result<usize, Fault>
     ensures { Answers src.now (words_into FeatureGeometry start end src.now out.old) (record { answer = result; memory = out.new }) }
 {
     words_into(Which::Geometry, src, start, end, out)

@@ -9,11 +9,11 @@ ghost use Rattle.reader.specs.Answers.{next_layer};
 ghost use Rattle.reader.specs.Heads.{part_of};
 ghost use Rattle.reader.specs.Steps.{layer_with, layer_in, layer_step, Taken};
 
-use crate::blame::blame;
-use crate::find::{Found, first_of};
-use messages::field::{FieldAt, NextField, field_at};
+use crate::cause::{Cause, fault_of};
+use crate::find::first_of;
+use messages::field::{FieldAt, field_at};
 use messages::key::{Key, Kind};
-use refusal::{Fault, Refusal};
+use refusal::Fault;
 
 // A part of the caller's bytes.
 #[derive(Clone, Copy)]
@@ -33,24 +33,6 @@ pub struct LayerHead {
     // Where its message stands; the next layer is behind it.
     pub start: usize,
     pub end: usize,
-}
-
-#[derive(Clone, Copy)]
-pub enum NextLayer {
-    Is(LayerHead),
-    End,
-    Refused(Fault),
-}
-
-// What a call meets, before it is known whose fault it is that something cannot be read.
-#[derive(Clone, Copy)]
-pub(crate) enum LayerStep {
-    Is(LayerHead),
-    End,
-    // The place lies beyond the bytes.
-    Outside,
-    // A field cannot be read.
-    Broken,
 }
 
 // MVT's defaults.
@@ -111,7 +93,7 @@ fn with(head: LayerHead, f: FieldAt) -> LayerHead
 }
 
 // What a layer's fields say, in bytes that end where its message does.
-fn layer_in(f: FieldAt, src: &[u8]) -> LayerStep
+fn layer_in(f: FieldAt, src: &[u8]) -> Result<Option<LayerHead>, Cause>
     ensures { result ≡ layer_in f (fields_from layer f.start src.now) }
 {
     let mut at = f.start;
@@ -125,46 +107,36 @@ fn layer_in(f: FieldAt, src: &[u8]) -> LayerStep
         start: f.start,
         end: f.end,
     };
+    // A turn goes on where its field ends, so that no `for` says it plainer.
     while at < src.len() {
-        match field_at(Kind::Layer, src, at) {
-            NextField::Faulty => return LayerStep::Broken,
-            NextField::Is(g) => {
-                h = with(h, g);
-                at = g.end;
-            }
-        }
+        let Some(g) = field_at(Kind::Layer, src, at) else {
+            return Err(Cause::Broken);
+        };
+        h = with(h, g);
+        at = g.end;
     }
-    LayerStep::Is(h)
+    Ok(Some(h))
 }
 
 // The first layer from a place on.
-fn layer_step(src: &[u8], at: usize) -> LayerStep
+fn layer_step(src: &[u8], at: usize) -> Result<Option<LayerHead>, Cause>
     ensures { result ≡ layer_step at src.now }
 {
     if src.len() < at {
-        return LayerStep::Outside;
+        return Err(Cause::Outside);
     }
-    match first_of(Kind::Tile, Key::TILE_LAYER, src, at) {
-        Found::Nothing => LayerStep::End,
-        Found::Broken => LayerStep::Broken,
-        Found::At(f) => {
-            let end = f.end;
-            layer_in(f, &src[..end])
-        }
-    }
+    let Some(f) = first_of(Kind::Tile, Key::TILE_LAYER, src, at)? else {
+        return Ok(None);
+    };
+    layer_in(f, &src[..f.end])
 }
 
-// The next layer of a tile, from a place on: 0, or where the layer before it ends.
-pub fn next_layer_at(src: &[u8], at: usize) -> NextLayer
+// The next layer of a tile, from a place on: 0, or where the layer before it ends. None where no layer follows.
+pub fn next_layer_at(src: &[u8], at: usize) -> Result<Option<LayerHead>, Fault>
     ensures { Answers src.now (next_layer at src.now) result }
 {
     match layer_step(src, at) {
-        LayerStep::Is(h) => NextLayer::Is(h),
-        LayerStep::End => NextLayer::End,
-        LayerStep::Outside => NextLayer::Refused(Fault {
-            refusal: Refusal::State,
-            place: 0,
-        }),
-        LayerStep::Broken => NextLayer::Refused(blame(src)),
+        Ok(layer) => Ok(layer),
+        Err(e) => Err(fault_of(src, e)),
     }
 }

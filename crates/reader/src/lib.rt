@@ -13,3 +13,4 @@ pub mod parts; // a part of the bytes
 mod find; // the next field with a key
 mod packed; // the numbers of a packed list
 mod blame; // why a call could not read
+mod cause; // what keeps a call from its answer

@@ -4,31 +4,21 @@ ghost use Rattle.messages.specs.Fields.{numbers_from};
 ghost use Rattle.reader.specs.Packed.{counted, RoomFor, PutsAt, low_of};
 
 use crate::layers::low32;
-use messages::numbers::{VarintAt, varint_at};
+use messages::numbers::varint_at;
 
-#[derive(Clone, Copy)]
-pub(crate) enum Count {
-    Are(usize),
-    // What stands there is not varints, exactly to the end.
-    Faulty,
-}
-
-// How many varints stand from a place on.
-pub(crate) fn count_varints(src: &[u8], at: usize) -> Count
+// How many varints stand from a place on, or None where what stands there is not varints, exactly to the end.
+pub(crate) fn count_varints(src: &[u8], at: usize) -> Option<usize>
     ensures { result ≡ counted (numbers_from at src.now) }
 {
     let mut i = at;
     let mut n = 0;
+    // A turn goes on where its varint ends, so that no `for` says it plainer.
     while i < src.len() {
-        match varint_at(src, i) {
-            VarintAt::Faulty => return Count::Faulty,
-            VarintAt::Is(number, next) => {
-                n += 1;
-                i = next;
-            }
-        }
+        let (_, next) = varint_at(src, i)?;
+        n += 1;
+        i = next;
     }
-    Count::Are(n)
+    Some(n)
 }
 
 // Lays the varints that stand from a place on into `out`, the first at `from`, and answers the place behind the last.
@@ -38,15 +28,14 @@ pub(crate) fn lay_varints(src: &[u8], at: usize, from: usize, out: &mut [u32]) -
 {
     let mut i = at;
     let mut n = from;
+    // Here too a turn goes on where its varint ends.
     while i < src.len() {
-        match varint_at(src, i) {
-            VarintAt::Faulty => return n,
-            VarintAt::Is(number, next) => {
-                out[n] = low32(number);
-                n += 1;
-                i = next;
-            }
-        }
+        let Some((number, next)) = varint_at(src, i) else {
+            return n;
+        };
+        out[n] = low32(number);
+        n += 1;
+        i = next;
     }
     n
 }

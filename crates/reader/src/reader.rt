@@ -4,10 +4,11 @@ ghost use Rattle.std.specs.Prelude.{◌≡◌, take, drop};
 ghost use Rattle.messages.specs.Tiles.{Answers};
 ghost use Rattle.reader.specs.Answers.{next_layer, next_feature, next_key, next_value};
 
-use crate::entries::{NextKey, NextValue, next_key_at, next_value_at};
-use crate::features::{NextFeature, next_feature_at};
-use crate::layers::{NextLayer, next_layer_at};
+use crate::entries::{ValueAt, next_key_at, next_value_at};
+use crate::features::{FeatureHead, next_feature_at};
+use crate::layers::{LayerHead, Part, next_layer_at};
 use crate::parts::text_at;
+use refusal::Fault;
 
 #[derive(Clone, Copy)]
 pub struct Reader<'a> {
@@ -33,32 +34,32 @@ pub fn at<'a>(r: Reader<'a>) -> usize
 pub fn moved<'a>(r: Reader<'a>, at: usize) -> Reader<'a>
     ensures { (result.src ≡ r.entry.src) × (result.at ≡ at) }
 {
-    Reader { src: r.src, at }
+    Reader { at, ..r }
 }
 
 // The layer that stands there or next behind it.
-pub fn next_layer<'a>(r: Reader<'a>) -> NextLayer
+pub fn next_layer<'a>(r: Reader<'a>) -> Result<Option<LayerHead>, Fault>
     ensures { Answers r.entry.src.now (next_layer r.entry.at r.entry.src.now) result }
 {
     next_layer_at(r.src, r.at)
 }
 
 // The feature of the layer that ends at a place.
-pub fn next_feature<'a>(r: Reader<'a>, end: usize) -> NextFeature
+pub fn next_feature<'a>(r: Reader<'a>, end: usize) -> Result<Option<FeatureHead>, Fault>
     ensures { Answers r.entry.src.now (next_feature r.entry.at end r.entry.src.now) result }
 {
     next_feature_at(r.src, r.at, end)
 }
 
 // Its key.
-pub fn next_key<'a>(r: Reader<'a>, end: usize) -> NextKey
+pub fn next_key<'a>(r: Reader<'a>, end: usize) -> Result<Option<Part>, Fault>
     ensures { Answers r.entry.src.now (next_key r.entry.at end r.entry.src.now) result }
 {
     next_key_at(r.src, r.at, end)
 }
 
 // Its value.
-pub fn next_value<'a>(r: Reader<'a>, end: usize) -> NextValue
+pub fn next_value<'a>(r: Reader<'a>, end: usize) -> Result<Option<ValueAt>, Fault>
     ensures { Answers r.entry.src.now (next_value r.entry.at end r.entry.src.now) result }
 {
     next_value_at(r.src, r.at, end)

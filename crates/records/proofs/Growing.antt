@@ -16,8 +16,7 @@ use lib.Seq.{drop-length, get_or-drop}
 use lib.Dec.{leb, eqb}
 use borrow.Author.Tests.{le-leb, eq-eqb, ne_eqb, eqb-true, eqb-false}
 use Rattle.promise.specs.Laid.{lay}
-use Rattle.table.specs.declared.Found.{Found}
-use Rattle.table.specs.declared.Found.TheVariants.{At, Nothing}
+use Rattle.std.specs.Prelude.{Option, Some, None}
 use Rattle.words.specs.Geometries.{is_kind}
 use Rattle.records.specs.Records.{head_ok, records_in, is_found, follow, record_length, end_from, ends_at, one_record}
 use Rattle.records.proofs.Records.{skip}
@@ -34,7 +33,7 @@ module _ (a b c d tags geometry : ℕ) (l : List ℕ) where
   pub whole_head : whole (a ∷ b ∷ c ∷ d ∷ tags ∷ geometry ∷ l) ≡ true → (head_ok a b ≡ true) × (tags + geometry ≡ length l)
   whole_head e = by (head_ok a b) (leb (tags + geometry) (length l)) refl refl e
     where
-      by : (x y : Bool) → head_ok a b ≡ x → leb (tags + geometry) (length l) ≡ y → ends_at (length (a ∷ b ∷ c ∷ d ∷ tags ∷ geometry ∷ l)) (cond x (cond y (At (6 + tags + geometry)) Nothing) Nothing) ≡ true → (head_ok a b ≡ true) × (tags + geometry ≡ length l)
+      by : (x y : Bool) → head_ok a b ≡ x → leb (tags + geometry) (length l) ≡ y → ends_at (length (a ∷ b ∷ c ∷ d ∷ tags ∷ geometry ∷ l)) (cond x (cond y (Some (6 + tags + geometry)) None) None) ≡ true → (head_ok a b ≡ true) × (tags + geometry ≡ length l)
       by false y p q e = never e
       by true false p q e = never e
       by true true p q e = (p, omega (arith, eqb-true (6 + tags + geometry) (length (a ∷ b ∷ c ∷ d ∷ tags ∷ geometry ∷ l)) e))
@@ -55,9 +54,9 @@ cases P (a ∷ b ∷ c ∷ d ∷ e ∷ []) h f = never h
 cases P (a ∷ b ∷ c ∷ d ∷ e ∷ g ∷ r) h f = let w = whole_head a b c d e g r h in f a b c d e g r refl w.0 w.1
 
 -- ---- the last record of a list
-last_by : (i n : ℕ) (f : Found) (k : ℕ) → n ≡ i + k → ends_at n (end_from i f) ≡ ends_at k f
-last_by i n Nothing k e = refl
-last_by i n (At j) k e = by (eqb j k) refl
+last_by : (i n : ℕ) (f : Option ℕ) (k : ℕ) → n ≡ i + k → ends_at n (end_from i f) ≡ ends_at k f
+last_by i n None k e = refl
+last_by i n (Some j) k e = by (eqb j k) refl
   where
     by : (t : Bool) → eqb j k ≡ t → eqb (i + j) n ≡ t
     by true h = eq-eqb (i + j) n (omega (arith, eqb-true j k h))
@@ -96,7 +95,7 @@ found_more n zero (a ∷ b ∷ c ∷ d ∷ []) r h w = never h
 found_more n zero (a ∷ b ∷ c ∷ d ∷ e ∷ []) r h w = never h
 found_more n zero (a ∷ b ∷ c ∷ d ∷ e ∷ g ∷ l) r h w = by (head_ok a b) h (λ k. found_more (suc n) (e + g) l r k w)
   where
-    by : (x : Bool) → is_found (cond x (records_in (suc n) (e + g) l) Nothing) ≡ true → (is_found (records_in (suc n) (e + g) l) ≡ true → is_found (records_in (suc n) (e + g) (l ++ r)) ≡ true) → is_found (cond x (records_in (suc n) (e + g) (l ++ r)) Nothing) ≡ true
+    by : (x : Bool) → is_found (cond x (records_in (suc n) (e + g) l) None) ≡ true → (is_found (records_in (suc n) (e + g) l) ≡ true → is_found (records_in (suc n) (e + g) (l ++ r)) ≡ true) → is_found (cond x (records_in (suc n) (e + g) (l ++ r)) None) ≡ true
     by true k f = f k
     by false k f = never k
 found_more n (suc left) [] r h w = never h

@@ -1,4 +1,4 @@
--- `record_end` and `one_record` at each return of the functions that compute them, and `records_in` at each turn of the loop of `count`, over plain lists
+-- `record_end` at each return of the function that computes it, and `records_in` at each turn of the loop of `count`, over plain lists
 -- and numbers.
 use Prim.Native.Nat.{ℕ, zero, suc, ◌+◌, ◌-◌, ◌≤◌, ◌<◌, zero-le}
 use mathlib.Core.Path.{◌≡◌, refl, sym, ap, ◌∙◌}
@@ -10,10 +10,9 @@ use lib.ListN.{length, get_or, drop, drop_of_length-le, length-drop}
 use lib.Seq.{drop-drop, get_or-drop}
 use lib.Dec.{leb}
 use borrow.Author.Tests.{not-true, not-false, le-leb, lt-leb, leb-true, leb-false}
-use Rattle.table.specs.declared.Found.{Found}
-use Rattle.table.specs.declared.Found.TheVariants.{At, Nothing}
+use Rattle.std.specs.Prelude.{Option, Some, None}
 use Rattle.promise.specs.Widened.{Wide}
-use Rattle.records.specs.Records.{head_ok, records_in, record_length, end_from, record_end, ends_at, one_record}
+use Rattle.records.specs.Records.{head_ok, records_in, record_length, end_from, record_end}
 
 -- ---- two tests that say the same
 leb_by : (a b c d : ℕ) → (a ≤ b → c ≤ d) → (b < a → d < c) → (t : Bool) → leb a b ≡ t → t ≡ leb c d
@@ -24,7 +23,7 @@ pub leb_same : (a b c d : ℕ) → (a ≤ b → c ≤ d) → (b < a → d < c) �
 leb_same a b c d f g = leb_by a b c d f g (leb a b) refl
 
 -- ---- the six words at the front
-few : (l : List ℕ) → length l < 6 → record_length l ≡ Nothing
+few : (l : List ℕ) → length l < 6 → record_length l ≡ None
 few [] h = refl
 few (a ∷ []) h = refl
 few (a ∷ b ∷ []) h = refl
@@ -33,61 +32,53 @@ few (a ∷ b ∷ c ∷ d ∷ []) h = refl
 few (a ∷ b ∷ c ∷ d ∷ e ∷ []) h = refl
 few (a ∷ b ∷ c ∷ d ∷ e ∷ f ∷ l) h = absurd (omega arith)
 
-six : (l : List ℕ) → 6 ≤ length l → record_length l ≡ cond (head_ok (get_or l 0 0) (get_or l 1 0)) (cond (leb (6 + get_or l 4 0 + get_or l 5 0) (length l)) (At (6 + get_or l 4 0 + get_or l 5 0)) Nothing) Nothing
+six : (l : List ℕ) → 6 ≤ length l → record_length l ≡ cond (head_ok (get_or l 0 0) (get_or l 1 0)) (cond (leb (6 + get_or l 4 0 + get_or l 5 0) (length l)) (Some (6 + get_or l 4 0 + get_or l 5 0)) None) None
 six [] h = absurd (omega arith)
 six (a ∷ []) h = absurd (omega arith)
 six (a ∷ b ∷ []) h = absurd (omega arith)
 six (a ∷ b ∷ c ∷ []) h = absurd (omega arith)
 six (a ∷ b ∷ c ∷ d ∷ []) h = absurd (omega arith)
 six (a ∷ b ∷ c ∷ d ∷ e ∷ []) h = absurd (omega arith)
-six (a ∷ b ∷ c ∷ d ∷ e ∷ f ∷ l) h = ap (λ (x : Bool). cond (head_ok a b) (cond x (At (6 + e + f)) Nothing) Nothing) (leb_same (e + f) (length l) (6 + e + f) (length (a ∷ b ∷ c ∷ d ∷ e ∷ f ∷ l)) (λ g. omega arith) (λ g. omega arith))
+six (a ∷ b ∷ c ∷ d ∷ e ∷ f ∷ l) h = ap (λ (x : Bool). cond (head_ok a b) (cond x (Some (6 + e + f)) None) None) (leb_same (e + f) (length l) (6 + e + f) (length (a ∷ b ∷ c ∷ d ∷ e ∷ f ∷ l)) (λ g. omega arith) (λ g. omega arith))
 
 -- ---- `record_end`
 word : (ws : List ℕ) (i k j : ℕ) → i + k ≡ j → get_or (drop i ws) k 0 ≡ get_or ws j 0
 word ws i k j e = get_or-drop i ws k 0 ∙ ap (λ (n : ℕ). get_or ws n 0) e
 
 module _ (ws : List ℕ) (i : ℕ) where
-  pub end_short : length ws < 6 → Nothing ≡ record_end ws i
+  pub end_short : length ws < 6 → None ≡ record_end ws i
   end_short h = rw (few (drop i ws) (rw length-drop (omega arith)))
 
-  pub end_far : 6 ≤ length ws → length ws - 6 < i → Nothing ≡ record_end ws i
+  pub end_far : 6 ≤ length ws → length ws - 6 < i → None ≡ record_end ws i
   end_far h k = rw (few (drop i ws) (rw length-drop (omega arith)))
 
   module _ (h : 6 ≤ length ws) (k : i ≤ length ws - 6) (r : Bool) (g : r ≡ head_ok (get_or ws i 0) (get_or ws (i + 1) 0)) where
-    front : record_length (drop i ws) ≡ cond r (cond (leb (6 + get_or ws (i + 4) 0 + get_or ws (i + 5) 0) (length ws - i)) (At (6 + get_or ws (i + 4) 0 + get_or ws (i + 5) 0)) Nothing) Nothing
+    front : record_length (drop i ws) ≡ cond r (cond (leb (6 + get_or ws (i + 4) 0 + get_or ws (i + 5) 0) (length ws - i)) (Some (6 + get_or ws (i + 4) 0 + get_or ws (i + 5) 0)) None) None
     front =
         six (drop i ws) (rw length-drop (omega arith))
         ∙ rw (word ws i 0 i (omega arith), word ws i 1 (i + 1) refl, word ws i 4 (i + 4) refl, word ws i 5 (i + 5) refl, length-drop, g)
 
-    pub end_head : not r ≡ true → Nothing ≡ record_end ws i
+    pub end_head : not r ≡ true → None ≡ record_end ws i
     end_head n = rw (front, not-true r n)
 
     module _ (n : not r ≡ false) (tags geometry : ℕ) (a : Wide (get_or ws (i + 4) 0) tags) (b : Wide (get_or ws (i + 5) 0) geometry) where
-      pub end_cut : length ws - i < 6 + tags + geometry → Nothing ≡ record_end ws i
+      pub end_cut : length ws - i < 6 + tags + geometry → None ≡ record_end ws i
       end_cut l = rw (front, not-false r n, ← a.same, ← b.same, lt-leb _ _ l)
 
-      pub end_at : 6 + tags + geometry ≤ length ws - i → At (i + (6 + tags + geometry)) ≡ record_end ws i
+      pub end_at : 6 + tags + geometry ≤ length ws - i → Some (i + (6 + tags + geometry)) ≡ record_end ws i
       end_at l = rw (front, not-false r n, ← a.same, ← b.same, le-leb _ _ l)
-
--- ---- `is_last`
-module _ (ws : List ℕ) (i : ℕ) (r : Found) (g : r ≡ record_end ws i) where
-  pub last_at : (e : ℕ) → r ≡ At e → ends_at (length ws) (At e) ≡ one_record ws i
-  last_at e h = ap (ends_at (length ws)) (sym h ∙ g)
-
-  pub last_not : r ≡ Nothing → false ≡ one_record ws i
-  last_not h = ap (ends_at (length ws)) (sym h ∙ g)
 
 -- ---- the loop of `count`
 -- words still to come are there, and then the records go on
-pub skip : (n left : ℕ) (l : List ℕ) → records_in n left l ≡ cond (leb left (length l)) (records_in n 0 (drop left l)) Nothing
+pub skip : (n left : ℕ) (l : List ℕ) → records_in n left l ≡ cond (leb left (length l)) (records_in n 0 (drop left l)) None
 skip n zero l = rw (le-leb 0 (length l) zero-le)
 skip n (suc left) [] = rw (lt-leb (suc left) 0 (omega arith))
-skip n (suc left) (w ∷ l) = skip n left l ∙ ap (λ (b : Bool). cond b (records_in n 0 (drop left l)) Nothing) (leb_same left (length l) (suc left) (suc (length l)) (λ h. omega arith) (λ h. omega arith))
+skip n (suc left) (w ∷ l) = skip n left l ∙ ap (λ (b : Bool). cond b (records_in n 0 (drop left l)) None) (leb_same left (length l) (suc left) (suc (length l)) (λ h. omega arith) (λ h. omega arith))
 
 -- one record, and those behind it
-abbrev onward : ℕ → List ℕ → Found → Found
-onward n l (At k) = records_in (n + 1) 0 (drop k l)
-onward n l Nothing = Nothing
+abbrev onward : ℕ → List ℕ → Option ℕ → Option ℕ
+onward n l (Some k) = records_in (n + 1) 0 (drop k l)
+onward n l None = None
 
 one : (n : ℕ) (l : List ℕ) → 0 < length l → records_in n 0 l ≡ onward n l (record_length l)
 one n [] h = absurd (omega arith)
@@ -98,7 +89,7 @@ one n (a ∷ b ∷ c ∷ d ∷ []) h = refl
 one n (a ∷ b ∷ c ∷ d ∷ e ∷ []) h = refl
 one n (a ∷ b ∷ c ∷ d ∷ e ∷ f ∷ l) h = by (head_ok a b) (leb (e + f) (length l)) refl
   where
-    by : (x y : Bool) → leb (e + f) (length l) ≡ y → cond x (records_in (suc n) (e + f) l) Nothing ≡ onward n (a ∷ b ∷ c ∷ d ∷ e ∷ f ∷ l) (cond x (cond y (At (6 + e + f)) Nothing) Nothing)
+    by : (x y : Bool) → leb (e + f) (length l) ≡ y → cond x (records_in (suc n) (e + f) l) None ≡ onward n (a ∷ b ∷ c ∷ d ∷ e ∷ f ∷ l) (cond x (cond y (Some (6 + e + f)) None) None)
     by false y p = refl
     by true true p =
         let z : 6 + e + f ≡ suc (suc (suc (suc (suc (suc (e + f)))))) = omega arith in
@@ -118,7 +109,7 @@ record Long (l : List ℕ) (k : ℕ) : Type 0 where
   some : 6 ≤ k
   within : k ≤ length l
 
-whole : (l : List ℕ) (k : ℕ) → record_length l ≡ At k → Long l k
+whole : (l : List ℕ) (k : ℕ) → record_length l ≡ Some k → Long l k
 whole [] k e = absurd (let z : ◌≡◌ {A = ℕ} 0 1 = cc in omega arith)
 whole (a ∷ []) k e = absurd (let z : ◌≡◌ {A = ℕ} 0 1 = cc in omega arith)
 whole (a ∷ b ∷ []) k e = absurd (let z : ◌≡◌ {A = ℕ} 0 1 = cc in omega arith)
@@ -127,29 +118,29 @@ whole (a ∷ b ∷ c ∷ d ∷ []) k e = absurd (let z : ◌≡◌ {A = ℕ} 0 1
 whole (a ∷ b ∷ c ∷ d ∷ f ∷ []) k e = absurd (let z : ◌≡◌ {A = ℕ} 0 1 = cc in omega arith)
 whole (a ∷ b ∷ c ∷ d ∷ f ∷ g ∷ l) k e = by (head_ok a b) (leb (f + g) (length l)) refl e
   where
-    by : (x y : Bool) → leb (f + g) (length l) ≡ y → cond x (cond y (At (6 + f + g)) Nothing) Nothing ≡ At k → Long (a ∷ b ∷ c ∷ d ∷ f ∷ g ∷ l) k
+    by : (x y : Bool) → leb (f + g) (length l) ≡ y → cond x (cond y (Some (6 + f + g)) None) None ≡ Some k → Long (a ∷ b ∷ c ∷ d ∷ f ∷ g ∷ l) k
     by false y p q = absurd (let z : ◌≡◌ {A = ℕ} 0 1 = cc in omega arith)
     by true false p q = absurd (let z : ◌≡◌ {A = ℕ} 0 1 = cc in omega arith)
     by true true p q = let z : 6 + f + g ≡ k = cc in record { some = omega arith; within = omega (arith, leb-true (f + g) (length l) p) }
 
 -- what an end says of the record
-at_end : (i e : ℕ) (f : Found) → At e ≡ end_from i f → (k : ℕ) × ((f ≡ At k) × (e ≡ i + k))
-at_end i e (At k) h = (k, (refl, cc))
-at_end i e Nothing h = absurd (let z : ◌≡◌ {A = ℕ} 0 1 = cc in omega arith)
+at_end : (i e : ℕ) (f : Option ℕ) → Some e ≡ end_from i f → (k : ℕ) × ((f ≡ Some k) × (e ≡ i + k))
+at_end i e (Some k) h = (k, (refl, cc))
+at_end i e None h = absurd (let z : ◌≡◌ {A = ℕ} 0 1 = cc in omega arith)
 
-no_end : (i : ℕ) (f : Found) → Nothing ≡ end_from i f → f ≡ Nothing
-no_end i (At k) h = absurd (let z : ◌≡◌ {A = ℕ} 0 1 = cc in omega arith)
-no_end i Nothing h = refl
+no_end : (i : ℕ) (f : Option ℕ) → None ≡ end_from i f → f ≡ None
+no_end i (Some k) h = absurd (let z : ◌≡◌ {A = ℕ} 0 1 = cc in omega arith)
+no_end i None h = refl
 
 module _ (ws : List ℕ) (i n : ℕ) (I : Inv ws i n) (h : i < length ws) where
   turn : records_in 0 0 ws ≡ onward n (drop i ws) (record_length (drop i ws))
   turn = I.rest ∙ one n (drop i ws) (rw length-drop (omega arith))
 
-  pub no_record : (r : Found) → r ≡ record_end ws i → r ≡ Nothing → Nothing ≡ records_in 0 0 ws
+  pub no_record : (r : Option ℕ) → r ≡ record_end ws i → r ≡ None → None ≡ records_in 0 0 ws
   no_record r g e = rw (turn, no_end i (record_length (drop i ws)) (sym e ∙ g))
 
-  module _ (r : Found) (g : r ≡ record_end ws i) (e : ℕ) (f : r ≡ At e) where
-    went : (k : ℕ) → record_length (drop i ws) ≡ At k → e ≡ i + k → Inv ws e (n + 1)
+  module _ (r : Option ℕ) (g : r ≡ record_end ws i) (e : ℕ) (f : r ≡ Some e) where
+    went : (k : ℕ) → record_length (drop i ws) ≡ Some k → e ≡ i + k → Inv ws e (n + 1)
     went k p q =
         let L = whole (drop i ws) k p in
         let m : k ≤ length ws - i = rw length-drop at L.within in
@@ -161,5 +152,5 @@ module _ (ws : List ℕ) (i n : ℕ) (I : Inv ws i n) (h : i < length ws) where
     pub gets_on : length ws - e < length ws - i
     gets_on = let (k, p) = at_end i e (record_length (drop i ws)) (sym f ∙ g) in omega (arith, (whole (drop i ws) k p.0).some, p.1)
 
-pub all_follow : (ws : List ℕ) (i n : ℕ) → Inv ws i n → length ws ≤ i → At n ≡ records_in 0 0 ws
+pub all_follow : (ws : List ℕ) (i n : ℕ) → Inv ws i n → length ws ≤ i → Some n ≡ records_in 0 0 ws
 all_follow ws i n I h = rw (I.rest, drop_of_length-le ws {i = i} h)

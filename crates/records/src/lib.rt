@@ -5,7 +5,6 @@
 ghost use Rattle.std.specs.Prelude.{◌≡◌};
 ghost use Rattle.records.specs.Records.{head_ok, record_end, records_in, one_record};
 
-use table::Found;
 use words::geometry::Geometry;
 
 // A feature record, by its words.
@@ -34,54 +33,49 @@ impl Record {
 fn head_ok(kind: u32, mark: u32) -> bool
     ensures { result ≡ head_ok kind mark }
 {
-    let geometry = Geometry { kind: kind };
-    geometry.is_good() & (mark <= 1)
+    let geometry = Geometry { kind };
+    geometry.is_good() && mark <= 1
 }
 
 // Where the record at index i ends, if a whole one stands there.
-pub fn record_end(ws: &[u32], i: usize) -> Found
+pub fn record_end(ws: &[u32], i: usize) -> Option<usize>
     ensures { result ≡ record_end ws.now i }
 {
     if ws.len() < Record::HEAD {
-        return Found::Nothing;
+        return None;
     }
     if ws.len() - Record::HEAD < i {
-        return Found::Nothing;
+        return None;
     }
     if !head_ok(ws[i], ws[i + Record::MARK]) {
-        return Found::Nothing;
+        return None;
     }
     let tags = number::wide(ws[i + Record::TAGS]);
     let geometry = number::wide(ws[i + Record::GEOMETRY]);
     let long = Record::HEAD + tags + geometry;
     if ws.len() - i < long {
-        return Found::Nothing;
+        return None;
     }
-    Found::At(i + long)
+    Some(i + long)
 }
 
 // How many records there are, if they follow each other exactly to the end.
-pub fn count(ws: &[u32]) -> Found
+pub fn count(ws: &[u32]) -> Option<usize>
     ensures { result ≡ records_in 0 0 ws.now }
 {
     let mut i = 0;
     let mut n = 0;
+    // A `while`: each record says where the next one starts.
     while i < ws.len() {
-        match record_end(ws, i) {
-            Found::At(e) => i = e,
-            Found::Nothing => return Found::Nothing,
-        }
+        i = record_end(ws, i)?;
         n += 1;
     }
-    Found::At(n)
+    Some(n)
 }
 
 // Whether one record stands at index i and ends where the list ends.
 pub fn is_last(ws: &[u32], i: usize) -> bool
     ensures { result ≡ one_record ws.now i }
 {
-    match record_end(ws, i) {
-        Found::At(e) => e == ws.len(),
-        Found::Nothing => false,
-    }
+    record_end(ws, i) == Some(ws.len())
 }

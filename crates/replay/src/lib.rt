@@ -12,7 +12,6 @@ ghost use Rattle.printed.specs.Row.{row_text, row_room};
 ghost use Rattle.io.specs.Counts.{IsPrefixLen};
 ghost use Rattle.std.specs.Io.{ReadsAtMost};
 
-use number_file::Numbers;
 use printed::{Text, first_bytes, first_words};
 use refusal::Refusal;
 use std::io::{ErrorKind, Write};
@@ -65,8 +64,8 @@ pub fn load<R: Files + Eprint>(rt: &R, path: &[u8], out: &mut [u32]) -> usize
     let mut bytes = [0u8; 65536];
     let n = read_file(rt, path, &mut bytes);
     match number_file::read_numbers(&bytes[..n], out) {
-        Numbers::Read(k) => k,
-        Numbers::Refused(_) => 0,
+        Ok(k) => k,
+        Err(_) => 0,
     }
 }
 

@@ -1,7 +1,7 @@
 // Replays clips: prints for each segment and box the segment after the cuts, or the refusal.
 #![tactic(auto)]
 
-use clip::{BBox, Clipped, Pt, Seg};
+use clip::{BBox, Pt, Seg};
 use number::signed_long;
 use replay::signed_at;
 
@@ -30,28 +30,27 @@ fn box_of(case: &[u32]) -> BBox {
 }
 
 fn print_segment<R: Print>(rt: &R, s: Seg) {
-    let p0 = s.p0;
-    let p1 = s.p1;
     let row = [
-        signed_long(p0.x),
-        signed_long(p0.y),
-        signed_long(p1.x),
-        signed_long(p1.y),
+        signed_long(s.p0.x),
+        signed_long(s.p0.y),
+        signed_long(s.p1.x),
+        signed_long(s.p1.y),
     ];
     replay::print_row(rt, &row);
 }
 
 fn print_case<R: Print>(rt: &R, case: &[u32]) {
     match clip::clip(segment(case), box_of(case)) {
-        Clipped::Refused(r) => {
+        Ok(c) => print_segment(rt, c.seg),
+        Err(r) => {
             replay::print_refused(rt, r, 0);
         }
-        Clipped::Done(c) => print_segment(rt, c.seg),
     }
 }
 
 fn print_all<R: Print>(rt: &R, cases: &[u32]) {
     let mut at = 0;
+    // No `for`: how far a turn goes on stands in its record.
     while at < cases.len() {
         print_case(rt, replay::body(cases, at));
         at = replay::past(cases, at);

@@ -1,22 +1,22 @@
 // Replays jobs: prints for each job file what the program `job` prints for it, its words or its refusal.
 #![tactic(auto)]
 
-use encoder::whole_job::Encoded;
 use std::rt::Files;
 
 fn print_job<R: Print>(rt: &R, job: &[u32], words: &mut [u32]) {
     match job_file::encode_file(job, words) {
-        Encoded::Refused(r, accepted) => {
-            replay::print_refused(rt, r, accepted);
-        }
-        Encoded::Words(used) => {
+        Ok(used) => {
             replay::print_words(rt, words, used);
+        }
+        Err(e) => {
+            replay::print_refused(rt, e.refusal, e.kept);
         }
     }
 }
 
 fn print_all<R: Print>(rt: &R, cases: &[u32], words: &mut [u32]) {
     let mut at = 0;
+    // No `for`: how far a turn goes on stands in its record.
     while at < cases.len() {
         print_job(rt, replay::body(cases, at), words);
         at = replay::past(cases, at);

@@ -2,36 +2,26 @@
 // and its place.
 #![tactic(auto)]
 
-use decoder::Reading;
 use number::signed_long;
 
 // So many vertices, three numbers each, as far as the list goes.
 fn print_vertices<R: Print>(rt: &R, numbers: &[i32], vertices: usize) {
-    let mut at = 0;
-    let mut i = 0;
-    while i < vertices {
-        if numbers.len() - at < 3 {
-            return;
-        }
+    for vertex in numbers.chunks_exact(3).take(vertices) {
         let row = [
-            signed_long(numbers[at]),
-            signed_long(numbers[at + 1]),
-            signed_long(numbers[at + 2]),
+            signed_long(vertex[0]),
+            signed_long(vertex[1]),
+            signed_long(vertex[2]),
         ];
         replay::print_row(rt, &row);
-        at += 3;
-        i += 1;
     }
 }
 
 fn print_reading<R: Print>(rt: &R, words: &[u32], out: &mut [i32]) {
     match decoder::decode(words, out) {
-        Reading::Refused(f) => {
-            let r = f.refusal;
-            let place = f.place;
-            replay::print_refused(rt, r, place);
+        Err(f) => {
+            replay::print_refused(rt, f.refusal, f.place);
         }
-        Reading::Read(vertices) => {
+        Ok(vertices) => {
             let row = [replay::size(vertices)];
             replay::print_row(rt, &row);
             print_vertices(rt, out, vertices);
@@ -42,15 +32,13 @@ fn print_reading<R: Print>(rt: &R, words: &[u32], out: &mut [i32]) {
 // A case: the lent list's length, the words.
 fn print_case<R: Print>(rt: &R, case: &[u32], out: &mut [i32]) {
     let room = replay::number(case, 0) as usize;
-    if case.len() == 0 {
-        return;
-    }
-    if out.len() < room {
+    if case.is_empty() || out.len() < room {
         return;
     }
     print_reading(rt, &case[1..], &mut out[..room]);
 }
 
+// A `while`: each turn goes on by a case of its own length.
 fn print_all<R: Print>(rt: &R, cases: &[u32], out: &mut [i32]) {
     let mut at = 0;
     while at < cases.len() {

@@ -2,33 +2,28 @@
 #![tactic(auto)]
 
 use clip::{BBox, Pt};
-use encoder::points::MaybePt;
 use encoder::tally::Tally;
-use encoder::{Drawn, GeomEncoder, Started};
+use encoder::{Drawn, GeomEncoder};
 use number::signed_long;
 use replay::{number, signed_at};
 
 // A point of three numbers of a case, whose places are given: whether there is one, x and y.
-fn stored(case: &[u32], there: usize, x: usize, y: usize) -> MaybePt {
+fn stored(case: &[u32], there: usize, x: usize, y: usize) -> Option<Pt> {
     if number(case, there) == 0 {
-        return MaybePt::Nowhere;
+        return None;
     }
-    MaybePt::At(Pt {
+    Some(Pt {
         x: signed_at(case, x),
         y: signed_at(case, y),
     })
 }
 
-fn print_point<R: Print>(rt: &R, p: MaybePt) {
-    match p {
-        MaybePt::Nowhere => {
-            replay::print_row(rt, &[0, 0, 0]);
-        }
-        MaybePt::At(q) => {
-            let row = [1, signed_long(q.x), signed_long(q.y)];
-            replay::print_row(rt, &row);
-        }
-    }
+fn print_point<R: Print>(rt: &R, p: Option<Pt>) {
+    let row = match p {
+        None => [0, 0, 0],
+        Some(q) => [1, signed_long(q.x), signed_long(q.y)],
+    };
+    replay::print_row(rt, &row);
 }
 
 fn box_of(case: &[u32]) -> BBox {
@@ -58,9 +53,6 @@ fn carried(case: &[u32]) -> GeomEncoder {
 // A state in five rows: kind and box; the raw end; the point before last; the last point; the last command's place, the count and the used words.
 fn print_state<R: Print>(rt: &R, q: GeomEncoder) {
     let b = q.bbox;
-    let xy_end = q.xy_end;
-    let pt0 = q.pt0;
-    let pt1 = q.pt1;
     let head = [
         q.kind as i64,
         signed_long(b.x_min),
@@ -69,9 +61,9 @@ fn print_state<R: Print>(rt: &R, q: GeomEncoder) {
         signed_long(b.y_max),
     ];
     replay::print_row(rt, &head);
-    print_point(rt, xy_end);
-    print_point(rt, pt0);
-    print_point(rt, pt1);
+    print_point(rt, q.xy_end);
+    print_point(rt, q.pt0);
+    print_point(rt, q.pt1);
     let figures = [
         replay::size(q.cmd_offset),
         q.count as i64,
@@ -83,8 +75,8 @@ fn print_state<R: Print>(rt: &R, q: GeomEncoder) {
 // The encoder that is made; a state of zeros where none is.
 fn started<R: Print>(rt: &R, case: &[u32]) -> GeomEncoder {
     match GeomEncoder::new(number(case, 2), box_of(case)) {
-        Started::Fresh(q) => q,
-        Started::Refused(r) => {
+        Ok(q) => q,
+        Err(r) => {
             replay::print_refused(rt, r, 0);
             carried(&case[..0])
         }
@@ -94,10 +86,10 @@ fn started<R: Print>(rt: &R, case: &[u32]) -> GeomEncoder {
 // The state that a call leaves.
 fn drawn<R: Print>(rt: &R, d: Drawn) -> GeomEncoder {
     match d {
-        Drawn::Done(q, _) => q,
-        Drawn::Refused(r, q) => {
-            replay::print_refused(rt, r, 0);
-            q
+        Ok((q, _)) => q,
+        Err(e) => {
+            replay::print_refused(rt, e.refusal, 0);
+            e.kept
         }
     }
 }
@@ -134,6 +126,7 @@ fn print_call<R: Print>(rt: &R, case: &[u32], q: GeomEncoder, words: &mut [u32])
 fn print_all<R: Print>(rt: &R, cases: &[u32], words: &mut [u32]) {
     let mut q = carried(&cases[..0]);
     let mut at = 0;
+    // No `for`: how far a turn goes on stands in its record.
     while at < cases.len() {
         q = print_call(rt, replay::body(cases, at), q, words);
         at = replay::past(cases, at);

@@ -8,32 +8,27 @@ use std::rt::Files;
 use tile::Tile;
 use tile_run::hand::Hand;
 use tile_run::performing::Work;
-use tile_run::{Ran, Step};
 
 // The last two feature words of the layer at hand: those that a tag has added.
 fn print_tag<R: Print>(rt: &R, h: Hand, features: &[u32]) {
-    match h {
-        Hand::Nothing => (),
-        Hand::Holds(s) => {
-            let used = s.used;
-            let end = used.features;
-            if end < 2 {
-                return;
-            }
-            let row = [
-                number(features, end - 2) as i64,
-                number(features, end - 1) as i64,
-            ];
-            replay::print_row(rt, &row);
-        }
+    let Some(s) = h else {
+        return;
+    };
+    let end = s.used.features;
+    if end < 2 {
+        return;
     }
+    let row = [
+        i64::from(number(features, end - 2)),
+        i64::from(number(features, end - 1)),
+    ];
+    replay::print_row(rt, &row);
 }
 
 // An accepted tag's indices.
 fn print_step<R: Print>(rt: &R, op: u32, outcome: u32, w: Work, features: &[u32]) {
-    if (op == Op::TAG) & (outcome == 0) {
-        let hand = w.hand;
-        print_tag(rt, hand, features);
+    if op == Op::TAG && outcome == 0 {
+        print_tag(rt, w.hand, features);
     }
 }
 
@@ -57,10 +52,10 @@ fn print_outcomes<R: Print>(rt: &R, bytes: &[u8], numbers: &[u32]) {
         &mut names,
         &mut out,
     ) {
-        Ran::Refused(r) => {
+        Err(r) => {
             replay::print_refused(rt, r, 0);
         }
-        Ran::Done(n, used) => {
+        Ok((n, used)) => {
             replay::print_tile(rt, &outcomes, n, &out, used);
         }
     }
@@ -76,11 +71,12 @@ fn print_tags<R: Print>(rt: &R, bytes: &[u8], numbers: &[u32]) {
     let mut out = [0u8; 131_072];
     let mut w = Work {
         tile: Tile::new(number(numbers, 0)),
-        hand: Hand::Nothing,
+        hand: None,
     };
     let mut at = 1;
+    // Counted by hand: an operation takes as many numbers as it has, so the step differs from turn to turn.
     while at < numbers.len() {
-        match tile_run::advance(
+        let Some((outcome, next, place)) = tile_run::advance(
             at,
             w,
             bytes,
@@ -91,20 +87,19 @@ fn print_tags<R: Print>(rt: &R, bytes: &[u8], numbers: &[u32]) {
             &mut features,
             &mut names,
             &mut out,
-        ) {
-            Step::Bad => return,
-            Step::Is(outcome, next, place) => {
-                print_step(rt, number(numbers, at), outcome, next, &features);
-                w = next;
-                at = place;
-            }
-        }
+        ) else {
+            return;
+        };
+        print_step(rt, number(numbers, at), outcome, next, &features);
+        w = next;
+        at = place;
     }
 }
 
 // The file's bytes are those of its numbers, four to each.
 fn print_all<R: Print>(rt: &R, bytes: &[u8], cases: &[u32]) {
     let mut at = 0;
+    // Counted by hand: a case takes as many numbers as it has, so the step differs from turn to turn.
     while at < cases.len() {
         let numbers = replay::body(cases, at);
         let part = Part {

@@ -3,7 +3,7 @@
 #![tactic(auto)]
 
 use std::rt::Files;
-use words::command::{Command, CommandInt, CommandRead, CommandWord};
+use words::command::{Command, CommandInt};
 use words::param::ParamInt;
 
 fn print_param<R: Print>(rt: &R, n: i32) {
@@ -15,36 +15,31 @@ fn print_param<R: Print>(rt: &R, n: i32) {
 
 fn print_word<R: Print>(rt: &R, word: u32) {
     match CommandInt::decode(word) {
-        CommandRead::Refused(r) => {
-            replay::print_refused(rt, r, 0);
-        }
-        CommandRead::Read(c) => {
-            let command = c.id;
-            let count = c.count;
-            let row = [word as i64, command.number() as i64, count as i64];
+        Ok(c) => {
+            let row = [word as i64, c.id.number() as i64, c.count as i64];
             replay::print_row(rt, &row);
+        }
+        Err(r) => {
+            replay::print_refused(rt, r, 0);
         }
     }
 }
 
 fn print_encoded<R: Print>(rt: &R, command: Command, count: u32) {
     match (CommandInt { id: command, count }).encode() {
-        CommandWord::Refused(r) => {
+        Ok(word) => print_word(rt, word),
+        Err(r) => {
             replay::print_refused(rt, r, 0);
         }
-        CommandWord::Word(word) => print_word(rt, word),
     }
 }
 
 // The command is the one of the word that has this id and no count.
 fn print_command<R: Print>(rt: &R, id: u32, count: u32) {
     match CommandInt::decode(id) {
-        CommandRead::Refused(r) => {
+        Ok(c) => print_encoded(rt, c.id, count),
+        Err(r) => {
             replay::print_refused(rt, r, 0);
-        }
-        CommandRead::Read(c) => {
-            let command = c.id;
-            print_encoded(rt, command, count);
         }
     }
 }
@@ -60,6 +55,7 @@ fn print_case<R: Print>(rt: &R, case: &[u32]) {
 
 fn print_all<R: Print>(rt: &R, cases: &[u32]) {
     let mut at = 0;
+    // No `for`: how far a turn goes on stands in its record.
     while at < cases.len() {
         print_case(rt, replay::body(cases, at));
         at = replay::past(cases, at);

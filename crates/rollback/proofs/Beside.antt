@@ -18,8 +18,7 @@ use Rattle.utf8.specs.Utf8.{is_utf8}
 use Rattle.table.specs.Texts.{short_text}
 use Rattle.words.specs.Geometries.{is_kind, max_words}
 use Rattle.layer.specs.declared.Figures.{Figures}
-use Rattle.layer.specs.declared.Open.{Open}
-use Rattle.layer.specs.declared.Open.TheVariants.{Shut, Since}
+use Rattle.std.specs.Prelude.{Option, Some, None}
 use Rattle.layer.specs.declared.Layer.{Layer}
 use Rattle.layer.specs.declared.whole_feature.Head.{Head}
 use Rattle.layer.specs.Held.{Memory, Seen, seen, Change, refuses, holds, check, when_open, fits, written, onto}
@@ -121,9 +120,9 @@ module _ (b : Bool) where
   past_check true t q x y e B = rw (← e) B
   past_check false t q x y e B = rw (← e) (inr refl)
 
-  past_open : (f : Open) (go went : Figures → Change) → ((o : Figures) → Beside b (go o) (went o)) → Beside b (when_open f go) (when_open f went)
-  past_open Shut go went B = inr refl
-  past_open (Since o) go went B = B o
+  past_open : (f : Option Figures) (go went : Figures → Change) → ((o : Figures) → Beside b (go o) (went o)) → Beside b (when_open f go) (when_open f went)
+  past_open None go went B = inr refl
+  past_open (Some o) go went B = B o
 
   past_again : (t : Bool) (x y : Change) → Beside b x y → Beside b (check t Again x) y
   past_again true x y B = B
@@ -253,9 +252,9 @@ told_with_lem {X = X} b v x y x' y' p q = rw (valid_choice b v, valid_choice fal
     by true = p
     by false = q
 
-tags_with : (b : Bool) (v : Seen) (f : Open) → tags_in f (choose b v) ≡ said_with (told_with b) (tags_in f (choose false v))
-tags_with b v Shut = refl
-tags_with b v (Since o) = refl
+tags_with : (b : Bool) (v : Seen) (f : Option Figures) → tags_in f (choose b v) ≡ said_with (told_with b) (tags_in f (choose false v))
+tags_with b v None = refl
+tags_with b v (Some o) = refl
 
 -- a tile reads no choice
 size_choice : (b : Bool) (t : Tile) (v : Seen) → layer_size t (choose b v) ≡ layer_size t v

@@ -10,7 +10,7 @@ use Rattle.promise.specs.Laid.{lay}
 use Rattle.refusal.specs.declared.Refusal.TheVariants.{Kind, State, Room, Turn}
 use Rattle.words.specs.Geometries.{is_kind, max_words}
 use Rattle.layer.specs.declared.Figures.{Figures}
-use Rattle.layer.specs.declared.Open.TheVariants.{Shut, Since}
+use Rattle.std.specs.Prelude.{Some, None}
 use Rattle.layer.specs.Held.{Seen, Change, refuses, holds, fits, next}
 use Rattle.layer.specs.State.{valid}
 use Rattle.layer.specs.Calls.{is_shut, more_words, with_used, with_features, new_record, Tag, is_value, key_found, value_found, tag_put}
@@ -26,11 +26,11 @@ All P (holds t h) v = P (next (holds t h) v)
 
 -- what each step keeps, with its room
 module _ (v : Seen) (L : Lengths v) (e : valid v ≡ true) where
-  pub opened_fine : (kind : ℕ) (words : List ℕ) → is_kind kind ≡ true → v.layer.feature ≡ Shut → fits (more_words v.layer.used (6 + length words)) v.room ≡ true → Fine (next (holds (with_used v.layer (more_words v.layer.used (6 + length words)) (Since v.layer.used)) (with_features v.held (v.held.features ++ new_record kind words))) v)
+  pub opened_fine : (kind : ℕ) (words : List ℕ) → is_kind kind ≡ true → v.layer.feature ≡ None → fits (more_words v.layer.used (6 + length words)) v.room ≡ true → Fine (next (holds (with_used v.layer (more_words v.layer.used (6 + length words)) (Some v.layer.used)) (with_features v.held (v.held.features ++ new_record kind words))) v)
   opened_fine kind words k f h = fine _ (opened_sound kind 0 0 words v (sound v e L) (rw k) f) h
 
-  module _ (o : Figures) (f : v.layer.feature ≡ Since o) where
-    pub closed_fine : Fine (next (holds (with_used v.layer v.layer.used Shut) v.held) v)
+  module _ (o : Figures) (f : v.layer.feature ≡ Some o) where
+    pub closed_fine : Fine (next (holds (with_used v.layer v.layer.used None) v.held) v)
     closed_fine = fine _ (closed_sound v (sound v e L) o f) (parts v e).room
 
     pub marked_fine : (low high : ℕ) → Fine (next (holds v.layer (with_features v.held (lay (o.features + 1) (1 ∷ low ∷ high ∷ []) v.held.features))) v)

@@ -9,14 +9,12 @@ use lib.ListN.{length, get_or, set, drop, length-append, length-set, drop_of_len
 use lib.Seq.{drop-append-le, drop-set-lt, get_or_at, get_or-append-add, get_or-set_same}
 use borrow.Author.Tests.{lt-ltb, leb-true}
 use Rattle.promise.proofs.Joined.{cond_both}
-use Rattle.table.specs.declared.Found.{Found}
-use Rattle.table.specs.declared.Found.TheVariants.{At, Nothing}
+use Rattle.std.specs.Prelude.{Option, Some, None}
 use Rattle.table.specs.Texts.{inside, same_text, text_of}
 use Rattle.table.specs.Keys.{find_key, keys_in}
 use Rattle.index.proofs.Alike.{text_is}
 use Rattle.index.proofs.Growing.{text_kept}
 use Rattle.layer.specs.declared.Figures.{Figures}
-use Rattle.layer.specs.declared.Open.TheVariants.{Since}
 use Rattle.layer.specs.Held.{Seen}
 use Rattle.layer.specs.Calls.{record_with, Tag, index_of, put_of, key_words, with_tag, key_found, value_found, tag_put, is_key, has_key, last_tags}
 use Rattle.layer.proofs.Entries.{text_next}
@@ -60,7 +58,7 @@ one_before a b ks ts k x N =
 Found_at : List ℕ → List ℕ → List ℕ → ℕ → ℕ → Type 0
 Found_at ks ts key j i = (m : ℕ) × (i ≡ j + m) × Named ks ts m key
 
-found_named : (ks ts key : List ℕ) (j i : ℕ) → keys_in (length ts) ks ≡ true → find_key j ks ts key ≡ At i → Found_at ks ts key j i
+found_named : (ks ts key : List ℕ) (j i : ℕ) → keys_in (length ts) ks ≡ true → find_key j ks ts key ≡ Some i → Found_at ks ts key j i
 unfolding Found_at
 found_named [] ts key j i K e = absurd (let z : ◌≡◌ {A = ℕ} 0 1 = cc in omega arith)
 found_named (a ∷ []) ts key j i K e = absurd (let z : ◌≡◌ {A = ℕ} 0 1 = cc in omega arith)
@@ -69,9 +67,9 @@ found_named (a ∷ b ∷ ks) ts key j i K e = by (same_text ts a b key) refl (λ
     in_texts : a + b ≤ length ts
     in_texts = leb-true (a + b) (length ts) (cond_both (inside (length ts) a b) (keys_in (length ts) ks) K).0
 
-    by : (t : Bool) → same_text ts a b key ≡ t → (find_key (suc j) ks ts key ≡ At i → Found_at ks ts key (suc j) i) → Found_at (a ∷ b ∷ ks) ts key j i
+    by : (t : Bool) → same_text ts a b key ≡ t → (find_key (suc j) ks ts key ≡ Some i → Found_at ks ts key (suc j) i) → Found_at (a ∷ b ∷ ks) ts key j i
     by true q go =
-        let f : At j ≡ At i = rw q at e in
+        let f : Some j ≡ Some i = rw q at e in
         let g : j ≡ i = cc in
         (0, omega (arith, g), record { there = omega arith; within = in_texts; text = text_is ts a b key q })
     by false q go =
@@ -120,13 +118,13 @@ last_tagged ws at k v h =
     let e : length ws + 2 - (n + 2) ≡ length ws - n = omega arith in
     rw (l, g, e, drop-set-lt (length ws - n) all (at + 4) (n + 2) (omega arith)) (drop-append-le (length ws - n) ws (k ∷ v ∷ []) (omega arith))
 
-key_named : (ks ts : List ℕ) (n u : ℕ) (x more : List ℕ) (f : Found) → f ≡ find_key 0 ks ts x → keys_in (length ts) ks ≡ true → length ks ≡ n * 2 → length ts ≡ u → Named (ks ++ put_of f (key_words u x)) (ts ++ (put_of f x ++ more)) (index_of f n) x
+key_named : (ks ts : List ℕ) (n u : ℕ) (x more : List ℕ) (f : Option ℕ) → f ≡ find_key 0 ks ts x → keys_in (length ts) ks ≡ true → length ks ≡ n * 2 → length ts ≡ u → Named (ks ++ put_of f (key_words u x)) (ts ++ (put_of f x ++ more)) (index_of f n) x
 unfolding Found_at
-key_named ks ts n u x more (At j) e K k t =
+key_named ks ts n u x more (Some j) e K k t =
     let (m, r, N) = found_named ks ts x 0 j K (sym e) in
     let q : m ≡ j = omega (arith, r) in
     named_more ks [] ts ([] ++ more) j x (subst (λ (i : ℕ). Named ks ts i x) q N)
-key_named ks ts n u x more Nothing e K k t = new_named ks ts n u x more k t
+key_named ks ts n u x more None e K k t = new_named ks ts n u x more k t
 
 module _ (v : Seen) (S : Sound v) (o : Figures) (six : o.features + 6 + get_or v.held.features (o.features + 4) 0 ≤ length v.held.features) (t : Tag) (xs : List (List ℕ)) (T : Keyed v o xs) where
   pub tag_keyed : Keyed (tag_put o t v) o (xs ++ (t.key ∷ []))
@@ -142,7 +140,7 @@ module _ (v : Seen) (S : Sound v) (o : Figures) (six : o.features + 6 + get_or v
       (key_named h.keys h.texts u.keys u.texts t.key (put_of vf t.text) kf refl K S.lengths.keys S.lengths.texts))
 
 -- its six words and its tag words are there
-pub open_six : (v : Seen) → Sound v → (o : Figures) → v.layer.feature ≡ Since o → o.features + 6 + get_or v.held.features (o.features + 4) 0 ≤ length v.held.features
+pub open_six : (v : Seen) → Sound v → (o : Figures) → v.layer.feature ≡ Some o → o.features + 6 + get_or v.held.features (o.features + 4) 0 ≤ length v.held.features
 open_six v S o f =
     let P = open_parts v.layer.feature o v.layer.used v.held.features f S.records in
     last_six v.held.features o.features (omega (arith, (within o v.layer.used P.room).features, S.lengths.features)) P.last

@@ -11,7 +11,7 @@ use Rattle.refusal.specs.declared.Refusal.TheVariants.{Job, State}
 use Rattle.refusal.specs.Refusals.{number_of}
 use Rattle.refusal.specs.Said.{Said, accepted, refused}
 use Rattle.layer.specs.declared.Layer.{Layer}
-use Rattle.layer.specs.declared.Open.TheVariants.{Shut}
+use Rattle.std.specs.Prelude.{None}
 use Rattle.layer.specs.declared.whole_feature.Head.{Head}
 use Rattle.layer.specs.Held.{Memory, Seen, Change, refuses, holds, next, onto}
 use Rattle.layer.specs.State.{valid}
@@ -147,7 +147,7 @@ same_following_all (l ∷ ls) g g₂ e = same_following_all ls (following l g) (
 abbrev after_calls : List Call → Given → Given
 after_calls cs g = record { layer = layer_after cs g.layer g.memory; memory = memory_after cs g.layer g.memory }
 
-module _ (g : Given) (f : g.layer.feature ≡ Shut) (since : List Call) (n : open_ended since ≡ true) (later : List Later) where
+module _ (g : Given) (f : g.layer.feature ≡ None) (since : List Call) (n : open_ended since ≡ true) (later : List Later) where
   pub never_opened : replies later (after_calls (since ++ (abandons ∷ [])) g) ≡ replies later g
   never_opened = same_replies later (after_calls (since ++ (abandons ∷ [])) g) g (unseen g.layer g.memory f since n [])
 

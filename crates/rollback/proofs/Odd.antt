@@ -5,7 +5,7 @@ use mathlib.Core.Bool.{true, false}
 use mathlib.Core.List.{[], ◌∷◌}
 use Rattle.refusal.specs.declared.Refusal.TheVariants.{State}
 use Rattle.layer.specs.declared.Figures.{Figures}
-use Rattle.layer.specs.declared.Open.TheVariants.{Since}
+use Rattle.std.specs.Prelude.{Some}
 use Rattle.layer.specs.declared.Layer.{Layer}
 use Rattle.layer.specs.Held.{Seen, seen, mem, refuses, next}
 use Rattle.layer.specs.State.{valid}
@@ -15,7 +15,7 @@ at_opening : Figures
 at_opening = record { keys = 1; values = 0; texts = 0; features = 0 }
 
 odd_layer : Layer
-odd_layer = record { extent = 4096; strict = false; name = 0; used = record { keys = 1; values = 0; texts = 1; features = 6 }; feature = Since at_opening }
+odd_layer = record { extent = 4096; strict = false; name = 0; used = record { keys = 1; values = 0; texts = 1; features = 6 }; feature = Some at_opening }
 
 pub odd : Seen
 odd = seen odd_layer (mem (0 ∷ 1 ∷ []) [] (97 ∷ []) (1 ∷ 0 ∷ 0 ∷ 0 ∷ 0 ∷ 0 ∷ []))

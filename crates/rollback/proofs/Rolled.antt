@@ -16,7 +16,7 @@ use Rattle.refusal.specs.declared.Refusal.{Refusal}
 use Rattle.refusal.specs.declared.Refusal.TheVariants.{Kind, State, Room, Turn}
 use Rattle.words.specs.Geometries.{is_kind, max_words}
 use Rattle.layer.specs.declared.Figures.{Figures}
-use Rattle.layer.specs.declared.Open.TheVariants.{Shut, Since}
+use Rattle.std.specs.Prelude.{Some, None}
 use Rattle.layer.specs.declared.Layer.{Layer}
 use Rattle.layer.specs.Held.{Memory, Seen, seen, Change, refuses, holds, fits, held_by, smaller, max_texts, next}
 use Rattle.layer.specs.State.{valid}
@@ -35,7 +35,7 @@ pub record From (v₀ v : Seen) : Type 0 where
   pub extent : v.layer.extent ≡ v₀.layer.extent
   pub strict : v.layer.strict ≡ v₀.layer.strict
   pub name : v.layer.name ≡ v₀.layer.name
-  pub since : v.layer.feature ≡ Since v₀.layer.used
+  pub since : v.layer.feature ≡ Some v₀.layer.used
   pub cut : held_by v₀.layer.used v.held ≡ v₀.held
   pub room : v.room ≡ v₀.room
   pub fine : Fine v
@@ -44,8 +44,8 @@ abbrev pub Stage : Seen → Seen → Type 0
 Stage v₀ v = (v ≡ v₀) ⊎ From v₀ v
 
 -- ---- where no feature is open
-module _ (v₀ : Seen) (L : valid v₀ ≡ true → Lengths v₀) (s : v₀.layer.feature ≡ Shut) where
-  not_open : {X : Type 0} (o : Figures) → v₀.layer.feature ≡ Since o → X
+module _ (v₀ : Seen) (L : valid v₀ ≡ true → Lengths v₀) (s : v₀.layer.feature ≡ None) where
+  not_open : {X : Type 0} (o : Figures) → v₀.layer.feature ≡ Some o → X
   not_open o f = absurd (let z : ◌≡◌ {A = ℕ} 0 1 = cc in omega arith)
 
   cut_opened : (kind : ℕ) (words : List ℕ) → Lengths v₀ → held_by v₀.layer.used (with_features v₀.held (v₀.held.features ++ new_record kind words)) ≡ v₀.held
@@ -72,20 +72,20 @@ module _ (v₀ : Seen) (L : valid v₀ ≡ true → Lengths v₀) (s : v₀.laye
 
   -- ---- where one is open that was opened there
   module _ (v : Seen) (F : From v₀ v) where
-    opening_is : (o : Figures) → v.layer.feature ≡ Since o → o ≡ v₀.layer.used
+    opening_is : (o : Figures) → v.layer.feature ≡ Some o → o ≡ v₀.layer.used
     opening_is o f = cc F.since
 
     still_open : {X : Type 0} → is_shut v.layer.feature ≡ true → X
-    still_open h = absurd (let e : v.layer.feature ≡ Shut = is_shut_lem v.layer.feature h in let z : ◌≡◌ {A = ℕ} 0 1 = cc F.since in omega arith)
+    still_open h = absurd (let e : v.layer.feature ≡ None = is_shut_lem v.layer.feature h in let z : ◌≡◌ {A = ℕ} 0 1 = cc F.since in omega arith)
 
     pub back : next (does abandons v) v ≡ v₀
     back = rw (F.fine.stands, F.since) (again v.layer.extent v.layer.strict v.layer.name (held_by v₀.layer.used v.held) v.room F.extent F.strict F.name F.cut F.room)
       where
-        again : (x : ℕ) (c : Bool) (n : ℕ) (h : Memory) (r : Figures) → x ≡ v₀.layer.extent → c ≡ v₀.layer.strict → n ≡ v₀.layer.name → h ≡ v₀.held → r ≡ v₀.room → ◌≡◌ {A = Seen} (record { layer = record { extent = x; strict = c; name = n; used = v₀.layer.used; feature = Shut }; held = h; room = r }) v₀
+        again : (x : ℕ) (c : Bool) (n : ℕ) (h : Memory) (r : Figures) → x ≡ v₀.layer.extent → c ≡ v₀.layer.strict → n ≡ v₀.layer.name → h ≡ v₀.held → r ≡ v₀.room → ◌≡◌ {A = Seen} (record { layer = record { extent = x; strict = c; name = n; used = v₀.layer.used; feature = None }; held = h; room = r }) v₀
         again x c n h r a k b i d = rw (a, k, b, i, d, ← s)
 
     -- what is cut back to stays, where it stays up to the opening figures
-    module _ (o : Figures) (f : v.layer.feature ≡ Since o) where
+    module _ (o : Figures) (f : v.layer.feature ≡ Some o) where
       cut_as : (h : Memory) → held_by o h ≡ held_by o v.held → held_by v₀.layer.used h ≡ v₀.held
       cut_as h e =
           let q = opening_is o f in
@@ -143,7 +143,7 @@ module _ (v₀ : Seen) (L : valid v₀ ≡ true → Lengths v₀) (s : v₀.laye
   rolled cs n = run cs v₀ n (inl refl)
 
 -- later calls answer as if no feature had been opened, and leave what they would have left
-module _ (s : Layer) (m : Memory) (f : s.feature ≡ Shut) (since : List Call) (n : open_ended since ≡ true) (later : List Call) where
+module _ (s : Layer) (m : Memory) (f : s.feature ≡ None) (since : List Call) (n : open_ended since ≡ true) (later : List Call) where
   pub unseen : seen (layer_after (since ++ (abandons ∷ [])) s m) (memory_after (since ++ (abandons ∷ [])) s m) ≡ seen s m
   unseen = after_seen (since ++ (abandons ∷ [])) s m ∙ rolled (seen s m) (seen_lengths s m) f since n
 
@@ -154,15 +154,15 @@ module _ (s : Layer) (m : Memory) (f : s.feature ≡ Shut) (since : List Call) (
 -- the layer breaks no rule, and if a feature is open, the layer where it was opened did not either
 pub record Opened (v : Seen) : Type 0 where
   pub earlier : Seen
-  pub shut : earlier.layer.feature ≡ Shut
+  pub shut : earlier.layer.feature ≡ None
   pub fine : Fine earlier
   pub from : From earlier v
 
 pub record Sound (v : Seen) : Type 0 where
   pub fine : Fine v
-  pub opening : (v.layer.feature ≡ Shut) ⊎ Opened v
+  pub opening : (v.layer.feature ≡ None) ⊎ Opened v
 
-module _ (v₀ : Seen) (F₀ : Fine v₀) (s : v₀.layer.feature ≡ Shut) where
+module _ (v₀ : Seen) (F₀ : Fine v₀) (s : v₀.layer.feature ≡ None) where
   stage_sound : (w : Seen) → Stage v₀ w → Sound w
   stage_sound w (inl e) = rw e (record { fine = F₀; opening = inl s })
   stage_sound w (inr F) = record { fine = F.fine; opening = inr (record { earlier = v₀; shut = s; fine = F₀; from = F }) }
@@ -176,11 +176,11 @@ closes_sound v S =
 pub sound_next : (c : Call) (v : Seen) → Sound v → Sound (next (does c v) v)
 sound_next c v S = by c S.opening
   where
-    still : (c : Call) → is_open_ended c ≡ true → (v.layer.feature ≡ Shut) ⊎ Opened v → Sound (next (does c v) v)
+    still : (c : Call) → is_open_ended c ≡ true → (v.layer.feature ≡ None) ⊎ Opened v → Sound (next (does c v) v)
     still c n (inl s) = stage_sound v S.fine s (next (does c v) v) (start v (λ e. S.fine.lengths) s c n)
     still c n (inr O) = stage_sound O.earlier O.fine O.shut (next (does c v) v) (onward O.earlier (λ e. O.fine.lengths) O.shut v O.from c n)
 
-    by : (c : Call) → (v.layer.feature ≡ Shut) ⊎ Opened v → Sound (next (does c v) v)
+    by : (c : Call) → (v.layer.feature ≡ None) ⊎ Opened v → Sound (next (does c v) v)
     by (opens kind words) x = still (opens kind words) refl x
     by (marks low high) x = still (marks low high) refl x
     by (tags t g) x = still (tags t g) refl x

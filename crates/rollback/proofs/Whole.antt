@@ -18,7 +18,7 @@ use Rattle.table.specs.Values.{value_ok}
 use Rattle.words.specs.Geometries.{is_kind, max_words}
 use Rattle.layer.specs.declared.Figures.{Figures}
 use Rattle.layer.specs.declared.Layer.{Layer}
-use Rattle.layer.specs.declared.Open.TheVariants.{Shut, Since}
+use Rattle.std.specs.Prelude.{Some, None}
 use Rattle.layer.specs.declared.whole_feature.Head.{Head}
 use Rattle.layer.specs.Held.{Memory, Seen, Change, holds, check, fits, next}
 use Rattle.layer.specs.State.{valid}
@@ -113,11 +113,11 @@ one_call t false e rest h = absurd (let z : ◌≡◌ {A = ℕ} 0 1 = cc in omeg
 short_key : (bytes : List ℕ) (start len : ℕ) → short_text len ≡ true → short_text (length (take len (drop start bytes))) ≡ true
 short_key bytes start len h = le-leb (length (take len (drop start bytes))) max_bytes (omega (arith, length-take len (drop start bytes), leb-true len max_bytes h))
 
-module _ (t : Tag) (u : Seen) (o : Figures) (S : Sound u) (f : u.layer.feature ≡ Since o) (k : short_text (length t.key) ≡ true) (x : short_text (length t.text) ≡ true) (y : is_utf8 t.key ≡ true) (z : is_utf8 t.text ≡ true) (a : takes_key u.layer.strict u.held o.features t.key ≡ true) (h : fits (tag_put o t u).layer.used u.room ≡ true) (b : fits u.layer.used u.room ≡ true) where
+module _ (t : Tag) (u : Seen) (o : Figures) (S : Sound u) (f : u.layer.feature ≡ Some o) (k : short_text (length t.key) ≡ true) (x : short_text (length t.text) ≡ true) (y : is_utf8 t.key ≡ true) (z : is_utf8 t.text ≡ true) (a : takes_key u.layer.strict u.held o.features t.key ≡ true) (h : fits (tag_put o t u).layer.used u.room ≡ true) (b : fits u.layer.used u.room ≡ true) where
   tag_does : (g : is_value t.value ≡ true) → does (tags t g) u ≡ holds (tag_put o t u).layer (tag_put o t u).held
   tag_does g = rw ((fine u S b).stands, k, x, y, z, f, a, h)
 
-tags_run : (bytes ws : List ℕ) → tags_ok (length bytes) ws ≡ true → tags_short ws ≡ true → tags_utf8 (tags_of bytes ws) ≡ true → (o : Figures) (u : Seen) → u.layer.feature ≡ Since o → Sound u → (xs : List (List ℕ)) → Keyed u o xs → ApartIf u.layer.strict bytes xs ws → fits (tags_put o (tags_of bytes ws) u).layer.used u.room ≡ true → (rest : List Call) → runs (tag_calls (tags_of bytes ws) ++ rest) u ≡ runs rest (tags_put o (tags_of bytes ws) u)
+tags_run : (bytes ws : List ℕ) → tags_ok (length bytes) ws ≡ true → tags_short ws ≡ true → tags_utf8 (tags_of bytes ws) ≡ true → (o : Figures) (u : Seen) → u.layer.feature ≡ Some o → Sound u → (xs : List (List ℕ)) → Keyed u o xs → ApartIf u.layer.strict bytes xs ws → fits (tags_put o (tags_of bytes ws) u).layer.used u.room ≡ true → (rest : List Call) → runs (tag_calls (tags_of bytes ws) ++ rest) u ≡ runs rest (tags_put o (tags_of bytes ws) u)
 tags_run bytes [] e s w o u f S xs T A h rest = refl
 tags_run bytes (a ∷ []) e s w o u f S xs T A h rest = refl
 tags_run bytes (a ∷ b ∷ []) e s w o u f S xs T A h rest = refl
@@ -143,9 +143,9 @@ tags_run bytes (start ∷ len ∷ kind ∷ low ∷ high ∷ ws) e s y o u f S xs
     ∙ tags_run bytes ws p.1 q.1 x.1 o w f (tag_sound u S o f t r.0 (key_found t u) (value_found t u)) (xs ++ (t.key ∷ [])) (tag_keyed u S o (open_six u S o f) t xs T) (λ i. (A i).1) h rest
 
 -- ---- the id
-module _ (f : Head) (words : List ℕ) (v : Seen) (S : Sound v) (k : is_kind f.kind ≡ true) (s : v.layer.feature ≡ Shut) where
+module _ (f : Head) (words : List ℕ) (v : Seen) (S : Sound v) (k : is_kind f.kind ≡ true) (s : v.layer.feature ≡ None) where
   abbrev begun : Seen
-  begun = next (holds (with_used v.layer (more_words v.layer.used (6 + length words)) (Since v.layer.used)) (with_features v.held (v.held.features ++ new_record f.kind words))) v
+  begun = next (holds (with_used v.layer (more_words v.layer.used (6 + length words)) (Some v.layer.used)) (with_features v.held (v.held.features ++ new_record f.kind words))) v
 
   sound_begun : Sound begun
   sound_begun = opened_sound f.kind 0 0 words v S (rw k) s

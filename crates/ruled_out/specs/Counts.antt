@@ -1,11 +1,10 @@
 -- Crate `encoder`, document 02, request (ix): wrong counts of what became of the points, and wrong rules of STATE and ROOM about them.
-use Rattle.std.specs.Prelude.{ℕ, ◌+◌, ◌%◌, ◌≡◌, cond, ◌&&◌, List, [], ◌∷◌, leb, ltb, eqb, pos, negsuc, length, replicate}
+use Rattle.std.specs.Prelude.{ℕ, ◌+◌, ◌%◌, ◌≡◌, cond, ◌&&◌, List, [], ◌∷◌, leb, ltb, eqb, pos, negsuc, length, replicate, None}
 use Rattle.std.proofs.Common.{ap, arith}
 use Rattle.words.specs.Params.{param}
 use Rattle.clip.specs.declared.Pt.{Pt}
 use Rattle.clip.specs.Domain.{is_coord, is_good}
 use Rattle.clip.specs.Cutting.{cross_at_x, cuts, overlap, clip}
-use Rattle.encoder.specs.declared.points.MaybePt.TheVariants.{Nowhere}
 use Rattle.encoder.specs.declared.tally.Tally.{Tally}
 use Rattle.encoder.specs.declared.GeomEncoder.{GeomEncoder}
 use Rattle.encoder.specs.Points.{is_last, clamped}
@@ -21,7 +20,7 @@ use Rattle.ruled_out.specs.Inputs.{bit, state, point, after_one, after_two, tall
 pub begun_uncounted : ((s : GeomEncoder) (p : Pt)
     → (emitted_at s p).next.tally ≡ cond (is_last s.pt1 p && eqb s.count 0) s.tally (emitted_at s p).next.tally) → ⊥
 begun_uncounted h =
-    let e : ◌≡◌ {A = ℕ} 1 0 = ap (λ (t : Tally). t.skipped) (h (state 2 Nowhere Nowhere (point (pos 5) (pos 7)) 0 0 3) (point_at (pos 5) (pos 7))) in
+    let e : ◌≡◌ {A = ℕ} 1 0 = ap (λ (t : Tally). t.skipped) (h (state 2 None None (point (pos 5) (pos 7)) 0 0 3) (point_at (pos 5) (pos 7))) in
     omega arith
 
 -- a point taken out is not counted
@@ -36,7 +35,7 @@ taken_out_as_skipped h = let e : ◌≡◌ {A = ℕ} 0 1 = ap (λ (t : Tally). t
 -- ---- GeomEncoder::add_point: what a point counts
 -- a line at (-1,0), whose last point is (0,0): to (0,0) its first end is cut to (0,0), so that the boundary point and the point are skipped
 abbrev at_the_edge : GeomEncoder
-at_the_edge = state 2 (point (negsuc 0) (pos 0)) Nowhere (point (pos 0) (pos 0)) 0 1 3
+at_the_edge = state 2 (point (negsuc 0) (pos 0)) None (point (pos 0) (pos 0)) 0 1 3
 
 -- those of some points that are written: each but where it is the last one again
 abbrev written : GeomEncoder → List Pt → ℕ

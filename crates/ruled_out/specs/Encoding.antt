@@ -1,5 +1,5 @@
 -- Crate `encoder`: wrong states, emissions and completions.
-use Rattle.std.specs.Prelude.{ℕ, ◌+◌, ◌/◌, ◌≡◌, false, cond, ◌&&◌, ◌||◌, List, [], ◌∷◌, leb, ltb, eqb, ℤ, pos, negsuc, ◌-ℤ◌, length, replicate}
+use Rattle.std.specs.Prelude.{ℕ, ◌+◌, ◌/◌, ◌≡◌, false, cond, ◌&&◌, ◌||◌, List, [], ◌∷◌, leb, ltb, eqb, ℤ, pos, negsuc, ◌-ℤ◌, length, replicate, Option, None}
 use Rattle.std.proofs.Common.{ap, arith}
 use Rattle.promise.specs.Answers.{Written, kept}
 use Rattle.refusal.specs.declared.Refusal.TheVariants.{Kind, Box, State, Coord, Room}
@@ -12,8 +12,6 @@ use Rattle.clip.specs.declared.BBox.{BBox}
 use Rattle.clip.specs.Domain.{is_coord, is_good}
 use Rattle.clip.specs.Cutting.{cross_at_x, cuts, overlap, clip}
 use Rattle.clip.specs.Numbers.{edge_number}
-use Rattle.encoder.specs.declared.points.MaybePt.{MaybePt}
-use Rattle.encoder.specs.declared.points.MaybePt.TheVariants.{Nowhere}
 use Rattle.encoder.specs.Points.{in_limit, in_limits}
 use Rattle.encoder.specs.Pushed.{move_to, line_to, close_path, command}
 use Rattle.encoder.specs.Figures.{figures_fit}
@@ -34,9 +32,9 @@ pub fresh_used : ((kind : ℕ) (b : BBox) → started kind b ≡ cond (is_kind k
       tally = untouched;
       kind = kind;
       bbox = b;
-      xy_end = Nowhere;
-      pt0 = Nowhere;
-      pt1 = Nowhere;
+      xy_end = None;
+      pt0 = None;
+      pt1 = None;
       cmd_offset = 0;
       count = 0;
       used = 1;
@@ -70,16 +68,16 @@ place_rule_left_out h = let e : ◌≡◌ {A = ℕ} 0 1 = ap bit (h 3 1 3 8) in 
 pub stored_points_unasked : ((s : GeomEncoder) (n : ℕ)
     → valid s n ≡ (figures_fit s.used s.count s.cmd_offset n && is_kind s.kind && is_good s.bbox && balanced s.tally)) → ⊥
 unfolding valid is_good is_coord
-stored_points_unasked h = let e : ◌≡◌ {A = ℕ} 0 1 = ap bit (h (state 2 Nowhere Nowhere (point (pos 1073741824) (pos 0)) 0 1 3) 8) in omega arith
+stored_points_unasked h = let e : ◌≡◌ {A = ℕ} 0 1 = ap bit (h (state 2 None None (point (pos 1073741824) (pos 0)) 0 1 3) 8) in omega arith
 
 -- a missing point is refused
-pub missing_refused : in_limit Nowhere ≡ false → ⊥
+pub missing_refused : in_limit None ≡ false → ⊥
 missing_refused h = let e : ◌≡◌ {A = ℕ} 1 0 = ap bit h in omega arith
 
 -- the third stored point is not asked
-pub third_not_asked : ((l m n : MaybePt) → in_limits l m n ≡ (in_limit l && in_limit m)) → ⊥
+pub third_not_asked : ((l m n : Option Pt) → in_limits l m n ≡ (in_limit l && in_limit m)) → ⊥
 unfolding is_coord
-third_not_asked h = let e : ◌≡◌ {A = ℕ} 0 1 = ap bit (h Nowhere Nowhere (point (pos 1073741824) (pos 0))) in omega arith
+third_not_asked h = let e : ◌≡◌ {A = ℕ} 0 1 = ap bit (h None None (point (pos 1073741824) (pos 0))) in omega arith
 
 -- ---- GeomEncoder::add_point: what one point gives
 -- the steps along x are all 0
@@ -101,11 +99,11 @@ repeated_point_written h = let e : ◌≡◌ {A = ℕ} 0 3 = ap (λ (m : Emissio
 pub boundary_left_out : ((s : GeomEncoder) (p : Pt) → boundary s p ≡ []) → ⊥
 unfolding boundary clip overlap cuts cross_at_x
 boundary_left_out h =
-    let e : ◌≡◌ {A = ℕ} 1 0 = ap length (h (state 2 (point (negsuc 4) (pos 3)) Nowhere (point (pos 0) (pos 3)) 0 1 3) (point_at (pos 15) (pos 8))) in omega arith
+    let e : ◌≡◌ {A = ℕ} 1 0 = ap length (h (state 2 (point (negsuc 4) (pos 3)) None (point (pos 0) (pos 3)) 0 1 3) (point_at (pos 15) (pos 8))) in omega arith
 
 -- ---- GeomEncoder::add_point: the edges (document 02, request (v)), of the segment from (-5,3) to (5,8), whose first end is cut
 abbrev left_of : ℕ → GeomEncoder
-left_of kind = state kind (point (negsuc 4) (pos 3)) Nowhere (point (pos 0) (pos 3)) 0 1 3
+left_of kind = state kind (point (negsuc 4) (pos 3)) None (point (pos 0) (pos 3)) 0 1 3
 
 -- no edges
 pub edges_left_out : ((s : GeomEncoder) (p : Pt) → edges s p ≡ none) → ⊥
@@ -138,7 +136,7 @@ forgetting s =
       bbox = s.bbox;
       xy_end = s.xy_end;
       pt0 = s.pt0;
-      pt1 = Nowhere;
+      pt1 = None;
       cmd_offset = s.cmd_offset;
       count = s.count;
       used = s.used;
@@ -159,7 +157,7 @@ pub state_unasked : ((s : GeomEncoder) (p : Pt) (out : List ℕ)
     → added s p out ≡ cond (is_coord p) (roomy s out (drawn s p out)) (kept (turned Coord s) out)) → ⊥
 unfolding added valid is_good is_coord boundary emission param
 state_unasked h =
-    let e : ◌≡◌ {A = ℕ} 4 0 = ap (λ w. w.answer.number) (h (state 1 Nowhere Nowhere Nowhere 3 1 3) (point_at (pos 5) (pos 7)) (replicate 8 0)) in omega arith
+    let e : ◌≡◌ {A = ℕ} 4 0 = ap (λ w. w.answer.number) (h (state 1 None None None 3 1 3) (point_at (pos 5) (pos 7)) (replicate 8 0)) in omega arith
 
 -- a refused call counts the words used
 pub refused_counts : ((s : GeomEncoder) (p : Pt) (out : List ℕ) → (added s p out).answer.values.count ≡ (added s p out).answer.values.state.used) → ⊥
@@ -201,7 +199,7 @@ pub line_closed : ((s : GeomEncoder) → closing s ≡ cond (ltb 1 s.count) (com
 line_closed h = let e : ◌≡◌ {A = ℕ} 0 1 = ap length (h (after_two 2)) in omega arith
 
 -- the last point is cleared
-pub last_point_cleared : ((s : GeomEncoder) → (finished s).pt1 ≡ Nowhere) → ⊥
+pub last_point_cleared : ((s : GeomEncoder) → (finished s).pt1 ≡ None) → ⊥
 unfolding finished
 last_point_cleared h = let e : ◌≡◌ {A = ℕ} 1 0 = ap is_there (h (after_two 2)) in omega arith
 

@@ -1,5 +1,5 @@
 -- Crates `rollback` and `layer`: wrong runs of calls, wrong whole features and wrong lists of features.
-use Rattle.std.specs.Prelude.{ℕ, suc, ◌+◌, ◌/◌, ◌%◌, ◌≡◌, refl, Bool, true, false, cond, ◌&&◌, List, [], ◌∷◌, ◌++◌, leb, eqb, length, take, drop}
+use Rattle.std.specs.Prelude.{ℕ, suc, ◌+◌, ◌/◌, ◌%◌, ◌≡◌, refl, Bool, true, false, cond, ◌&&◌, List, [], ◌∷◌, ◌++◌, leb, eqb, length, take, drop, Some, None}
 use Rattle.std.proofs.Common.{ap, arith}
 use Rattle.promise.specs.Answers.{Written}
 use Rattle.refusal.specs.declared.Refusal.{Refusal}
@@ -10,7 +10,6 @@ use Rattle.table.specs.Texts.{inside}
 use Rattle.table.specs.Values.{value_ok}
 use Rattle.words.specs.Geometries.{is_kind, max_words}
 use Rattle.layer.specs.declared.Layer.{Layer}
-use Rattle.layer.specs.declared.Open.TheVariants.{Shut, Since}
 use Rattle.layer.specs.declared.whole_feature.Head.{Head}
 use Rattle.layer.specs.Held.{Memory, mem, Seen, seen, refuses, check, next}
 use Rattle.layer.specs.State.{valid}
@@ -41,7 +40,7 @@ first_byte [] = 0
 first_byte (t ∷ ts) = item 0 t.key
 
 -- the feature is left open
-pub left_open : ((f : Head) (words : List ℕ) (ts : List Tag) (v : Seen) → (feature_put f words ts v).layer.feature ≡ Since v.layer.used) → ⊥
+pub left_open : ((f : Head) (words : List ℕ) (ts : List Tag) (v : Seen) → (feature_put f words ts v).layer.feature ≡ Some v.layer.used) → ⊥
 left_open h = let e : ◌≡◌ {A = ℕ} 1 0 = ap (λ o. bit (is_shut o)) (h (head_with 1 false 0) [] [] whole) in omega arith
 
 -- the id is set though there is none
@@ -93,7 +92,7 @@ pub counted_twice : ((n kind mark low high w t : ℕ) (hs words ws bytes : List 
     (λ u l. add_all (n + 2) hs (drop w words) (drop t ws) bytes u l)) → ⊥
 unfolding valid
 counted_twice h =
-    let e : ◌≡◌ {A = ℕ} 1 2 = ap (λ (a : Written (Said Many) Memory). a.answer.values.count) (h 0 1 0 0 0 0 0 [] [] [] [] (layer_of now Shut) lent)
+    let e : ◌≡◌ {A = ℕ} 1 2 = ap (λ (a : Written (Said Many) Memory). a.answer.values.count) (h 0 1 0 0 0 0 0 [] [] [] [] (layer_of now None) lent)
     in omega arith
 
 -- each feature takes the first words
@@ -112,7 +111,7 @@ words_elsewhere h =
 pub refused_counted : ((heads words ws bytes : List ℕ) (s : Layer) (m : Memory)
     → (add_features heads words ws bytes s m).answer.values.count ≡ length heads / 6) → ⊥
 unfolding valid
-refused_counted h = let e : ◌≡◌ {A = ℕ} 0 1 = h (0 ∷ 0 ∷ 0 ∷ 0 ∷ 0 ∷ 0 ∷ []) [] [] [] (layer_of now Shut) lent in omega arith
+refused_counted h = let e : ◌≡◌ {A = ℕ} 0 1 = h (0 ∷ 0 ∷ 0 ∷ 0 ∷ 0 ∷ 0 ∷ []) [] [] [] (layer_of now None) lent in omega arith
 
 -- no heads take a layer that breaks a rule
 pub no_heads_unasked : ((bytes : List ℕ) (s : Layer) (m : Memory) → (add_features [] [] [] bytes s m).answer.number ≡ 0) → ⊥
@@ -124,4 +123,4 @@ pub built_for_none : ((heads words ws bytes : List ℕ) (s : Layer) (m : Memory)
     ≡ indexed (seen (add_features heads words ws bytes s m).answer.values.layer (add_features heads words ws bytes s m).memory) x) → ⊥
 unfolding valid
 built_for_none h =
-    let e : ◌≡◌ {A = ℕ} 9 0 = ap (λ (x : Index). item 0 x.keys) (h [] [] [] [] (layer_of now Shut) (mem [] [] [] []) (idx (9 ∷ 9 ∷ []) [])) in omega arith
+    let e : ◌≡◌ {A = ℕ} 9 0 = ap (λ (x : Index). item 0 x.keys) (h [] [] [] [] (layer_of now None) (mem [] [] [] []) (idx (9 ∷ 9 ∷ []) [])) in omega arith

@@ -1,5 +1,5 @@
 -- Crates `utf8` and `layer`: texts that are not UTF-8 taken, texts that are refused, and UTF8 asked out of its turn.
-use Rattle.std.specs.Prelude.{ℕ, ◌≡◌, refl, true, false, cond, List, [], ◌∷◌, leb, length, replicate}
+use Rattle.std.specs.Prelude.{ℕ, ◌≡◌, refl, true, false, cond, List, [], ◌∷◌, leb, length, replicate, None}
 use Rattle.std.proofs.Common.{ap, arith}
 use Rattle.promise.specs.Answers.{kept}
 use Rattle.promise.specs.Laid.{lay}
@@ -9,7 +9,6 @@ use Rattle.table.specs.Texts.{short_text}
 use Rattle.utf8.specs.Utf8.{within, tail, is_utf8}
 use Rattle.words.specs.Geometries.{is_kind, max_words}
 use Rattle.layer.specs.declared.whole_feature.Head.{Head}
-use Rattle.layer.specs.declared.Open.TheVariants.{Shut}
 use Rattle.layer.specs.Held.{mem, Seen, seen, check, when_open, smaller, max_texts}
 use Rattle.layer.specs.State.{valid}
 use Rattle.layer.specs.Calls.{is_shut, Tag, tagged_once, add_tag, tag_string, tag_bits, new_layer, created, if_room}
@@ -73,7 +72,7 @@ key_taken h = let e : ◌≡◌ {A = ℕ} 22 12 = ap refusal_of (h (tag_bits 5 (
 -- STATE looks into the texts that a layer holds
 pub stored_texts_asked : ((v : Seen) → is_utf8 v.held.texts ≡ false → valid v ≡ false) → ⊥
 unfolding valid
-stored_texts_asked h = let e : ◌≡◌ {A = ℕ} 1 0 = ap bit (h (seen (layer_of (figures 0 0 1 0) Shut) (mem [] [] (0xDF ∷ []) [])) refl) in omega arith
+stored_texts_asked h = let e : ◌≡◌ {A = ℕ} 1 0 = ap bit (h (seen (layer_of (figures 0 0 1 0) None) (mem [] [] (0xDF ∷ []) [])) refl) in omega arith
 
 -- ---- Layer::new
 -- UTF8 is asked before TEXT

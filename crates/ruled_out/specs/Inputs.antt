@@ -1,22 +1,16 @@
 -- What the laws of this crate are proved at: small boxes, points, states, layers and tiles; and how two unlike answers are told apart, by one number of each.
-use Rattle.std.specs.Prelude.{ℕ, suc, Bool, false, cond, List, [], ◌∷◌, eqb, ℤ, pos, nat_abs, get_or}
+use Rattle.std.specs.Prelude.{ℕ, suc, Bool, false, cond, List, [], ◌∷◌, eqb, ℤ, pos, nat_abs, get_or, Option, Some, None}
 use Rattle.refusal.specs.Refusals.{number_of}
 use Rattle.clip.specs.declared.Pt.{Pt}
 use Rattle.clip.specs.declared.Seg.{Seg}
 use Rattle.clip.specs.declared.BBox.{BBox}
 use Rattle.clip.specs.declared.ClippedSeg.{ClippedSeg}
 use Rattle.clip.specs.Numbers.{box_at}
-use Rattle.encoder.specs.declared.points.MaybePt.{MaybePt}
-use Rattle.encoder.specs.declared.points.MaybePt.TheVariants.{Nowhere, At}
 use Rattle.encoder.specs.declared.tally.Tally.{Tally}
 use Rattle.encoder.specs.declared.GeomEncoder.{GeomEncoder}
 use Rattle.encoder.specs.Tallies.{untouched}
-use Rattle.table.specs.declared.Found.{Found}
-use Rattle.table.specs.declared.Found.TheVariants.{At as FoundAt, Nothing}
 use Rattle.table.specs.declared.Text.{Text}
 use Rattle.layer.specs.declared.Figures.{Figures}
-use Rattle.layer.specs.declared.Open.{Open}
-use Rattle.layer.specs.declared.Open.TheVariants.{Shut, Since}
 use Rattle.layer.specs.declared.Layer.{Layer}
 use Rattle.layer.specs.Held.{Memory, mem, Seen, seen, Change, refuses, holds}
 use Rattle.wire.specs.Reading.{VarintRead, good, cut, over}
@@ -55,9 +49,9 @@ first_used [] = 0
 first_used (s ∷ ss) = s.used
 
 -- whether a point is there
-abbrev pub is_there : MaybePt → ℕ
-is_there Nowhere = 0
-is_there (At p) = 1
+abbrev pub is_there : Option Pt → ℕ
+is_there None = 0
+is_there (Some p) = 1
 
 -- how many elements at the front of two lists are the same: of one list written over two unlike ones, those that were written
 abbrev pub alike : List ℕ → List ℕ → ℕ
@@ -89,9 +83,9 @@ read_bytes cut = 0
 read_bytes (over place) = 0
 
 -- 1 + the index that was found, or 0
-abbrev pub found_index : Found → ℕ
-found_index (FoundAt j) = suc j
-found_index Nothing = 0
+abbrev pub found_index : Option ℕ → ℕ
+found_index (Some j) = suc j
+found_index None = 0
 
 -- what a call makes of a layer: the refusal's number; else the figures, the used parts, and 1 + the features' figure at opening, or 0 where none is open
 abbrev pub figures : ℕ → ℕ → ℕ → ℕ → Figures
@@ -109,9 +103,9 @@ abbrev pub held_after : Change → Memory
 held_after (refuses r) = mem [] [] [] []
 held_after (holds t h) = h
 
-abbrev pub open_since : Open → ℕ
-open_since Shut = 0
-open_since (Since o) = suc o.features
+abbrev pub open_since : Option Figures → ℕ
+open_since None = 0
+open_since (Some o) = suc o.features
 
 abbrev pub open_after : Change → ℕ
 open_after (refuses r) = 0
@@ -142,16 +136,16 @@ abbrev pub flat : BBox
 flat = box_at (pos 0) (pos 0) (pos 0) (pos 10)
 
 -- ---- states of the encoder in the box 0..100: the raw end, the last point but one, the last point; the last command's place, the count, the words used
-abbrev pub state : ℕ → MaybePt → MaybePt → MaybePt → ℕ → ℕ → ℕ → GeomEncoder
+abbrev pub state : ℕ → Option Pt → Option Pt → Option Pt → ℕ → ℕ → ℕ → GeomEncoder
 state kind raw before last place count used =
     record { tally = untouched; kind = kind; bbox = hundred; xy_end = raw; pt0 = before; pt1 = last; cmd_offset = place; count = count; used = used }
 
-abbrev pub point : ℤ → ℤ → MaybePt
-point x y = At (record { x = x; y = y })
+abbrev pub point : ℤ → ℤ → Option Pt
+point x y = Some (record { x = x; y = y })
 
 -- one point, (5,7), of a geometry of that kind, and its second, (3,2)
 abbrev pub after_one : ℕ → GeomEncoder
-after_one kind = state kind (point (pos 5) (pos 7)) Nowhere (point (pos 5) (pos 7)) 0 1 3
+after_one kind = state kind (point (pos 5) (pos 7)) None (point (pos 5) (pos 7)) 0 1 3
 
 abbrev pub after_two : ℕ → GeomEncoder
 after_two kind = state kind (point (pos 3) (pos 2)) (point (pos 5) (pos 7)) (point (pos 3) (pos 2)) 3 2 6
@@ -180,7 +174,7 @@ lent =
     mem (1 ∷ 1 ∷ 0 ∷ 0 ∷ []) (1 ∷ 2 ∷ 1 ∷ 0 ∷ 0 ∷ 0 ∷ []) (97 ∷ 107 ∷ 118 ∷ 0 ∷ 0 ∷ 0 ∷ [])
     (1 ∷ 1 ∷ 7 ∷ 0 ∷ 2 ∷ 3 ∷ 9 ∷ 4 ∷ 4 ∷ 0 ∷ 0 ∷ 0 ∷ 0 ∷ 0 ∷ 0 ∷ 0 ∷ 0 ∷ 0 ∷ [])
 
-abbrev pub layer_of : Figures → Open → Layer
+abbrev pub layer_of : Figures → Option Figures → Layer
 layer_of used feature = record { extent = 4096; strict = false; name = 1; used = used; feature = feature }
 
 -- the figures when its feature was opened, and now
@@ -192,10 +186,10 @@ now = figures 1 1 3 11
 
 -- with the feature complete, with it open, and with a figure that is more than its list
 abbrev pub whole : Seen
-whole = seen (layer_of now Shut) lent
+whole = seen (layer_of now None) lent
 
 abbrev pub begun : Seen
-begun = seen (layer_of now (Since before)) lent
+begun = seen (layer_of now (Some before)) lent
 
 abbrev pub broken : Seen
-broken = seen (layer_of (figures 9 1 3 11) (Since before)) lent
+broken = seen (layer_of (figures 9 1 3 11) (Some before)) lent

@@ -1,5 +1,5 @@
 -- Crate `layer`: wrong rooms, wrong STATE, and wrong answers of the calls on a layer.
-use Rattle.std.specs.Prelude.{ℕ, ◌+◌, ◌/◌, ◌≡◌, false, cond, ◌&&◌, List, [], ◌∷◌, ◌++◌, leb, length, take, get_or, replicate}
+use Rattle.std.specs.Prelude.{ℕ, ◌+◌, ◌/◌, ◌≡◌, false, cond, ◌&&◌, List, [], ◌∷◌, ◌++◌, leb, length, take, get_or, replicate, Some, None}
 use Rattle.std.proofs.Common.{ap, arith}
 use Rattle.promise.specs.Laid.{lay}
 use Rattle.refusal.specs.declared.Refusal.TheVariants.{Kind, State, Room, Turn}
@@ -9,7 +9,6 @@ use Rattle.table.specs.Keys.{keys_in}
 use Rattle.table.specs.Values.{values_in}
 use Rattle.records.specs.Records.{follow, one_record}
 use Rattle.layer.specs.declared.Figures.{Figures}
-use Rattle.layer.specs.declared.Open.TheVariants.{Shut, Since}
 use Rattle.layer.specs.declared.Layer.{Layer}
 use Rattle.layer.specs.Held.{mem, Seen, seen, Change, holds, check, when_open, fits, room_of, held_by, smaller, max_values, max_texts}
 use Rattle.layer.specs.Answers.{Told, tells}
@@ -45,21 +44,21 @@ pub name_past : ((v : Seen) → valid v ≡ (fits v.layer.used v.room && (keys_i
     && (values_in v.layer.used.texts v.held.values && records_ok v.layer.feature v.layer.used v.held.features)))) → ⊥
 unfolding valid
 name_past h =
-    let e : ◌≡◌ {A = ℕ} 0 1 = ap bit (h (seen (record { extent = 4096; strict = false; name = 9; used = figures 0 0 3 0; feature = Shut }) lent)) in omega arith
+    let e : ◌≡◌ {A = ℕ} 0 1 = ap bit (h (seen (record { extent = 4096; strict = false; name = 9; used = figures 0 0 3 0; feature = None }) lent)) in omega arith
 
 -- the rule of opening figures left out
-pub opening_over : ((o used : Figures) (ws : List ℕ) → records_ok (Since o) used ws ≡ (follow (take o.features ws) && one_record ws o.features)) → ⊥
+pub opening_over : ((o used : Figures) (ws : List ℕ) → records_ok (Some o) used ws ≡ (follow (take o.features ws) && one_record ws o.features)) → ⊥
 opening_over h = let e : ◌≡◌ {A = ℕ} 0 1 = ap bit (h (figures 9 0 0 0) now (1 ∷ 0 ∷ 0 ∷ 0 ∷ 0 ∷ 0 ∷ [])) in omega arith
 
 -- the last record is looked for at the used end
 pub last_elsewhere : ((o used : Figures) (ws : List ℕ)
-    → records_ok (Since o) used ws ≡ (fits o used && (follow (take o.features ws) && one_record ws used.features))) → ⊥
+    → records_ok (Some o) used ws ≡ (fits o used && (follow (take o.features ws) && one_record ws used.features))) → ⊥
 last_elsewhere h = let e : ◌≡◌ {A = ℕ} 1 0 = ap bit (h before (figures 0 0 1 6) (1 ∷ 0 ∷ 0 ∷ 0 ∷ 0 ∷ 0 ∷ [])) in omega arith
 
 -- ---- Layer::new
 -- the name's bytes are not counted
 pub name_unused : ((name : List ℕ) (extent : ℕ)
-    → new_layer name extent ≡ record { extent = extent; strict = false; name = length name; used = figures 0 0 0 0; feature = Shut }) → ⊥
+    → new_layer name extent ≡ record { extent = extent; strict = false; name = length name; used = figures 0 0 0 0; feature = None }) → ⊥
 name_unused h = let e : ◌≡◌ {A = ℕ} 1 0 = ap (λ (s : Layer). s.used.texts) (h (97 ∷ []) 4096) in omega arith
 
 -- the name is not written
@@ -95,7 +94,7 @@ counts_turned h = let e : ◌≡◌ {A = ℕ} 0 1 = ap (item 4) (h 1 (15 ∷ [])
 -- the opening figures are those after opening
 pub opened_after : ((kind : ℕ) (words : List ℕ) (v : Seen) → opened kind words v
     ≡ check (leb (length words) max_words) Room (check (fits (more_words v.layer.used (6 + length words)) v.room) Room (holds
-    (with_used v.layer (more_words v.layer.used (6 + length words)) (Since (more_words v.layer.used (6 + length words))))
+    (with_used v.layer (more_words v.layer.used (6 + length words)) (Some (more_words v.layer.used (6 + length words))))
     (with_features v.held (v.held.features ++ new_record kind words))))) → ⊥
 opened_after h = let e : ◌≡◌ {A = ℕ} 12 18 = ap open_after (h 1 [] whole) in omega arith
 
@@ -105,7 +104,7 @@ pub id_unmarked : ((low high : ℕ) (v : Seen) (o : Figures)
     → marked low high v o ≡ holds v.layer (with_features v.held (lay (o.features + 2) (low ∷ high ∷ []) v.held.features))) → ⊥
 id_unmarked h =
     let e : ◌≡◌ {A = ℕ} 1 0 = ap (λ c. item 1 (held_after c).features)
-    (h 5 0 (seen (layer_of (figures 0 0 1 6) (Since before)) (mem [] [] (97 ∷ []) (2 ∷ 0 ∷ 0 ∷ 0 ∷ 0 ∷ 0 ∷ []))) before)
+    (h 5 0 (seen (layer_of (figures 0 0 1 6) (Some before)) (mem [] [] (97 ∷ []) (2 ∷ 0 ∷ 0 ∷ 0 ∷ 0 ∷ 0 ∷ []))) before)
     in omega arith
 
 -- the two halves of the id exchanged
@@ -119,8 +118,8 @@ pub id_elsewhere : ((low high : ℕ) (v : Seen) (o : Figures)
 id_elsewhere h = let e : ◌≡◌ {A = ℕ} 7 5 = ap (λ c. item 2 (held_after c).features) (h 7 5 begun before) in omega arith
 
 -- a feature call with none open is accepted
-pub no_turn : ((go : Figures → Change) → when_open Shut go ≡ go (figures 0 0 0 0)) → ⊥
-no_turn h = let e : ◌≡◌ {A = ℕ} 12 0 = ap refusal_of (h (λ o. holds (layer_of o Shut) lent)) in omega arith
+pub no_turn : ((go : Figures → Change) → when_open None go ≡ go (figures 0 0 0 0)) → ⊥
+no_turn h = let e : ◌≡◌ {A = ℕ} 12 0 = ap refusal_of (h (λ o. holds (layer_of o None) lent)) in omega arith
 
 -- ---- into_layer
 -- completing leaves the feature open
@@ -129,20 +128,20 @@ unfolding valid
 closed_open h = let e : ◌≡◌ {A = ℕ} 0 1 = ap open_after (h begun) in omega arith
 
 -- completing cuts the figures back
-pub closed_cut : ((v : Seen) → into_layer v ≡ check (valid v) State (when_open v.layer.feature (λ o. holds (with_used v.layer o Shut) v.held))) → ⊥
+pub closed_cut : ((v : Seen) → into_layer v ≡ check (valid v) State (when_open v.layer.feature (λ o. holds (with_used v.layer o None) v.held))) → ⊥
 unfolding valid
 closed_cut h = let e : ◌≡◌ {A = ℕ} 1 0 = ap (λ c. (used_after c).keys) (h begun) in omega arith
 
 -- ---- abandon
 -- abandoning keeps the keys
 pub keeps_keys : ((v : Seen) → abandoned v ≡ check (valid v) State (when_open v.layer.feature
-    (λ o. holds (with_used v.layer (figures v.layer.used.keys o.values o.texts o.features) Shut) (held_by o v.held)))) → ⊥
+    (λ o. holds (with_used v.layer (figures v.layer.used.keys o.values o.texts o.features) None) (held_by o v.held)))) → ⊥
 unfolding valid
 keeps_keys h = let e : ◌≡◌ {A = ℕ} 0 1 = ap (λ c. (used_after c).keys) (h begun) in omega arith
 
 -- abandoning keeps the texts
 pub keeps_texts : ((v : Seen) → abandoned v ≡ check (valid v) State (when_open v.layer.feature
-    (λ o. holds (with_used v.layer (figures o.keys o.values v.layer.used.texts o.features) Shut) (held_by o v.held)))) → ⊥
+    (λ o. holds (with_used v.layer (figures o.keys o.values v.layer.used.texts o.features) None) (held_by o v.held)))) → ⊥
 unfolding valid
 keeps_texts h = let e : ◌≡◌ {A = ℕ} 1 3 = ap (λ c. (used_after c).texts) (h begun) in omega arith
 
@@ -159,7 +158,7 @@ abandon_stays_open h = let e : ◌≡◌ {A = ℕ} 0 1 = ap open_after (h begun)
 
 -- ---- num_features, num_tags, name
 -- the open feature is counted
-pub open_counted : ((o used : Figures) → complete (Since o) used ≡ used.features) → ⊥
+pub open_counted : ((o used : Figures) → complete (Some o) used ≡ used.features) → ⊥
 open_counted h = let e : ◌≡◌ {A = ℕ} 0 11 = h before now in omega arith
 
 -- the words are counted, and not the features
@@ -168,7 +167,7 @@ unfolding valid
 words_counted h = let e : ◌≡◌ {A = ℕ} 1 11 = h whole in omega arith
 
 -- the geometry's words are told as tag words
-pub geometry_as_tags : ((o : Figures) (v : Seen) → tags_in (Since o) v ≡ tells (get_or v.held.features (o.features + 5) 0)) → ⊥
+pub geometry_as_tags : ((o : Figures) (v : Seen) → tags_in (Some o) v ≡ tells (get_or v.held.features (o.features + 5) 0)) → ⊥
 geometry_as_tags h = let e : ◌≡◌ {A = ℕ} 2 3 = ap (λ (a : Said (Told ℕ)). a.values.told) (h before begun) in omega arith
 
 -- with no feature open there are no tags

@@ -1,5 +1,5 @@
 -- Crate `encoder`: wrong points and commands.
-use Rattle.std.specs.Prelude.{ℕ, ◌≡◌, true, false, cond, ◌&&◌, ◌||◌, List, [], ◌∷◌, ◌++◌, leb, eqb, ℤ, pos, negsuc, length, replicate}
+use Rattle.std.specs.Prelude.{ℕ, ◌≡◌, true, false, cond, ◌&&◌, ◌||◌, List, [], ◌∷◌, ◌++◌, leb, eqb, ℤ, pos, negsuc, length, replicate, Option, Some, None}
 use Rattle.std.proofs.Common.{ap, arith}
 use Rattle.std.specs.Int.Signed.{lt_z, le_z}
 use Rattle.promise.specs.Laid.{lay}
@@ -9,8 +9,6 @@ use Rattle.clip.specs.declared.Pt.{Pt}
 use Rattle.clip.specs.declared.Seg.{Seg}
 use Rattle.clip.specs.declared.BBox.{BBox}
 use Rattle.clip.specs.Numbers.{seg_at, box_at}
-use Rattle.encoder.specs.declared.points.MaybePt.{MaybePt}
-use Rattle.encoder.specs.declared.points.MaybePt.TheVariants.{Nowhere, At}
 use Rattle.encoder.specs.Points.{clamp_to, clamped, same_pt, is_last, strictly, between, missing, out_before, last_between, last_of}
 use Rattle.encoder.specs.Boundary.{moved, moved_ends, outside}
 use Rattle.encoder.specs.Pushed.{move_to, line_to, command, count_word, close_word}
@@ -20,11 +18,11 @@ use Rattle.ruled_out.specs.Inputs.{bit, size, item, first_y, ten, point}
 
 -- ---- points
 -- the first step starts at (0, 1)
-pub start_elsewhere : last_of Nowhere ≡ record { x = pos 0; y = pos 1 } → ⊥
+pub start_elsewhere : last_of None ≡ record { x = pos 0; y = pos 1 } → ⊥
 start_elsewhere h = let e : ◌≡◌ {A = ℕ} 0 1 = ap (λ (p : Pt). size p.y) h in omega arith
 
 -- the first step starts at (1, 0)
-pub starts_at_one : last_of Nowhere ≡ record { x = pos 1; y = pos 0 } → ⊥
+pub starts_at_one : last_of None ≡ record { x = pos 1; y = pos 0 } → ⊥
 starts_at_one h = let e : ◌≡◌ {A = ℕ} 0 1 = ap (λ (p : Pt). size p.x) h in omega arith
 
 -- x is clamped to the bottom and the top
@@ -46,11 +44,11 @@ pub same_in_either : ((p q : Pt) → same_pt p q ≡ (eq_z p.x q.x || eq_z p.y q
 same_in_either h = let e : ◌≡◌ {A = ℕ} 0 1 = ap bit (h (point_at (pos 1) (pos 1)) (point_at (pos 2) (pos 1))) in omega arith
 
 -- the point before the first is the same as any
-pub nowhere_is_last : ((p : Pt) → is_last Nowhere p ≡ true) → ⊥
+pub nowhere_is_last : ((p : Pt) → is_last None p ≡ true) → ⊥
 nowhere_is_last h = let e : ◌≡◌ {A = ℕ} 0 1 = ap bit (h (point_at (pos 1) (pos 1))) in omega arith
 
 -- every point is the last
-pub equal_to_itself : ((q p : Pt) → is_last (At q) p ≡ same_pt p p) → ⊥
+pub equal_to_itself : ((q p : Pt) → is_last (Some q) p ≡ same_pt p p) → ⊥
 equal_to_itself h = let e : ◌≡◌ {A = ℕ} 0 1 = ap bit (h (point_at (pos 1) (pos 1)) (point_at (pos 2) (pos 2))) in omega arith
 
 -- a point that turns back on its line is taken out
@@ -62,12 +60,12 @@ pub taken_out_level : ((a m b : Pt) → between a m b ≡ (eq_z a.y m.y && eq_z 
 taken_out_level h = let e : ◌≡◌ {A = ℕ} 1 0 = ap bit (h (point_at (pos 0) (pos 0)) (point_at (pos 0) (pos 4)) (point_at (pos 0) (pos 9))) in omega arith
 
 -- a point is taken out at a count of 1
-pub taken_out_early : ((kind count : ℕ) (a m : MaybePt) (p : Pt) → out_before kind count a m p ≡ (eqb kind 3 && leb 1 count && last_between a m p)) → ⊥
+pub taken_out_early : ((kind count : ℕ) (a m : Option Pt) (p : Pt) → out_before kind count a m p ≡ (eqb kind 3 && leb 1 count && last_between a m p)) → ⊥
 taken_out_early h =
     let e : ◌≡◌ {A = ℕ} 0 1 = ap bit (h 3 1 (point (pos 0) (pos 0)) (point (pos 4) (pos 0)) (point_at (pos 9) (pos 0))) in omega arith
 
 -- a line's points are taken out too
-pub taken_out_of_lines : ((kind count : ℕ) (a m : MaybePt) (p : Pt) → out_before kind count a m p ≡ (leb 2 count && last_between a m p)) → ⊥
+pub taken_out_of_lines : ((kind count : ℕ) (a m : Option Pt) (p : Pt) → out_before kind count a m p ≡ (leb 2 count && last_between a m p)) → ⊥
 taken_out_of_lines h =
     let e : ◌≡◌ {A = ℕ} 0 1 = ap bit (h 2 2 (point (pos 0) (pos 0)) (point (pos 4) (pos 0)) (point_at (pos 9) (pos 0))) in omega arith
 
@@ -91,7 +89,7 @@ pub edge_outside : ((b : BBox) (p : Pt)
 edge_outside h = let e : ◌≡◌ {A = ℕ} 0 1 = ap bit (h ten (point_at (pos 0) (pos 5))) in omega arith
 
 -- no point is some point
-pub none_is_some : missing Nowhere ≡ false → ⊥
+pub none_is_some : missing None ≡ false → ⊥
 none_is_some h = let e : ◌≡◌ {A = ℕ} 1 0 = ap bit h in omega arith
 
 -- ---- commands

@@ -1,5 +1,5 @@
 -- Crates `encoder` (its stretches), `printed`, `script` and `tile_run`, on which the programs stand: wrong stretches, texts and operations.
-use Rattle.std.specs.Prelude.{ℕ, suc, ◌+◌, ◌/◌, ◌%◌, ◌≡◌, true, cond, ◌&&◌, List, [], ◌∷◌, ◌++◌, leb, ltb, eqb, ℤ, pos, length, take, get_or}
+use Rattle.std.specs.Prelude.{ℕ, suc, ◌+◌, ◌/◌, ◌%◌, ◌≡◌, true, cond, ◌&&◌, List, [], ◌∷◌, ◌++◌, leb, ltb, eqb, ℤ, pos, length, take, get_or, Some, None}
 use Rattle.std.proofs.Common.{ap, arith}
 use Rattle.promise.specs.Answers.{Written, kept}
 use Rattle.promise.specs.Laid.{lay}
@@ -14,15 +14,12 @@ use Rattle.encoder.specs.Stretches.{point_in, is_plain, halted, run}
 use Rattle.printed.specs.Decimal.{decimal_in, decimal}
 use Rattle.printed.specs.Printed.{words_head, column, refused_text, shown}
 use Rattle.printed.specs.Tiles.{hex_digit, ends_line}
-use Rattle.layer.specs.declared.Open.TheVariants.{Since}
 use Rattle.layer.specs.State.{valid}
 use Rattle.layer.specs.Calls.{Tag, into_layer, tag_bits, bits_of}
 use Rattle.script.specs.declared.Value.TheVariants.{Sint}
 use Rattle.script.specs.declared.Op.TheVariants.{Abandon}
 use Rattle.script.specs.Script.{pair_at}
-use Rattle.tile_run.specs.declared.hand.Hand.{Hand}
-use Rattle.tile_run.specs.declared.hand.Hand.TheVariants.{Nothing, Holds}
-use Rattle.tile_run.specs.Hands.{tag_of, on_hand}
+use Rattle.tile_run.specs.Hands.{Hand, tag_of, on_hand}
 use Rattle.tile.specs.Tiles.{fresh_tile, lists as tileLists}
 use Rattle.tile_run.specs.declared.performing.Work.{Work}
 use Rattle.tile_run.specs.Operations.{Lists, lists, on_layer, performed}
@@ -82,13 +79,13 @@ sint_as_int h = let e : ◌≡◌ {A = ℕ} 6 4 = ap (λ (t : Tag). t.value.kind
 
 -- the features' figure of the layer at hand
 abbrev at_hand : Hand → ℕ
-at_hand Nothing = 0
-at_hand (Holds s) = s.used.features
+at_hand None = 0
+at_hand (Some s) = s.used.features
 
 -- abandoning completes
 pub abandon_completes : ((bytes ns : List ℕ) (w : Work) (m : Lists) → performed bytes ns Abandon w m ≡ on_layer w m into_layer) → ⊥
 unfolding performed on_hand valid
 abandon_completes h =
     let e : ◌≡◌ {A = ℕ} 0 11 = ap (λ w. at_hand w.answer.values.hand)
-    (h [] [] (record { tile = fresh_tile 4096; hand = Holds (layer_of now (Since before)) }) (lists lent (tileLists [] [])))
+    (h [] [] (record { tile = fresh_tile 4096; hand = Some (layer_of now (Some before)) }) (lists lent (tileLists [] [])))
     in omega arith

@@ -1,5 +1,5 @@
 -- Crate `layer`: AGAIN by other rules, out of its turn, and the choice lost.
-use Rattle.std.specs.Prelude.{ℕ, ◌+◌, ◌*◌, ◌/◌, ◌≡◌, refl, Bool, true, false, cond, not, List, [], ◌∷◌, leb, eqb, length, get_or}
+use Rattle.std.specs.Prelude.{ℕ, ◌+◌, ◌*◌, ◌/◌, ◌≡◌, refl, Bool, true, false, cond, not, List, [], ◌∷◌, leb, eqb, length, get_or, Some, None}
 use Rattle.std.proofs.Common.{ap, arith}
 use Rattle.promise.specs.Answers.{Written}
 use Rattle.refusal.specs.declared.Refusal.TheVariants.{Job, Kind, State, Room, Text as TextRefusal, Utf8, Turn, Again}
@@ -11,7 +11,6 @@ use Rattle.records.specs.Records.{is_found}
 use Rattle.words.specs.Geometries.{is_kind, max_words}
 use Rattle.layer.specs.declared.Figures.{Figures}
 use Rattle.layer.specs.declared.Layer.{Layer}
-use Rattle.layer.specs.declared.Open.TheVariants.{Shut, Since}
 use Rattle.layer.specs.declared.whole_feature.Head.{Head}
 use Rattle.layer.specs.Held.{Memory, mem, Seen, seen, Change, refuses, holds, check, when_open, fits}
 use Rattle.layer.specs.State.{valid}
@@ -22,13 +21,13 @@ use Rattle.ruled_out.specs.Inputs.{bit, refusal_of, layer_of, lent, before, now}
 
 -- the layer of specs/Inputs, strict: complete, with its feature open, and open in lists that are full
 abbrev strict_whole : Seen
-strict_whole = seen (chosen true (layer_of now Shut)) lent
+strict_whole = seen (chosen true (layer_of now None)) lent
 
 abbrev strict_begun : Seen
-strict_begun = seen (chosen true (layer_of now (Since before))) lent
+strict_begun = seen (chosen true (layer_of now (Some before))) lent
 
 abbrev strict_full : Seen
-strict_full = seen (chosen true (layer_of now (Since before))) (mem (1 ∷ 1 ∷ []) (1 ∷ 2 ∷ 1 ∷ []) (97 ∷ 107 ∷ 118 ∷ []) (1 ∷ 1 ∷ 7 ∷ 0 ∷ 2 ∷ 3 ∷ 9 ∷ 4 ∷ 4 ∷ 0 ∷ 0 ∷ []))
+strict_full = seen (chosen true (layer_of now (Some before))) (mem (1 ∷ 1 ∷ []) (1 ∷ 2 ∷ 1 ∷ []) (97 ∷ 107 ∷ 118 ∷ []) (1 ∷ 1 ∷ 7 ∷ 0 ∷ 2 ∷ 3 ∷ 9 ∷ 4 ∷ 4 ∷ 0 ∷ 0 ∷ []))
 
 -- ---- what the feature has already
 -- by the index alone: of the keys a and a, the feature has the second
@@ -145,5 +144,5 @@ pub feature_room_before_again : ((f : Head) (words ws bytes : List ℕ) (v : See
 unfolding valid
 feature_room_before_again h =
     let e : ◌≡◌ {A = ℕ} 23 7 = h point [] (0 ∷ 1 ∷ 5 ∷ 1 ∷ 0 ∷ 0 ∷ 1 ∷ 5 ∷ 2 ∷ 0 ∷ []) (97 ∷ [])
-    (seen (chosen true (layer_of now Shut)) (mem (1 ∷ 1 ∷ []) (1 ∷ 2 ∷ 1 ∷ []) (97 ∷ 107 ∷ 118 ∷ []) (1 ∷ 1 ∷ 7 ∷ 0 ∷ 2 ∷ 3 ∷ 9 ∷ 4 ∷ 4 ∷ 0 ∷ 0 ∷ []))) refl
+    (seen (chosen true (layer_of now None)) (mem (1 ∷ 1 ∷ []) (1 ∷ 2 ∷ 1 ∷ []) (97 ∷ 107 ∷ 118 ∷ []) (1 ∷ 1 ∷ 7 ∷ 0 ∷ 2 ∷ 3 ∷ 9 ∷ 4 ∷ 4 ∷ 0 ∷ 0 ∷ []))) refl
     in omega arith

@@ -1,12 +1,11 @@
 -- Crates `affine`, `survey_job` and `job_file` (its survey file): wrong ways to the grid, wrong maps, wrong surveys.
-use Rattle.std.specs.Prelude.{ℕ, ◌+◌, ◌-◌, ◌*◌, ◌/◌, ◌≡◌, Bool, true, false, cond, List, [], ◌∷◌, ℤ, pos, neg_ℤ, Float, length}
+use Rattle.std.specs.Prelude.{ℕ, ◌+◌, ◌-◌, ◌*◌, ◌/◌, ◌≡◌, Bool, true, false, cond, List, [], ◌∷◌, ℤ, pos, neg_ℤ, Float, length, None}
 use Rattle.std.proofs.Common.{ap, arith}
 use Rattle.std.specs.Float.{nan, inf, fin, binary64}
 use Rattle.std.specs.Float.Ieee.{up, down, of_bits, add, mul, to_unsigned}
 use Rattle.std.specs.Float.Ieee.Nearest.{closest}
 use Rattle.whole.specs.Twos.{wide}
 use Rattle.clip.specs.Domain.{within, is_coord}
-use Rattle.encoder.specs.declared.points.MaybePt.TheVariants.{Nowhere}
 use Rattle.encoder.specs.declared.GeomEncoder.{GeomEncoder}
 use Rattle.encoder.specs.States.{valid}
 use Rattle.encoder.specs.Adding.{added}
@@ -61,7 +60,7 @@ nan_accepted h = let e : ◌≡◌ {A = ℕ} 5 0 = h (record { a = one; b = naug
 pub coord_first : ((s : GeomEncoder) (t : Affine) (x y : Float) (out : List ℕ)
     → (added s (surveyed t x y) out).answer.number ≡ cond (is_coord (surveyed t x y)) (added s (surveyed t x y) out).answer.number 5) → ⊥
 unfolding added valid is_coord grid_of whole_of of_bits add mul
-coord_first h = let e : ◌≡◌ {A = ℕ} 4 5 = h (state 1 Nowhere Nowhere Nowhere 0 0 9) (record { a = one; b = naught; c = naught; d = naught; e = one; f = naught }) nan one [] in omega arith
+coord_first h = let e : ◌≡◌ {A = ℕ} 4 5 = h (state 1 None None None 0 0 9) (record { a = one; b = naught; c = naught; d = naught; e = one; f = naught }) nan one [] in omega arith
 
 -- ---- the map
 -- the sum from the right: 1 added to -1e16 is lost

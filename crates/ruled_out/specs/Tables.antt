@@ -1,11 +1,9 @@
 -- Crates `runs`, `table`, `records`, `index`, and the look-ups of `layer`: wrong runs, look-ups, entries, records and indexes.
-use Rattle.std.specs.Prelude.{ℕ, suc, ◌+◌, ◌*◌, ◌/◌, ◌%◌, ◌≡◌, Bool, true, false, cond, ◌&&◌, List, [], ◌∷◌, ◌++◌, leb, ltb, eqb, length, drop, get_or, set, replicate}
+use Rattle.std.specs.Prelude.{ℕ, suc, ◌+◌, ◌*◌, ◌/◌, ◌%◌, ◌≡◌, Bool, true, false, cond, ◌&&◌, List, [], ◌∷◌, ◌++◌, leb, ltb, eqb, length, drop, get_or, set, replicate, Option, Some, None}
 use Rattle.std.proofs.Common.{ap, arith}
 use Rattle.promise.specs.Laid.{lay}
 use Rattle.words.specs.Geometries.{is_kind}
 use Rattle.runs.specs.Fitting.{laid_in}
-use Rattle.table.specs.declared.Found.{Found}
-use Rattle.table.specs.declared.Found.TheVariants.{At, Nothing}
 use Rattle.table.specs.declared.Value.{Value}
 use Rattle.table.specs.Texts.{max_bytes, short_text, inside, begins, same_text}
 use Rattle.table.specs.Keys.{find_key, keys_in}
@@ -22,7 +20,7 @@ use Rattle.layer.specs.Steps.{laid_tag}
 use Rattle.layer.specs.Lookup.{key_by, pushed_new}
 use Rattle.ruled_out.specs.Inputs.{bit, item, found_index, figures, before}
 
--- ---- runs: lay_words, lay_bytes
+-- ---- runs: lay
 -- a run goes to the front
 pub laid_in_front : ((at : ℕ) (run l : List ℕ) → laid_in at run l ≡ cond (leb (at + length run) (length l)) (lay 0 run l) l) → ⊥
 laid_in_front h = let e : ◌≡◌ {A = ℕ} 0 7 = ap (item 0) (h 1 (7 ∷ []) (0 ∷ 0 ∷ [])) in omega arith
@@ -56,28 +54,28 @@ text_past h = let e : ◌≡◌ {A = ℕ} 0 1 = ap bit (h 3 3 1) in omega arith
 -- ---- table: key_pos
 -- a key's index is one more
 pub key_off : ((j start len : ℕ) (keys texts key : List ℕ)
-    → find_key j (start ∷ len ∷ keys) texts key ≡ cond (same_text texts start len key) (At (suc j)) (find_key (suc j) keys texts key)) → ⊥
+    → find_key j (start ∷ len ∷ keys) texts key ≡ cond (same_text texts start len key) (Some (suc j)) (find_key (suc j) keys texts key)) → ⊥
 key_off h = let e : ◌≡◌ {A = ℕ} 1 2 = ap found_index (h 0 0 1 [] (97 ∷ []) (97 ∷ [])) in omega arith
 
 -- the first of two that is there
-abbrev or_else : Found → Found → Found
-or_else (At j) f = At j
-or_else Nothing f = f
+abbrev or_else : Option ℕ → Option ℕ → Option ℕ
+or_else (Some j) f = Some j
+or_else None f = f
 
 -- of equal keys the last is found
 pub last_key_found : ((j start len : ℕ) (keys texts key : List ℕ) → find_key j (start ∷ len ∷ keys) texts key
-    ≡ or_else (find_key (suc j) keys texts key) (cond (same_text texts start len key) (At j) Nothing)) → ⊥
+    ≡ or_else (find_key (suc j) keys texts key) (cond (same_text texts start len key) (Some j) None)) → ⊥
 last_key_found h = let e : ◌≡◌ {A = ℕ} 1 2 = ap found_index (h 0 0 1 (0 ∷ 1 ∷ []) (97 ∷ []) (97 ∷ [])) in omega arith
 
 -- ---- table: val_pos
 -- a value's index is one more
 pub value_off : ((j kind low high : ℕ) (values texts : List ℕ) (v : Value) (text : List ℕ) → find_value j (kind ∷ low ∷ high ∷ values) texts v text
-    ≡ cond (same_value texts kind low high v text) (At (suc j)) (find_value (suc j) values texts v text)) → ⊥
+    ≡ cond (same_value texts kind low high v text) (Some (suc j)) (find_value (suc j) values texts v text)) → ⊥
 value_off h = let e : ◌≡◌ {A = ℕ} 1 2 = ap found_index (h 0 5 1 0 [] [] (record { kind = 5; low = 1; high = 0 }) []) in omega arith
 
 -- of equal values the last is found
 pub last_value_found : ((j kind low high : ℕ) (values texts : List ℕ) (v : Value) (text : List ℕ) → find_value j (kind ∷ low ∷ high ∷ values) texts v text
-    ≡ or_else (find_value (suc j) values texts v text) (cond (same_value texts kind low high v text) (At j) Nothing)) → ⊥
+    ≡ or_else (find_value (suc j) values texts v text) (cond (same_value texts kind low high v text) (Some j) None)) → ⊥
 last_value_found h = let e : ◌≡◌ {A = ℕ} 1 2 = ap found_index (h 0 5 1 0 (5 ∷ 1 ∷ 0 ∷ []) [] (record { kind = 5; low = 1; high = 0 }) []) in omega arith
 
 -- 0.0 and -0.0 are kept apart
@@ -126,15 +124,15 @@ mark_two h = let e : ◌≡◌ {A = ℕ} 0 1 = ap bit (h 1 2) in omega arith
 
 -- a record of seven words before its geometry
 pub seven_words : ((kind mark low high tags geometry : ℕ) (ws : List ℕ) → record_length (kind ∷ mark ∷ low ∷ high ∷ tags ∷ geometry ∷ ws)
-    ≡ cond (head_ok kind mark) (cond (leb (tags + geometry) (length ws)) (At (7 + tags + geometry)) Nothing) Nothing) → ⊥
+    ≡ cond (head_ok kind mark) (cond (leb (tags + geometry) (length ws)) (Some (7 + tags + geometry)) None) None) → ⊥
 seven_words h = let e : ◌≡◌ {A = ℕ} 7 8 = ap found_index (h 1 0 0 0 0 0 []) in omega arith
 
 -- the records need not follow each other to the end
-pub not_to_the_end : ((n left : ℕ) → records_in n (suc left) [] ≡ At n) → ⊥
+pub not_to_the_end : ((n left : ℕ) → records_in n (suc left) [] ≡ Some n) → ⊥
 not_to_the_end h = let e : ◌≡◌ {A = ℕ} 0 1 = ap found_index (h 0 0) in omega arith
 
 -- any record is the last
-pub any_record_last : ((end e : ℕ) → ends_at end (At e) ≡ true) → ⊥
+pub any_record_last : ((end e : ℕ) → ends_at end (Some e) ≡ true) → ⊥
 any_record_last h = let e : ◌≡◌ {A = ℕ} 0 1 = ap bit (h 1 0) in omega arith
 
 -- ---- index
@@ -192,16 +190,16 @@ zeros_apart h = let e : ◌≡◌ {A = ℕ} 3797 84263856803541 = h 3 0 21474836
 -- ---- layer: looking up, and what is laid
 -- where no index serves a key is never found
 pub scan_left_out : ((l : List ℕ) (room : ℕ) (ks ts key : List ℕ) (k : ℕ)
-    → key_by l room ks ts key k ≡ cond (serves (length l) room) (walked_key l ks ts key k) Nothing) → ⊥
+    → key_by l room ks ts key k ≡ cond (serves (length l) room) (walked_key l ks ts key k) None) → ⊥
 scan_left_out h = let e : ◌≡◌ {A = ℕ} 1 0 = ap found_index (h [] 1 (0 ∷ 1 ∷ []) (97 ∷ []) (97 ∷ []) 0) in omega arith
 
 -- a value that was found is pushed once more
-pub found_noted : ((j n k : ℕ) (l : List ℕ) → pushed_new (At j) l n k ≡ pushed l n k) → ⊥
+pub found_noted : ((j n k : ℕ) (l : List ℕ) → pushed_new (Some j) l n k ≡ pushed l n k) → ⊥
 found_noted h = let e : ◌≡◌ {A = ℕ} 0 1 = ap (item 0) (h 0 0 0 (0 ∷ 0 ∷ [])) in omega arith
 
 -- a value's text goes before its key's
-pub value_first : ((u o : Figures) (kf vf : Found) (t : Tag) (m : Memory)
+pub value_first : ((u o : Figures) (kf vf : Option ℕ) (t : Tag) (m : Memory)
     → (laid_tag u o kf vf t m).texts ≡ lay u.texts (put_of vf t.text ++ put_of kf t.key) m.texts) → ⊥
 value_first h =
-    let e : ◌≡◌ {A = ℕ} 98 99 = ap (item 0) (h (figures 0 0 0 0) before Nothing Nothing (tag_string (98 ∷ []) (99 ∷ [])) (mem [] [] (0 ∷ 0 ∷ []) []))
+    let e : ◌≡◌ {A = ℕ} 98 99 = ap (item 0) (h (figures 0 0 0 0) before None None (tag_string (98 ∷ []) (99 ∷ [])) (mem [] [] (0 ∷ 0 ∷ []) []))
     in omega arith

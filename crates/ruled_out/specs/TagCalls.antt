@@ -1,17 +1,14 @@
 -- Crate `layer`: wrong answers of the calls that put a tag.
-use Rattle.std.specs.Prelude.{ℕ, suc, ◌+◌, ◌*◌, ◌/◌, ◌%◌, ◌≡◌, Bool, true, cond, List, [], ◌∷◌, ◌++◌, ℤ, pos, negsuc, nat_abs, length, get_or, set, replicate}
+use Rattle.std.specs.Prelude.{ℕ, suc, ◌+◌, ◌*◌, ◌/◌, ◌%◌, ◌≡◌, Bool, true, cond, List, [], ◌∷◌, ◌++◌, ℤ, pos, negsuc, nat_abs, length, get_or, set, replicate, Option, Some, None}
 use Rattle.std.proofs.Common.{ap, arith}
 use Rattle.refusal.specs.declared.Refusal.TheVariants.{State, Text as TextRefusal, Utf8}
 use Rattle.words.specs.Params.{param}
-use Rattle.table.specs.declared.Found.{Found}
-use Rattle.table.specs.declared.Found.TheVariants.{At, Nothing}
 use Rattle.table.specs.declared.Value.{Value}
 use Rattle.table.specs.Texts.{short_text}
 use Rattle.utf8.specs.Utf8.{is_utf8}
 use Rattle.table.specs.Keys.{find_key}
 use Rattle.table.specs.Values.{find_value}
 use Rattle.layer.specs.declared.Figures.{Figures}
-use Rattle.layer.specs.declared.Open.TheVariants.{Since}
 use Rattle.layer.specs.declared.Layer.{Layer}
 use Rattle.layer.specs.Held.{Memory, mem, Seen, seen, check, when_open, held_by, onto, written}
 use Rattle.layer.specs.State.{valid}
@@ -30,36 +27,36 @@ pub one_counted : ((at k v : ℕ) (ws : List ℕ) → with_tag at k v ws ≡ set
 one_counted h = let e : ◌≡◌ {A = ℕ} 2 1 = ap (item 4) (h 0 0 0 (1 ∷ 0 ∷ 0 ∷ 0 ∷ 0 ∷ 0 ∷ [])) in omega arith
 
 -- a new entry has the next index but one
-pub index_off : ((next : ℕ) → index_of Nothing next ≡ suc next) → ⊥
+pub index_off : ((next : ℕ) → index_of None next ≡ suc next) → ⊥
 index_off h = let e : ◌≡◌ {A = ℕ} 0 1 = h 0 in omega arith
 
 -- an entry that was found has the next index
-pub last_index : ((j next : ℕ) → index_of (At j) next ≡ next) → ⊥
+pub last_index : ((j next : ℕ) → index_of (Some j) next ≡ next) → ⊥
 last_index h = let e : ◌≡◌ {A = ℕ} 0 1 = h 0 1 in omega arith
 
 -- a new key goes first
-pub key_first : ((u o : Figures) (m : Memory) (t : Tag) (kf vf : Found)
+pub key_first : ((u o : Figures) (m : Memory) (t : Tag) (kf vf : Option ℕ)
     → (held_with u o m t kf vf).keys ≡ put_of kf (key_words u.texts t.key) ++ m.keys) → ⊥
-key_first h = let e : ◌≡◌ {A = ℕ} 1 3 = ap (item 0) (h now before (mem (1 ∷ 1 ∷ []) [] [] []) (tag_string (98 ∷ []) []) Nothing Nothing) in omega arith
+key_first h = let e : ◌≡◌ {A = ℕ} 1 3 = ap (item 0) (h now before (mem (1 ∷ 1 ∷ []) [] [] []) (tag_string (98 ∷ []) []) None None) in omega arith
 
 -- the value's text before the key's
-pub value_text_first : ((u o : Figures) (m : Memory) (t : Tag) (kf vf : Found)
+pub value_text_first : ((u o : Figures) (m : Memory) (t : Tag) (kf vf : Option ℕ)
     → (held_with u o m t kf vf).texts ≡ m.texts ++ (put_of vf t.text ++ put_of kf t.key)) → ⊥
-value_text_first h = let e : ◌≡◌ {A = ℕ} 98 99 = ap (item 0) (h now before (mem [] [] [] []) (tag_string (98 ∷ []) (99 ∷ [])) Nothing Nothing) in omega arith
+value_text_first h = let e : ◌≡◌ {A = ℕ} 98 99 = ap (item 0) (h now before (mem [] [] [] []) (tag_string (98 ∷ []) (99 ∷ [])) None None) in omega arith
 
 -- the value's text is said to start where the key's does
-pub value_text_misplaced : ((u o : Figures) (m : Memory) (t : Tag) (kf vf : Found)
+pub value_text_misplaced : ((u o : Figures) (m : Memory) (t : Tag) (kf vf : Option ℕ)
     → (held_with u o m t kf vf).values ≡ m.values ++ put_of vf (value_words u.texts t.value t.text)) → ⊥
-value_text_misplaced h = let e : ◌≡◌ {A = ℕ} 4 3 = ap (item 1) (h now before (mem [] [] [] []) (tag_string (98 ∷ []) (99 ∷ [])) Nothing Nothing) in omega arith
+value_text_misplaced h = let e : ◌≡◌ {A = ℕ} 4 3 = ap (item 1) (h now before (mem [] [] [] []) (tag_string (98 ∷ []) (99 ∷ [])) None None) in omega arith
 
 -- an equal key is stored again
 pub key_not_shared : ((t : Tag) (v : Seen) (o : Figures)
-    → tagged t v o ≡ tagged_by t v o Nothing (find_value 0 v.held.values v.held.texts t.value t.text)) → ⊥
+    → tagged t v o ≡ tagged_by t v o None (find_value 0 v.held.values v.held.texts t.value t.text)) → ⊥
 key_not_shared h = let e : ◌≡◌ {A = ℕ} 1 2 = ap (λ c. (used_after c).keys) (h (tag_bits 5 (107 ∷ []) 5) begun before) in omega arith
 
 -- an equal value is stored again
 pub value_not_shared : ((t : Tag) (v : Seen) (o : Figures)
-    → tagged t v o ≡ tagged_by t v o (find_key 0 v.held.keys v.held.texts t.key) Nothing) → ⊥
+    → tagged t v o ≡ tagged_by t v o (find_key 0 v.held.keys v.held.texts t.key) None) → ⊥
 value_not_shared h = let e : ◌≡◌ {A = ℕ} 1 2 = ap (λ c. (used_after c).values) (h (tag_string (107 ∷ []) (118 ∷ [])) begun before) in omega arith
 
 -- ---- the tag calls: their checks
@@ -78,9 +75,9 @@ long_value_taken h = let e : ◌≡◌ {A = ℕ} 11 12 = ap refusal_of (h (tag_s
 
 -- a refused tag has put its key
 pub refused_tag_writes : ((t : Tag) (s : Layer) (m : Memory) (o : Figures) → (written (tagged t (seen s m) o) s m).memory.keys
-    ≡ (onto (held_with s.used o (held_by s.used m) t Nothing Nothing) m).keys) → ⊥
+    ≡ (onto (held_with s.used o (held_by s.used m) t None None) m).keys) → ⊥
 refused_tag_writes h =
-    let e : ◌≡◌ {A = ℕ} 0 1 = ap (item 1) (h (tag_bits 5 (98 ∷ []) 5) (layer_of (figures 0 0 1 6) (Since before))
+    let e : ◌≡◌ {A = ℕ} 0 1 = ap (item 1) (h (tag_bits 5 (98 ∷ []) 5) (layer_of (figures 0 0 1 6) (Some before))
     (mem (0 ∷ 0 ∷ []) [] (97 ∷ 0 ∷ []) (1 ∷ 0 ∷ 0 ∷ 0 ∷ 0 ∷ 0 ∷ [])) before)
     in omega arith
 

@@ -1,5 +1,5 @@
 -- Crate `tile`: wrong bytes of a layer, and wrong answers of a tile's calls.
-use Rattle.std.specs.Prelude.{ℕ, ◌+◌, ◌*◌, ◌≡◌, false, cond, not, ◌&&◌, List, [], ◌∷◌, ◌++◌, leb, eqb, length, replicate}
+use Rattle.std.specs.Prelude.{ℕ, ◌+◌, ◌*◌, ◌≡◌, false, cond, not, ◌&&◌, List, [], ◌∷◌, ◌++◌, leb, eqb, length, replicate, None}
 use Rattle.std.proofs.Common.{ap, arith}
 use Rattle.promise.specs.Answers.{Written, kept}
 use Rattle.promise.specs.Laid.{lay}
@@ -9,7 +9,6 @@ use Rattle.refusal.specs.Said.{Said, accepted, refused}
 use Rattle.table.specs.Keys.{find_key, keys_in}
 use Rattle.records.specs.Records.{is_found}
 use Rattle.layer.specs.declared.Layer.{Layer}
-use Rattle.layer.specs.declared.Open.TheVariants.{Shut}
 use Rattle.layer.specs.Held.{Memory, mem, Seen, seen}
 use Rattle.layer.specs.State.{valid}
 use Rattle.layer.specs.Calls.{is_shut, new_layer, created}
@@ -56,14 +55,14 @@ pub features_before_name : ((s : Layer) (m : Memory) → layer_bytes s m ≡ fea
     ++ (key_fields m.texts m.keys ++ (value_fields m.texts m.values
     ++ (varint_field LayerExtent s.extent ++ varint_field LayerVersion version))))) → ⊥
 unfolding layer_bytes record_message feature_message value_message text_field delimited varint_field head varint
-features_before_name h = let e : ◌≡◌ {A = ℕ} 10 18 = ap (item 0) (h (layer_of now Shut) whole.held) in omega arith
+features_before_name h = let e : ◌≡◌ {A = ℕ} 10 18 = ap (item 0) (h (layer_of now None) whole.held) in omega arith
 
 -- the values before the keys
 pub values_before_keys : ((s : Layer) (m : Memory) → layer_bytes s m ≡ text_field LayerName m.texts 0 s.name ++ (feature_fields 0 m.features
     ++ (value_fields m.texts m.values ++ (key_fields m.texts m.keys
     ++ (varint_field LayerExtent s.extent ++ varint_field LayerVersion version))))) → ⊥
 unfolding layer_bytes record_message feature_message value_message text_field delimited varint_field head varint
-values_before_keys h = let e : ◌≡◌ {A = ℕ} 26 34 = ap (item 18) (h (layer_of now Shut) whole.held) in omega arith
+values_before_keys h = let e : ◌≡◌ {A = ℕ} 26 34 = ap (item 18) (h (layer_of now None) whole.held) in omega arith
 
 -- ---- the layer as a field of the tile
 -- without its length

@@ -18,11 +18,7 @@ use Rattle.messages.specs.declared.key.Body.{Body}
 use Rattle.messages.specs.declared.key.Body.TheVariants.{Any as any, Varints as varints, Within as within}
 use Rattle.messages.specs.declared.key.Follows.{Follows}
 use Rattle.messages.specs.declared.key.Follows.TheVariants.{Wrong as wrong, AVarint as aVarint, Bytes as bytes, ABody as aBody}
-use Rattle.messages.specs.declared.numbers.VarintAt.{VarintAt}
-use Rattle.messages.specs.declared.numbers.VarintAt.TheVariants.{Is as number, Faulty as noNumber}
 use Rattle.messages.specs.declared.field.FieldAt.{FieldAt}
-use Rattle.messages.specs.declared.field.NextField.{NextField}
-use Rattle.messages.specs.declared.field.NextField.TheVariants.{Is as is, Faulty as faulty}
 use Rattle.messages.specs.Keys.{follows}
 use Rattle.messages.specs.Fields.{varint_at, from_little, field_from, numbered, fixed, bodied, content, keyed, field_at, before, and_then, fields_from}
 use Rattle.messages.specs.Tiles.{is_body, is_content, holds, all_hold, if_read, is_message, nested, is_good}
@@ -31,6 +27,8 @@ use Rattle.scan.specs.Grammar.{Within, IsBody, Content, Message, Level}
 use Rattle.scan.proofs.Moves.{KeyThen}
 use Rattle.scan.proofs.Firsts.{FieldFirst, message_first}
 use Rattle.scan.proofs.Standing.{drop_take, from_end, Next, varint_next, numbers_are}
+use Rattle.std.specs.Prelude.{Some, None}
+use Rattle.messages.specs.Fields.{VarintAt, NextField}
 
 -- P, asked of the bytes from a place to their end, is Q of those bytes
 abbrev pub Agree : (Kind → ℕ → List ℕ → Bool) → (Kind → List ℕ → Type 0) → Type 0
@@ -52,13 +50,13 @@ module _ (P : Kind → ℕ → List ℕ → Bool) (Q : Kind → List ℕ → Typ
   module _ (kind : Kind) (src : List ℕ) where
     -- ---- what follows a key: the field that is read holds, and behind it is a message
     abbrev Met : NextField → Type 0
-    Met (is f) = (holds P kind src f ≡ true) × Message Q kind (drop f.end src)
-    Met faulty = ⊥
+    Met (Some f) = (holds P kind src f ≡ true) × Message Q kind (drop f.end src)
+    Met None = ⊥
 
     -- so many bytes from a place on, which hold what they must where they are an A
     module _ (key value start n : ℕ) (A : List ℕ → Type 0) where
       abbrev Part : Bool → Type 0
-      Part b = Met (cond b (is (field_from key value start (start + n))) faulty) ↔ Within n (drop start src) A (Message Q kind)
+      Part b = Met (cond b (Some (field_from key value start (start + n))) None) ↔ Within n (drop start src) A (Message Q kind)
 
       part_met : start ≤ length src
           → (start + n ≤ length src → (is_content P (follows kind key) start (take (start + n) src) ≡ true) ↔ A (take n (drop start src)))
@@ -76,16 +74,16 @@ module _ (P : Kind → ℕ → List ℕ → Bool) (Q : Kind → List ℕ → Typ
 
     module _ (key start : ℕ) (h : start ≤ length src) where
       number_met : follows kind key ≡ aVarint → (r : VarintAt) → Met (numbered key start r) ↔ Next r src (λ n x. Message Q kind x)
-      number_met e (number n next) = (λ m. m.1, λ m. (rw e refl, m))
-      number_met e noNumber = (λ m. m, λ m. m)
+      number_met e (Some (n, next)) = (λ m. m.1, λ m. (rw e refl, m))
+      number_met e None = (λ m. m, λ m. m)
 
       bytes_met : (n : ℕ) → follows kind key ≡ bytes n → Met (fixed key n start src) ↔ Within n (drop start src) (λ m. Unit {0}) (Message Q kind)
       bytes_met n e = part_met key (from_little (take n (drop start src))) start n (λ m. Unit {0}) h (λ l. (λ t. tt, λ t. rw e refl))
 
       body_met : (body : Body) → follows kind key ≡ aBody body → (r : VarintAt) → varint_at start src ≡ r
           → Met (bodied key src r) ↔ Next r src (λ n x. Within n x (IsBody Q body) (Message Q kind))
-      body_met body e (number n begun) v = part_met key 0 begun n (IsBody Q body) (varint_ends v).inside (λ l. rw e (body_is body begun n src l))
-      body_met body e noNumber v = (λ m. m, λ m. m)
+      body_met body e (Some (n, begun)) v = part_met key 0 begun n (IsBody Q body) (varint_ends v).inside (λ l. rw e (body_is body begun n src l))
+      body_met body e None v = (λ m. m, λ m. m)
 
       content_met : (c : Follows) → follows kind key ≡ c → Met (content key start src c) ↔ Content Q c (drop start src) (Message Q kind)
       unfolding content
@@ -97,8 +95,8 @@ module _ (P : Kind → ℕ → List ℕ → Bool) (Q : Kind → List ℕ → Typ
 
     -- ---- a field
     keyed_met : (at : ℕ) (r : VarintAt) → varint_at at src ≡ r → Met (keyed kind src r) ↔ Next r src (KeyThen Q kind)
-    keyed_met at (number key start) v = content_met key start (varint_ends v).inside (follows kind key) refl
-    keyed_met at noNumber v = (λ m. m, λ m. m)
+    keyed_met at (Some (key, start)) v = content_met key start (varint_ends v).inside (follows kind key) refl
+    keyed_met at None v = (λ m. m, λ m. m)
 
     field_met : (at : ℕ) → Met (field_at kind at src) ↔ FieldFirst Q kind (drop at src)
     unfolding field_at
@@ -122,12 +120,12 @@ module _ (P : Kind → ℕ → List ℕ → Bool) (Q : Kind → List ℕ → Typ
 
     module _ (at : ℕ) (h : at < length src) (go : (next : ℕ) → at < next → next ≤ length src → Are next) where
       one_read : (r : NextField) → field_at kind at src ≡ r → (if_read P kind src (and_then r (λ f. fields_from kind f.end src)) ≡ true) ↔ Met r
-      one_read (is f) e =
+      one_read (Some f) e =
           let v = field_ends kind e in
           let i = go f.end v.later v.inside in
           let b = before_is f (fields_from kind f.end src) in
           (λ t. let p = b.0 t in (p.0, i.0 p.1), λ m. b.1 (m.0, i.1 m.1))
-      one_read faulty e = (λ t. false≢true t, λ t. absurd t)
+      one_read None e = (λ t. false≢true t, λ t. absurd t)
 
       one_left : Are at
       one_left =

@@ -12,13 +12,13 @@ use lib.Dec.{ltb}
 use lib.ListN.{length, take, drop, length-drop}
 use lib.Seq.{drop-drop, drop-length, take-nil}
 use Rattle.wire.specs.Reading.{VarintRead, good, cut, over, read_varint}
-use Rattle.messages.specs.declared.numbers.VarintAt.{VarintAt}
-use Rattle.messages.specs.declared.numbers.VarintAt.TheVariants.{Is as number, Faulty as noNumber}
 use Rattle.messages.specs.Fields.{placed, varint_at, number_before, number_then, numbers_from}
 use Rattle.messages.specs.Tiles.{is_read}
 use Rattle.messages.proofs.Fields.{varint_ends, numbers_step, numbers_end}
 use Rattle.scan.specs.Grammar.{Then, Varint, Varints}
 use Rattle.scan.proofs.Firsts.{varints_first}
+use Rattle.std.specs.Prelude.{Some, None}
+use Rattle.messages.specs.Fields.{VarintAt}
 
 -- ---- a body's bytes, cut at its end and taken from its start
 pub drop_take : (start n : ℕ) (l : List ℕ) → drop start (take (start + n) l) ≡ take n (drop start l)
@@ -41,8 +41,8 @@ module _ (end : ℕ) (A : ℕ → Type 0) (last : A end) (step : (at : ℕ) → 
 
 -- ---- a varint
 abbrev pub Next : VarintAt → List ℕ → (ℕ → List ℕ → Type 0) → Type 0
-Next (number n next) src K = K n (drop next src)
-Next noNumber src K = ⊥
+Next (Some (n, next)) src K = K n (drop next src)
+Next None src K = ⊥
 
 placed_next : (r : VarintRead) (at : ℕ) (src : List ℕ) (K : ℕ → List ℕ → Type 0) → Then r (drop at src) K ↔ Next (placed at r) src K
 placed_next (good n k) at src K = let e = drop-drop k at src in (λ t. subst (K n) e t, λ t. subst (K n) (sym e) t)
@@ -67,12 +67,12 @@ module _ (src : List ℕ) where
 
   module _ (at : ℕ) (h : at < length src) (go : (next : ℕ) → at < next → next ≤ length src → Are next) where
     one_read : (r : VarintAt) → varint_at at src ≡ r → (is_read (number_then r (λ next. numbers_from next src)) ≡ true) ↔ Next r src (λ n x. Varints x)
-    one_read (number n next) e =
+    one_read (Some (n, next)) e =
         let v = varint_ends e in
         let i = go next v.later v.inside in
         let b = before_read n (numbers_from next src) in
         (λ t. i.0 (sym b ∙ t), λ t. b ∙ i.1 t)
-    one_read noNumber e = (λ t. false≢true t, λ t. absurd t)
+    one_read None e = (λ t. false≢true t, λ t. absurd t)
 
     one_left : Are at
     one_left =

@@ -1,6 +1,6 @@
 -- Which states some bytes finish, in closed form: the innermost message must have room for what is needed at least, and one byte more than that only where
 -- a varint can be written one byte longer.
-use Rattle.std.specs.Prelude.{ℕ, suc, ◌+◌, ◌-◌, ◌%◌, ◌≤◌, ◌<◌, Bool, true, false, cond, not, ◌&&◌, ◌||◌, ltb, leb, eqb}
+use Rattle.std.specs.Prelude.{ℕ, suc, ◌+◌, ◌%◌, ◌≤◌, ◌<◌, Bool, true, false, cond, not, ◌&&◌, ◌||◌, ltb, leb, eqb}
 use Rattle.wire.specs.Schema.{varint_type, fixed64_type, delimited_type, fixed32_type}
 use Rattle.messages.specs.declared.key.Kind.{Kind}
 use Rattle.messages.specs.declared.key.Kind.TheVariants.{Tile as tile}

@@ -1,5 +1,5 @@
 -- A tile in parts (request (xi)): each part is taken, or refused with the place of the fault in the whole tile; the end tells whether the tile is done.
-use Rattle.std.specs.Prelude.{ℕ, suc, ◌+◌, cond, List, [], ◌∷◌, ◌++◌}
+use Rattle.std.specs.Prelude.{ℕ, suc, cond, List, [], ◌∷◌, ◌++◌}
 use Rattle.scan.specs.declared.State.{State}
 use Rattle.scan.specs.Automaton.{turn}
 use Rattle.scan.specs.Alive.{alive}

@@ -49,6 +49,7 @@ pub enum Where {
     Two(Kind, u64, Kind, u64),
 }
 
+// An enum of its own and no Option: the definitions of the automaton speak of a place and a phase, and Lost is a state too.
 #[derive(Clone, Copy)]
 pub enum State {
     Lost,

@@ -5,7 +5,6 @@ use native.Mathlib.Omega.{arith}
 use borrow.Author.Tests.{le-leb, lt-leb}
 use Rattle.messages.specs.declared.key.Kind.{Kind}
 use Rattle.messages.specs.declared.key.Kind.TheVariants.{Tile}
-use Rattle.messages.specs.declared.key.Body.{Body}
 use Rattle.scan.specs.declared.Phase.{Phase}
 use Rattle.scan.specs.declared.Phase.TheVariants.{Field, Key, Number, Lead, Skip, Packed}
 use Rattle.scan.specs.declared.Next.{Next}
@@ -48,20 +47,13 @@ module _ (w : Where) where
         by zero g = absurd (g refl)
         by (suc m) g = refl
 
-  pub settled_key : (p : Phase) (i v : ℕ) → p ≡ Key i v → At w (Key i v) ≡ settled w p
-  settled_key p i v e = rw e refl
-
-  pub settled_number : (p : Phase) (i : ℕ) → p ≡ Number i → At w (Number i) ≡ settled w p
-  settled_number p i e = rw e refl
-
-  pub settled_lead : (p : Phase) (b : Body) (i v : ℕ) → p ≡ Lead b i v → At w (Lead b i v) ≡ settled w p
-  settled_lead p b i v e = rw e refl
-
-  pub settled_skip : (p : Phase) (n : ℕ) → p ≡ Skip n → At w (Skip n) ≡ settled w p
-  settled_skip p n e = rw e refl
-
-  pub settled_packed : (p : Phase) (n i : ℕ) → p ≡ Packed n i → At w (Packed n i) ≡ settled w p
-  settled_packed p n i e = rw e refl
+  pub settled_other : (p : Phase) → (p ≡ Field → ⊥) → At w p ≡ settled w p
+  settled_other Field h = absurd (h refl)
+  settled_other (Key i v) h = refl
+  settled_other (Number i) h = refl
+  settled_other (Lead b i v) h = refl
+  settled_other (Skip n) h = refl
+  settled_other (Packed n i) h = refl
 
   module _ (k : Kind) (m : ℕ) where
     pub open_none : (r : State) → w ≡ Outside → r ≡ emptied (One k m) → r ≡ opened w k m

@@ -48,19 +48,13 @@ pub(crate) fn unit(i: u32) -> u64
     9_223_372_036_854_775_808
 }
 
-fn wide(b: u8) -> u64
-    ensures { result ≡ b }
-{
-    b as u64
-}
-
 // The byte b, where i bytes are read and v is their value.
 pub(crate) fn next_digit(i: u32, v: u64, b: u8) -> Digit
     requires { (i ≤ 9) × (v < unit_of i) }
     ensures { result ≡ digit i v b }
 {
     let u = unit(i);
-    let n = wide(b);
+    let n = u64::from(b);
     if i < BEFORE_LAST {
         if n < MORE {
             return Digit::Ends(v + u * n);

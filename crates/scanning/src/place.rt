@@ -12,15 +12,12 @@ pub fn place_of(src: &[u8]) -> usize
     ensures { Answers src.now (place_in src.now) result }
 {
     let mut s = State::At(Where::Outside, Phase::Field);
-    let mut i = 0;
-    while i < src.len() {
-        let t = turned(s, src[i]);
-        let is_open = is_alive(t);
-        if !is_open {
+    for (i, b) in src.iter().enumerate() {
+        let t = turned(s, *b);
+        if !is_alive(t) {
             return i;
         }
         s = t;
-        i += 1;
     }
-    i
+    src.len()
 }

@@ -36,11 +36,7 @@ fn settled(w: Where, phase: Phase) -> State
 {
     match phase {
         Phase::Field => emptied(w),
-        Phase::Key(i, v) => State::At(w, Phase::Key(i, v)),
-        Phase::Number(i) => State::At(w, Phase::Number(i)),
-        Phase::Lead(body, i, v) => State::At(w, Phase::Lead(body, i, v)),
-        Phase::Skip(n) => State::At(w, Phase::Skip(n)),
-        Phase::Packed(n, i) => State::At(w, Phase::Packed(n, i)),
+        _ => State::At(w, phase),
     }
 }
 

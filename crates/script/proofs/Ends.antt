@@ -2,6 +2,7 @@
 use mathlib.Core.Path.{◌≡◌, refl}
 use mathlib.Core.Bool.{Bool, true, false, cond}
 use mathlib.Core.List.{List}
+use Rattle.std.specs.Prelude.{Option, Some, None}
 use Prim.Native.Nat.{ℕ, ◌+◌, ◌-◌, ◌<◌, ◌≤◌}
 use native.Mathlib.Omega.{arith}
 use borrow.Author.Tests.{ltb-true, leb-true}
@@ -9,10 +10,6 @@ use lib.Dec.{leb, ltb, eqb}
 use lib.ListN.{length, get_or}
 use Rattle.script.specs.declared.Part.{Part}
 use Rattle.script.specs.declared.Op.{Op}
-use Rattle.script.specs.declared.Next.{Next}
-use Rattle.script.specs.declared.Next.TheVariants.{Is, Bad}
-use Rattle.script.specs.declared.texts.Taken.{Taken}
-use Rattle.script.specs.declared.texts.Taken.TheVariants.{Is as TakenIs, Bad as TakenBad}
 use Rattle.script.specs.Script.{words_for, filled, text_at, with_text, creates, opens, sets, string_at, float_at, long_at, bool_at, valued, tags, follows, operation}
 
 -- a place from `at` on, and within the script
@@ -20,13 +17,13 @@ pub record Reaches (ns : List ℕ) (at n : ℕ) : Type 0 where
   pub on : at ≤ n
   pub inside : n ≤ length ns
 
-Ends : List ℕ → ℕ → Next → Type 0
-Ends ns at (Is op n) = Reaches ns at n
-Ends ns at Bad = Unit {0}
+Ends : List ℕ → ℕ → Option (Op × ℕ) → Type 0
+Ends ns at (Some (op, n)) = Reaches ns at n
+Ends ns at None = Unit {0}
 
-TakenEnds : List ℕ → ℕ → Taken → Type 0
-TakenEnds ns at (TakenIs t n) = Reaches ns at n
-TakenEnds ns at TakenBad = Unit {0}
+TakenEnds : List ℕ → ℕ → Option (Part × ℕ) → Type 0
+TakenEnds ns at (Some (t, n)) = Reaches ns at n
+TakenEnds ns at None = Unit {0}
 
 -- by a test
 by : {X : Type 0} (P : X → Type 0) (b : Bool) {x y : X} → (b ≡ true → P x) → P y → P (cond b x y)
@@ -43,16 +40,16 @@ module _ (ns : List ℕ) where
       record { on = omega arith; inside = omega (arith, ltb-true at (length ns) h, leb-true (words_for (get_or ns at 0)) (length ns - (at + 1)) k) })
       tt) tt) tt
 
-  with_ends : (at from : ℕ) (t : Taken) (go : Part → ℕ → Next) → TakenEnds ns from t → ((p : Part) (n : ℕ) → Reaches ns from n → Ends ns at (go p n)) → Ends ns at (with_text t go)
+  with_ends : (at from : ℕ) (t : Option (Part × ℕ)) (go : Part → ℕ → Option (Op × ℕ)) → TakenEnds ns from t → ((p : Part) (n : ℕ) → Reaches ns from n → Ends ns at (go p n)) → Ends ns at (with_text t go)
   unfolding TakenEnds Ends
-  with_ends at from (TakenIs p n) go w f = f p n w
-  with_ends at from TakenBad go w f = tt
+  with_ends at from (Some (p, n)) go w f = f p n w
+  with_ends at from None go w f = tt
 
   -- from an earlier place
-  earlier : (at from : ℕ) (n : Next) → at ≤ from → Ends ns from n → Ends ns at n
+  earlier : (at from : ℕ) (n : Option (Op × ℕ)) → at ≤ from → Ends ns from n → Ends ns at n
   unfolding Ends
-  earlier at from (Is op n) h w = record { on = omega (arith, w.on); inside = w.inside }
-  earlier at from Bad h w = tt
+  earlier at from (Some (op, n)) h w = record { on = omega (arith, w.on); inside = w.inside }
+  earlier at from None h w = tt
 
   create_ends : (strict : Bool) (at : ℕ) → Ends ns at (creates strict ns at)
   unfolding creates Ends
@@ -70,15 +67,15 @@ module _ (ns : List ℕ) where
       tt) tt
 
   -- two numbers; one number
-  pair_ends : (at : ℕ) (op : Op) → Ends ns at (cond (leb 2 (length ns - at)) (Is op (at + 2)) Bad)
+  pair_ends : (at : ℕ) (op : Op) → Ends ns at (cond (leb 2 (length ns - at)) (Some (op, at + 2)) None)
   unfolding Ends
   pair_ends at op = by (Ends ns at) (leb 2 (length ns - at)) (λ h. record { on = omega arith; inside = omega (arith, leb-true 2 (length ns - at) h) }) tt
 
-  one_ends : (at : ℕ) (op : Op) → at < length ns → Ends ns at (Is op (at + 1))
+  one_ends : (at : ℕ) (op : Op) → at < length ns → Ends ns at (Some (op, at + 1))
   unfolding Ends
   one_ends at op h = record { on = omega arith; inside = omega arith }
 
-  bad_ends : (at : ℕ) → Ends ns at Bad
+  bad_ends : (at : ℕ) → Ends ns at None
   unfolding Ends
   bad_ends at = tt
 
@@ -139,6 +136,6 @@ module _ (ns : List ℕ) where
   unfolding operation
   op_ends at = by (Ends ns (at + 1)) (ltb at (length ns)) (λ h. follow_ends (get_or ns at 0) (at + 1) (omega (arith, ltb-true at (length ns) h))) (bad_ends (at + 1))
 
-  pub operation_ends : (at : ℕ) (op : Op) (n : ℕ) → operation ns at ≡ Is op n → Reaches ns (at + 1) n
+  pub operation_ends : (at : ℕ) (op : Op) (n : ℕ) → operation ns at ≡ Some (op, n) → Reaches ns (at + 1) n
   unfolding Ends
   operation_ends at op n e = rw e at (op_ends at)

@@ -7,7 +7,7 @@ ghost use Rattle.script.specs.Script.{creates, opens, sets, tags, operation, tex
 mod texts; // a text: its length, then its bytes
 mod values; // a value: its kind, then its content
 
-use crate::texts::{Taken, read_text};
+use crate::texts::read_text;
 use crate::values::read_value;
 use number::wide;
 
@@ -61,109 +61,75 @@ impl Op {
     pub const CREATE_STRICT: u32 = 8;
 }
 
-// An operation and where the next one begins, or nothing that can be read.
-#[derive(Clone, Copy)]
-pub enum Next {
-    Is(Op, usize),
-    Bad,
-}
-
 // Creating, strict or not: extent, name.
-fn read_create(numbers: &[u32], at: usize, strict: bool) -> Next
+#[tactic(auto, unfolding(crate::specs::Script::creates))]
+fn read_create(numbers: &[u32], at: usize, strict: bool) -> Option<(Op, usize)>
     ensures { result ≡ creates strict numbers.now at }
 {
-    if numbers.len() <= at {
-        return Next::Bad;
-    }
-    match read_text(numbers, at + 1) {
-        Taken::Is(name, next) => Next::Is(Op::Create(numbers[at], name, strict), next),
-        Taken::Bad => Next::Bad,
-    }
+    let extent = *numbers.get(at)?;
+    let (name, next) = read_text(numbers, at + 1)?;
+    Some((Op::Create(extent, name, strict), next))
 }
 
 // Opening: kind, word count, words.
-fn read_open(numbers: &[u32], at: usize) -> Next
+#[tactic(auto, unfolding(crate::specs::Script::opens))]
+fn read_open(numbers: &[u32], at: usize) -> Option<(Op, usize)>
     requires { at ≤ length numbers.now }
     ensures { result ≡ opens numbers.now at }
 {
     if numbers.len() - at < 2 {
-        return Next::Bad;
+        return None;
     }
-    let n = wide(numbers[at + 1]);
-    let from = at + 2;
-    if numbers.len() - from < n {
-        return Next::Bad;
+    let len = wide(numbers[at + 1]);
+    let start = at + 2;
+    if numbers.len() - start < len {
+        return None;
     }
-    Next::Is(
-        Op::Open(
-            numbers[at],
-            Part {
-                start: from,
-                len: n,
-            },
-        ),
-        from + n,
-    )
+    Some((Op::Open(numbers[at], Part { start, len }), start + len))
 }
 
 // Setting the id: low half, high half.
-fn read_id(numbers: &[u32], at: usize) -> Next
+#[tactic(auto, unfolding(crate::specs::Script::sets))]
+fn read_id(numbers: &[u32], at: usize) -> Option<(Op, usize)>
     requires { at ≤ length numbers.now }
     ensures { result ≡ sets numbers.now at }
 {
     if numbers.len() - at < 2 {
-        return Next::Bad;
+        return None;
     }
-    Next::Is(
+    Some((
         Op::SetId(number::of_halves(numbers[at], numbers[at + 1])),
         at + 2,
-    )
+    ))
 }
 
 // Tagging: key, value.
-fn read_tag(numbers: &[u32], at: usize) -> Next
+#[tactic(auto, unfolding(crate::specs::Script::tags))]
+fn read_tag(numbers: &[u32], at: usize) -> Option<(Op, usize)>
     ensures { result ≡ tags numbers.now at }
 {
-    match read_text(numbers, at) {
-        Taken::Is(key, next) => read_value(key, numbers, next),
-        Taken::Bad => Next::Bad,
-    }
+    let (key, next) = read_text(numbers, at)?;
+    read_value(key, numbers, next)
 }
 
-// The operation that begins at a place of the script's numbers.
-pub fn read_op(numbers: &[u32], at: usize) -> Next
+// The operation that begins at a place of the script's numbers, and where the next one begins; none where nothing can be read.
+#[tactic(auto, unfolding(crate::specs::Script::operation))]
+pub fn read_op(numbers: &[u32], at: usize) -> Option<(Op, usize)>
     ensures { result ≡ operation numbers.now at }
 {
-    if numbers.len() <= at {
-        return Next::Bad;
-    }
-    let number = numbers[at];
+    let number = *numbers.get(at)?;
     let from = at + 1;
-    if number == Op::CREATE {
-        return read_create(numbers, from, false);
+    match number {
+        Op::CREATE => read_create(numbers, from, false),
+        Op::OPEN => read_open(numbers, from),
+        Op::SET_ID => read_id(numbers, from),
+        Op::TAG => read_tag(numbers, from),
+        Op::CLOSE => Some((Op::Close, from)),
+        Op::ABANDON => Some((Op::Abandon, from)),
+        Op::ADD => Some((Op::Add, from)),
+        Op::CREATE_STRICT => read_create(numbers, from, true),
+        _ => None,
     }
-    if number == Op::OPEN {
-        return read_open(numbers, from);
-    }
-    if number == Op::SET_ID {
-        return read_id(numbers, from);
-    }
-    if number == Op::TAG {
-        return read_tag(numbers, from);
-    }
-    if number == Op::CLOSE {
-        return Next::Is(Op::Close, from);
-    }
-    if number == Op::ABANDON {
-        return Next::Is(Op::Abandon, from);
-    }
-    if number == Op::ADD {
-        return Next::Is(Op::Add, from);
-    }
-    if number == Op::CREATE_STRICT {
-        return read_create(numbers, from, true);
-    }
-    Next::Bad
 }
 
 // The bytes of a text, empty where it runs past the script's bytes.

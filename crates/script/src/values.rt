@@ -2,101 +2,84 @@
 ghost use Rattle.std.specs.Prelude.{◌≡◌, ◌≤◌, length};
 ghost use Rattle.script.specs.Script.{float_at, long_value, long_at, bool_at, string_at, content, valued};
 
-use crate::texts::{Taken, read_text};
-use crate::{Next, Op, Part, Value};
+use crate::texts::read_text;
+use crate::{Op, Part, Value};
 use number::{of_halves, signed64};
 
 // A float: one word.
-fn read_float(key: Part, numbers: &[u32], at: usize) -> Next
+#[tactic(auto, unfolding(crate::specs::Script::float_at))]
+fn read_float(key: Part, numbers: &[u32], at: usize) -> Option<(Op, usize)>
     ensures { result ≡ float_at key numbers.now at }
 {
-    if numbers.len() <= at {
-        return Next::Bad;
-    }
-    Next::Is(Op::Tag(key, Value::Float(numbers[at])), at + 1)
+    let bits = *numbers.get(at)?;
+    Some((Op::Tag(key, Value::Float(bits)), at + 1))
 }
 
 // The value of two words: a double, an int or a uint, else a sint.
 fn long_value(kind: u32, bits: u64) -> Value
     ensures { result ≡ long_value kind bits }
 {
-    if kind == table::Value::DOUBLE {
-        return Value::Double(bits);
+    match kind {
+        table::Value::DOUBLE => Value::Double(bits),
+        table::Value::INT => Value::Int(signed64(bits)),
+        table::Value::UINT => Value::Uint(bits),
+        _ => Value::Sint(signed64(bits)),
     }
-    if kind == table::Value::INT {
-        return Value::Int(signed64(bits));
-    }
-    if kind == table::Value::UINT {
-        return Value::Uint(bits);
-    }
-    Value::Sint(signed64(bits))
 }
 
 // A double, an int, a uint or a sint: low half, high half.
-fn read_long(key: Part, kind: u32, numbers: &[u32], at: usize) -> Next
+#[tactic(auto, unfolding(crate::specs::Script::long_at))]
+fn read_long(key: Part, kind: u32, numbers: &[u32], at: usize) -> Option<(Op, usize)>
     requires { at ≤ length numbers.now }
     ensures { result ≡ long_at key kind numbers.now at }
 {
     if numbers.len() - at < 2 {
-        return Next::Bad;
+        return None;
     }
     let v = long_value(kind, of_halves(numbers[at], numbers[at + 1]));
-    Next::Is(Op::Tag(key, v), at + 2)
+    Some((Op::Tag(key, v), at + 2))
 }
 
 // A bool: one word 0 or 1.
-fn read_bool(key: Part, numbers: &[u32], at: usize) -> Next
+#[tactic(auto, unfolding(crate::specs::Script::bool_at))]
+fn read_bool(key: Part, numbers: &[u32], at: usize) -> Option<(Op, usize)>
     ensures { result ≡ bool_at key numbers.now at }
 {
-    if numbers.len() <= at {
-        return Next::Bad;
-    }
-    let bit = numbers[at];
+    let bit = *numbers.get(at)?;
     if 1 < bit {
-        return Next::Bad;
+        return None;
     }
-    Next::Is(Op::Tag(key, Value::Bool(bit == 1)), at + 1)
+    Some((Op::Tag(key, Value::Bool(bit == 1)), at + 1))
 }
 
 // A value that is a text.
-fn read_string(key: Part, numbers: &[u32], at: usize) -> Next
+#[tactic(auto, unfolding(crate::specs::Script::string_at))]
+fn read_string(key: Part, numbers: &[u32], at: usize) -> Option<(Op, usize)>
     ensures { result ≡ string_at key numbers.now at }
 {
-    match read_text(numbers, at) {
-        Taken::Is(text, next) => Next::Is(Op::Tag(key, Value::Text(text)), next),
-        Taken::Bad => Next::Bad,
-    }
+    let (text, next) = read_text(numbers, at)?;
+    Some((Op::Tag(key, Value::Text(text)), next))
 }
 
 // The content of a kind; those from double to sint have two words.
-fn read_content(key: Part, kind: u32, numbers: &[u32], at: usize) -> Next
+fn read_content(key: Part, kind: u32, numbers: &[u32], at: usize) -> Option<(Op, usize)>
     requires { at ≤ length numbers.now }
     ensures { result ≡ content key kind numbers.now at }
 {
-    if kind == table::Value::TEXT {
-        return read_string(key, numbers, at);
+    match kind {
+        table::Value::TEXT => read_string(key, numbers, at),
+        table::Value::FLOAT => read_float(key, numbers, at),
+        table::Value::BOOL => read_bool(key, numbers, at),
+        table::Value::DOUBLE..=table::Value::SINT => read_long(key, kind, numbers, at),
+        _ => None,
     }
-    if kind == table::Value::FLOAT {
-        return read_float(key, numbers, at);
-    }
-    if kind == table::Value::BOOL {
-        return read_bool(key, numbers, at);
-    }
-    if kind < table::Value::DOUBLE {
-        return Next::Bad;
-    }
-    if table::Value::SINT < kind {
-        return Next::Bad;
-    }
-    read_long(key, kind, numbers, at)
 }
 
 // A value: its kind, then its content.
-pub(crate) fn read_value(key: Part, numbers: &[u32], at: usize) -> Next
+#[tactic(auto, unfolding(crate::specs::Script::valued))]
+pub(crate) fn read_value(key: Part, numbers: &[u32], at: usize) -> Option<(Op, usize)>
     ensures { result ≡ valued key numbers.now at }
 {
-    if numbers.len() <= at {
-        return Next::Bad;
-    }
-    read_content(key, numbers[at], numbers, at + 1)
+    let kind = *numbers.get(at)?;
+    read_content(key, kind, numbers, at + 1)
 }

@@ -6,8 +6,6 @@ ghost use Rattle.promise.specs.Lent.{mutable};
 ghost use Rattle.printed.specs.Lending.{Tells};
 ghost use Rattle.survey.specs.Program.{printed};
 
-use encoder::whole_job::Encoded;
-use number_file::Numbers;
 use printed::Text;
 use std::io;
 use std::io::Write;
@@ -19,14 +17,10 @@ fn answer(file: &[u8], numbers: &mut [u32], words: &mut [u32], text: &mut [u8]) 
     ensures { Tells (printed file.now numbers.old words.old) result (mutable text) }
 {
     match number_file::read_numbers(file, numbers) {
-        Numbers::Refused(r) => printed::show_refused(refusal::number(r), 0, text),
-        Numbers::Read(n) => match job_file::survey::encode_survey(&numbers[..n], words) {
-            Encoded::Refused(r, accepted) => printed::show_refused(
-                refusal::number(r),
-                accepted,
-                text,
-            ),
-            Encoded::Words(used) => printed::show_words(&words[..used], text),
+        Err(r) => printed::show_refused(refusal::number(r), 0, text),
+        Ok(n) => match job_file::survey::encode_survey(&numbers[..n], words) {
+            Err(e) => printed::show_refused(refusal::number(e.refusal), e.kept, text),
+            Ok(used) => printed::show_words(&words[..used], text),
         },
     }
 }

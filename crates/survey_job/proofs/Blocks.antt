@@ -16,8 +16,8 @@ use Rattle.number.proofs.Least.{smaller_le}
 use Rattle.refusal.specs.declared.Refusal.{Refusal}
 use Rattle.clip.specs.declared.Pt.{Pt}
 use Rattle.encoder.specs.declared.GeomEncoder.{GeomEncoder}
-use Rattle.encoder.specs.declared.whole_job.Course.{Course}
-use Rattle.encoder.specs.declared.whole_job.Course.TheVariants.{On, Off}
+use Rattle.refusal.specs.declared.Refused.{Refused}
+use Rattle.std.specs.Prelude.{Result, Ok, Err}
 use Rattle.encoder.specs.Calls.{part_calls}
 use Rattle.encoder.specs.Jobs.{points_of, part, go, added_run, outcome_of, end_of}
 use Rattle.encoder.proofs.Turns.{Adding}
@@ -86,11 +86,11 @@ module _ (t : Affine) (l : List Float) (i to : ℕ) (h : i < to) (k : to ≤ len
 
     -- ---- the run is added
     module _ (from : ℕ) (out₀ : List ℕ) (s : GeomEncoder) (out : List ℕ) (q : GeomEncoder) (I : Adding (grids_of t l) from to out₀ s out q i)
-        (r : Course) (o : List ℕ) (w : Gives (added_run q (take (2 * n) b) out) (end_of (take (2 * n) b) r) o) where
+        (r : Result GeomEncoder (Refused ℕ)) (o : List ℕ) (w : Gives (added_run q (take (2 * n) b) out) (end_of (take (2 * n) b) r) o) where
       opened : go (part_calls (part (points_of (grids_of t l)) from to)) from s out₀ ≡ go (part_calls (points_of (take (2 * n) b) ++ part (points_of (grids_of t l)) (i + n) to)) i q out
       opened = I.rest ∙ ap (λ (ps : List Pt). go (part_calls ps) i q out) split
 
-      pub block_on : (u : GeomEncoder) → r ≡ On u → length o ≡ length out → Adding (grids_of t l) from to out₀ s o u (i + n)
+      pub block_on : (u : GeomEncoder) → r ≡ Ok u → length o ≡ length out → Adding (grids_of t l) from to out₀ s o u (i + n)
       block_on u e f = record {
         upto = omega (arith, most.0);
         long = f ∙ I.long;
@@ -100,8 +100,8 @@ module _ (t : Affine) (l : List Float) (i to : ℕ) (h : i < to) (k : to ≤ len
             ∙ ap (λ (m : ℕ). go (part_calls (part (points_of (grids_of t l)) (i + n) to)) (i + m) u o) run_long;
       }
 
-      pub block_off : (x : Refusal) (m : ℕ) → r ≡ Off x m → Gives (go (part_calls (part (points_of (grids_of t l)) from to)) from s out₀) (outcome_of to (Off x (i + m))) o
-      block_off x m e = rw opened (run_off (take (2 * n) b) i q out (part (points_of (grids_of t l)) (i + n) to) r o w to x m e)
+      pub block_off : (x : Refused ℕ) → r ≡ Err x → Gives (go (part_calls (part (points_of (grids_of t l)) from to)) from s out₀) (outcome_of to (Err (record { refusal = x.refusal; kept = i + x.kept }))) o
+      block_off x e = rw opened (run_off (take (2 * n) b) i q out (part (points_of (grids_of t l)) (i + n) to) r o w to x e)
 
-      pub off_within : (x : Refusal) (m : ℕ) → r ≡ Off x m → i + m ≤ to
-      off_within x m e = omega (arith, run_within (take (2 * n) b) q out x m o (rw e at w), run_long, most.0)
+      pub off_within : (x : Refused ℕ) → r ≡ Err x → i + x.kept ≤ to
+      off_within x e = omega (arith, run_within (take (2 * n) b) q out x o (rw e at w), run_long, most.0)

@@ -1,5 +1,5 @@
 -- JOB asks the length of a list alone, and the grid's list has the same; so each return of `encode` is one of the ordinary job on the grid points.
-use mathlib.Core.Path.{◌≡◌, sym, ◌∙◌, ap}
+use mathlib.Core.Path.{◌≡◌, refl, sym, ◌∙◌, ap}
 use mathlib.Core.Bool.{Bool, true, false, not}
 use mathlib.Core.List.{List}
 use Prim.Native.Nat.{ℕ, ◌/◌}
@@ -11,14 +11,12 @@ use Rattle.refusal.specs.declared.Refusal.TheVariants.{Job}
 use Rattle.refusal.specs.Said.{accepted, refused}
 use Rattle.clip.specs.declared.BBox.{BBox}
 use Rattle.encoder.specs.declared.GeomEncoder.{GeomEncoder}
-use Rattle.encoder.specs.declared.Started.{Started}
-use Rattle.encoder.specs.declared.Started.TheVariants.{Fresh, Refused as NotStarted}
-use Rattle.encoder.specs.declared.whole_job.Course.{Course}
-use Rattle.encoder.specs.declared.whole_job.Course.TheVariants.{On, Off}
+use Rattle.refusal.specs.declared.Refused.{Refused}
+use Rattle.std.specs.Prelude.{Result, Ok, Err}
 use Rattle.encoder.specs.Answers.{said_started, started}
 use Rattle.encoder.specs.States.{Sound}
-use Rattle.encoder.specs.Jobs.{ends_at, is_job, is_job_of, go_all, end_of}
-use Rattle.encoder.proofs.Whole.{job_asked, words_none, words_start, words_all, words_stop}
+use Rattle.encoder.specs.Jobs.{ends_at, is_job, is_job_of, job_started, go_all, end_of}
+use Rattle.encoder.proofs.Whole.{start_none, start_some, job_asked, words_start, words_all, words_stop}
 use Rattle.affine.specs.declared.Affine.{Affine}
 use Rattle.affine.specs.Mapping.{grids_of}
 use Rattle.affine.proofs.Lists.{length_grids}
@@ -30,20 +28,23 @@ module _ (kind : ℕ) (bbox : BBox) (t : Affine) (l : List Float) (ends out : Li
   same_job = e ∙ ap (λ (n : ℕ). is_job_of n ends) (sym (length_grids t l))
 
   pub none : not v ≡ true → Gives (surveyed_job kind bbox t l ends out) (refused Job 0) out
-  none h = words_none kind bbox (grids_of t l) ends out v same_job h
+  none h = words_start kind bbox (grids_of t l) ends out (Err Job) (start_none kind bbox (grids_of t l) ends v same_job h) Job refl
 
-  module _ (h : not v ≡ false) (b : Started) (f : said_started b ≡ started kind bbox) where
-    pub asked : (s : GeomEncoder) → b ≡ Fresh s → (ends_at 0 ends (length l / 2) ≡ true) × Sound s (length out)
+  module _ (h : not v ≡ false) (b : Result GeomEncoder Refusal) (f : said_started b ≡ started kind bbox) where
+    begun : said_started b ≡ job_started kind bbox (grids_of t l) ends
+    begun = start_some kind bbox (grids_of t l) ends v same_job h b f
+
+    pub asked : (s : GeomEncoder) → b ≡ Ok s → (ends_at 0 ends (length l / 2) ≡ true) × Sound s (length out)
     asked s g =
-        let a = job_asked kind bbox (grids_of t l) ends out v same_job h b f s g in
+        let a = job_asked kind bbox (grids_of t l) ends out b begun s g in
         (sym (ap (λ (n : ℕ). ends_at 0 ends (n / 2)) (length_grids t l)) ∙ a.0, a.1)
 
-    pub start : (x : Refusal) → b ≡ NotStarted x → Gives (surveyed_job kind bbox t l ends out) (refused x 0) out
-    start x g = words_start kind bbox (grids_of t l) ends out v same_job h b f x g
+    pub start : (x : Refusal) → b ≡ Err x → Gives (surveyed_job kind bbox t l ends out) (refused x 0) out
+    start x g = words_start kind bbox (grids_of t l) ends out b begun x g
 
-    module _ (s : GeomEncoder) (g : b ≡ Fresh s) (r : Course) (o : List ℕ) (k : Gives (go_all (grids_of t l) ends s out) (end_of (grids_of t l) r) o) where
-      pub all : (u : GeomEncoder) → r ≡ On u → Gives (surveyed_job kind bbox t l ends out) (accepted u.used) o
-      all u i = words_all kind bbox (grids_of t l) ends out v same_job h b f s g r o k u i
+    module _ (s : GeomEncoder) (g : b ≡ Ok s) (r : Result GeomEncoder (Refused ℕ)) (o : List ℕ) (k : Gives (go_all (grids_of t l) ends s out) (end_of (grids_of t l) r) o) where
+      pub all : (u : GeomEncoder) → r ≡ Ok u → Gives (surveyed_job kind bbox t l ends out) (accepted u.used) o
+      all u i = words_all kind bbox (grids_of t l) ends out b begun s g r o k u i
 
-      pub stop : (x : Refusal) (n : ℕ) → r ≡ Off x n → Gives (surveyed_job kind bbox t l ends out) (refused x n) o
-      stop x n i = words_stop kind bbox (grids_of t l) ends out v same_job h b f s g r o k x n i
+      pub stop : (x : Refused ℕ) → r ≡ Err x → Gives (surveyed_job kind bbox t l ends out) (refused x.refusal x.kept) o
+      stop x i = words_stop kind bbox (grids_of t l) ends out b begun s g r o k x i

@@ -16,8 +16,8 @@ use affine::Affine;
 use clip::BBox;
 use encoder::run::add_points;
 use encoder::whole_job::{Course, Encoded, is_job_of};
-use encoder::{Drawn, GeomEncoder, Started};
-use refusal::Refusal;
+use encoder::{Drawn, GeomEncoder};
+use refusal::{Refusal, Refused};
 
 // Adds a surveyed point to the words: STATE, COORD, ROOM.
 pub fn add_surveyed(s: GeomEncoder, map: Affine, x: f64, y: f64, words: &mut [u32]) -> Drawn
@@ -46,17 +46,24 @@ fn add_part(
 {
     let mut q = s;
     let mut i = from;
+    // No `for`: each turn takes as many points as the block has room for.
     while i < to {
         let n = map.map_points(&points[2 * i..2 * to], block);
         match add_points(q, &block[..2 * n], words) {
-            Course::On(t) => q = t,
-            Course::Off(r, k) => return Course::Off(r, i + k),
+            Ok(t) => q = t,
+            Err(e) => return Err(Refused {
+                refusal: e.refusal,
+                kept: i + e.kept,
+            }),
         }
         i += n;
     }
     match q.complete_geom(words) {
-        Drawn::Done(t, _) => Course::On(t),
-        Drawn::Refused(r, _) => Course::Off(r, to),
+        Ok((t, _)) => Ok(t),
+        Err(e) => Err(Refused {
+            refusal: e.refusal,
+            kept: to,
+        }),
     }
 }
 
@@ -76,17 +83,12 @@ fn add_parts(
 {
     let mut q = s;
     let mut from = 0;
-    let mut j = 0;
-    while j < ends.len() {
-        let end = ends[j] as usize;
-        match add_part(q, map, points, from, end, block, words) {
-            Course::On(t) => q = t,
-            Course::Off(r, n) => return Course::Off(r, n),
-        }
+    for end in ends {
+        let end = *end as usize;
+        q = add_part(q, map, points, from, end, block, words)?;
         from = end;
-        j += 1;
     }
-    Course::On(q)
+    Ok(q)
 }
 
 // The same with a list of its own for the grid points of a block.
@@ -117,13 +119,16 @@ pub fn encode(
     ensures { Gives (surveyed_job kind bbox map points.now ends.now words.old) (said_encoded result) words.new }
 {
     if !is_job_of(points.len(), ends) {
-        return Encoded::Refused(Refusal::Job, 0);
+        return Err(Refused {
+            refusal: Refusal::Job,
+            kept: 0,
+        });
     }
     match GeomEncoder::new(kind, bbox) {
-        Started::Refused(r) => Encoded::Refused(r, 0),
-        Started::Fresh(s) => match add_in_blocks(s, map, points, ends, words) {
-            Course::On(t) => Encoded::Words(t.used),
-            Course::Off(r, n) => Encoded::Refused(r, n),
-        },
+        Err(refusal) => Err(Refused { refusal, kept: 0 }),
+        Ok(s) => {
+            let t = add_in_blocks(s, map, points, ends, words)?;
+            Ok(t.used)
+        }
     }
 }

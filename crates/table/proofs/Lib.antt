@@ -1,6 +1,5 @@
 pub mod Same
-pub mod Finding
-pub mod Keys
+pub mod Entries
 pub mod Values
 pub mod Bounds
 pub mod Growing

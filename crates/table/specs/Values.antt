@@ -1,8 +1,6 @@
 -- Document 01, "Tags and rollback": a value takes three words, its kind (1 text, 2 float, 3 double, 4 int, 5 uint, 6 sint, 7 bool), then the start
 -- and the length of its text, or the low and the high half of its content.
-use Rattle.std.specs.Prelude.{ℕ, suc, ◌%◌, ◌≡◌, refl, Bool, true, false, cond, ◌&&◌, List, [], ◌∷◌, leb, eqb}
-use Rattle.table.specs.declared.Found.{Found}
-use Rattle.table.specs.declared.Found.TheVariants.{At, Nothing}
+use Rattle.std.specs.Prelude.{ℕ, suc, ◌%◌, ◌≡◌, refl, Bool, true, false, cond, ◌&&◌, List, [], ◌∷◌, leb, eqb, Option, Some, None}
 use Rattle.table.specs.declared.Value.{Value}
 use Rattle.table.specs.Texts.{inside, same_text}
 
@@ -46,11 +44,11 @@ same_value texts kind low high v text =
     false
 
 -- the first value that is v; the first of these values has the index j
-abbrev pub find_value : ℕ → List ℕ → List ℕ → Value → List ℕ → Found
-find_value j [] texts v text = Nothing
-find_value j (a ∷ []) texts v text = Nothing
-find_value j (a ∷ b ∷ []) texts v text = Nothing
-find_value j (kind ∷ low ∷ high ∷ values) texts v text = cond (same_value texts kind low high v text) (At j) (find_value (suc j) values texts v text)
+abbrev pub find_value : ℕ → List ℕ → List ℕ → Value → List ℕ → Option ℕ
+find_value j [] texts v text = None
+find_value j (a ∷ []) texts v text = None
+find_value j (a ∷ b ∷ []) texts v text = None
+find_value j (kind ∷ low ∷ high ∷ values) texts v text = cond (same_value texts kind low high v text) (Some j) (find_value (suc j) values texts v text)
 
 -- STATE: a text within so many bytes, a float's high half 0, a bool's content 0 or 1, and no kind but 1 to 7
 abbrev pub value_ok : ℕ → ℕ → ℕ → ℕ → Bool
@@ -67,11 +65,11 @@ values_in bytes (a ∷ b ∷ []) = false
 values_in bytes (kind ∷ low ∷ high ∷ values) = cond (value_ok bytes kind low high) (values_in bytes values) false
 
 -- a NaN is found again by its bits, 0.0 is found where -0.0 was stored first, and a uint is not found where an int of its content was
-nan_again : find_value 0 (2 ∷ 2143289344 ∷ 0 ∷ []) [] (record { kind = 2; low = 2143289344; high = 0 }) [] ≡ At 0
+nan_again : find_value 0 (2 ∷ 2143289344 ∷ 0 ∷ []) [] (record { kind = 2; low = 2143289344; high = 0 }) [] ≡ Some 0
 nan_again = refl
 
-zero_shared : find_value 0 (3 ∷ 0 ∷ 2147483648 ∷ []) [] (record { kind = 3; low = 0; high = 0 }) [] ≡ At 0
+zero_shared : find_value 0 (3 ∷ 0 ∷ 2147483648 ∷ []) [] (record { kind = 3; low = 0; high = 0 }) [] ≡ Some 0
 zero_shared = refl
 
-uint_apart : find_value 0 (4 ∷ 1 ∷ 0 ∷ []) [] (record { kind = 5; low = 1; high = 0 }) [] ≡ Nothing
+uint_apart : find_value 0 (4 ∷ 1 ∷ 0 ∷ []) [] (record { kind = 5; low = 1; high = 0 }) [] ≡ None
 uint_apart = refl

@@ -5,7 +5,7 @@
 
 ghost use Rattle.std.specs.Prelude.{◌≡◌};
 ghost use Rattle.table.specs.Texts.{short_text, same_text};
-ghost use Rattle.table.specs.Keys.{find_key, index_of, keys_in};
+ghost use Rattle.table.specs.Keys.{find_key, keys_in};
 ghost use Rattle.table.specs.Values.{is_zero, same_content, same_value, find_value, value_ok, values_in};
 
 use number::wide;
@@ -54,62 +54,24 @@ impl Value {
     pub const BOOL: u32 = 7;
 }
 
-// The index of an entry.
-#[derive(Clone, Copy)]
-pub enum Found {
-    At(usize),
-    Nothing,
-}
-
-// The index of what was found, or of what goes last.
-pub fn index_of(f: Found, next: usize) -> usize
-    ensures { result ≡ index_of f next }
-{
-    match f {
-        Found::At(j) => j,
-        Found::Nothing => next,
-    }
-}
-
 // Whether the text of len bytes at start is key.
 pub fn same_text(texts: &[u8], start: usize, len: usize, key: &[u8]) -> bool
     ensures { result ≡ same_text texts.now start len key.now }
 {
-    if len != key.len() {
+    if len != key.len() || texts.len() < start || texts.len() - start < len {
         return false;
     }
-    if texts.len() < start {
-        return false;
-    }
-    if texts.len() - start < len {
-        return false;
-    }
-    let mut i = 0;
-    while i < len {
-        if texts[start + i] != key[i] {
-            return false;
-        }
-        i += 1;
-    }
-    true
+    &texts[start..start + len] == key
 }
 
 // The index of the first key whose text is key.
-pub fn key_pos(keys: &[u32], texts: &[u8], key: &[u8]) -> Found
+pub fn key_pos(keys: &[u32], texts: &[u8], key: &[u8]) -> Option<usize>
     ensures { result ≡ find_key 0 keys.now texts.now key.now }
 {
-    let mut i = 0;
-    let mut j = 0;
-    while 2 <= keys.len() - i {
-        let start = wide(keys[i]);
-        let len = wide(keys[i + 1]);
-        if same_text(texts, start, len, key) {
-            return Found::At(j);
-        }
-        i += 2;
-        j += 1;
-    }
-    Found::Nothing
+    let (entries, _) = keys.as_chunks::<2>();
+    entries
+        .iter()
+        .position(|e| same_text(texts, wide(e[0]), wide(e[1]), key))
 }
 
 // Whether the two words are a float or a double that is zero, of either sign.
@@ -151,35 +113,24 @@ pub fn same_value(texts: &[u8], kind: u32, low: u32, high: u32, v: Value, text: 
 }
 
 // The index of the first value that is v, or the text beside it.
-pub fn val_pos(values: &[u32], texts: &[u8], v: Value, text: &[u8]) -> Found
+pub fn val_pos(values: &[u32], texts: &[u8], v: Value, text: &[u8]) -> Option<usize>
     ensures { result ≡ find_value 0 values.now texts.now v text.now }
 {
-    let mut i = 0;
-    let mut j = 0;
-    while 3 <= values.len() - i {
-        if same_value(texts, values[i], values[i + 1], values[i + 2], v, text) {
-            return Found::At(j);
-        }
-        i += 3;
-        j += 1;
-    }
-    Found::Nothing
+    let (entries, _) = values.as_chunks::<3>();
+    entries
+        .iter()
+        .position(|e| same_value(texts, e[0], e[1], e[2], v, text))
 }
 
 // Whether the text of every key lies within so many bytes.
 pub fn keys_in(keys: &[u32], bytes: usize) -> bool
     ensures { result ≡ keys_in bytes keys.now }
 {
-    let mut i = 0;
-    while 2 <= keys.len() - i {
-        let start = wide(keys[i]);
-        let len = wide(keys[i + 1]);
-        if !has_room(start, len, bytes) {
-            return false;
-        }
-        i += 2;
-    }
-    i == keys.len()
+    let (entries, rest) = keys.as_chunks::<2>();
+    rest.is_empty()
+        && entries
+            .iter()
+            .all(|e| has_room(wide(e[0]), wide(e[1]), bytes))
 }
 
 // Whether the three words are a value, its text, if it is one, within so many bytes.
@@ -204,12 +155,6 @@ fn value_ok(bytes: usize, kind: u32, low: u32, high: u32) -> bool
 pub fn values_in(values: &[u32], bytes: usize) -> bool
     ensures { result ≡ values_in bytes values.now }
 {
-    let mut i = 0;
-    while 3 <= values.len() - i {
-        if !value_ok(bytes, values[i], values[i + 1], values[i + 2]) {
-            return false;
-        }
-        i += 3;
-    }
-    i == values.len()
+    let (entries, rest) = values.as_chunks::<3>();
+    rest.is_empty() && entries.iter().all(|e| value_ok(bytes, e[0], e[1], e[2]))
 }

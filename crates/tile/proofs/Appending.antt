@@ -9,6 +9,7 @@ use lib.Seq.{drop-drop}
 use lib.Dec.{leb}
 use borrow.Author.Tests.{leb-true, not-true, not-false}
 use borrow.Rule.Slice.PartMut.{mid_of, put_mid}
+use Rattle.std.specs.Prelude.{Ok, Err}
 use Rattle.promise.specs.Answers.{Gives}
 use Rattle.promise.specs.Laid.{lay}
 use Rattle.refusal.specs.declared.Refusal.TheVariants.{Room}
@@ -22,7 +23,6 @@ use Rattle.layer.specs.Held.{Seen, mem, seen}
 use Rattle.layer.proofs.Fitting.{smaller_le}
 use Rattle.tile.specs.Layers.{layer_field, name_at}
 use Rattle.tile.specs.declared.Tile.{Tile}
-use Rattle.tile.specs.declared.Added.TheVariants.{Done, Refused as NotAdded}
 use Rattle.tile.specs.Tiles.{lists, max_tile_bytes, name_room, byte_room}
 use Rattle.tile.specs.Answers.{said_tile}
 use Rattle.tile.specs.Adding.{appended}
@@ -51,11 +51,11 @@ module _ (t : Tile) (s : Layer) (ks vs ts fs ns bs : List ℕ) (ready : Ready t 
   told : leb (t.used + length (layer_field (seen s (mem ks vs ts fs)))) (byte_room (length bs)) ≡ a
   told = rw (← e, ← f) (sym g)
 
-  pub bytes_full : not a ≡ true → Gives (appended t (seen s (mem ks vs ts fs)) (lists ns bs)) (said_tile (NotAdded Room t)) (lists ns bs)
+  pub bytes_full : not a ≡ true → Gives (appended t (seen s (mem ks vs ts fs)) (lists ns bs)) (said_tile (Err (record { refusal = Room; kept = t }))) (lists ns bs)
   bytes_full h = rw (told, not-true a h) (record { answer = refl; memory = refl })
 
   module _ (h : not a ≡ false) (entries : ℕ) (k : entries ≡ name_room (length ns)) (b : Bool) (q : b ≡ leb (t.layers + 1) entries) where
-    pub names_full : not b ≡ true → Gives (appended t (seen s (mem ks vs ts fs)) (lists ns bs)) (said_tile (NotAdded Room t)) (lists ns bs)
+    pub names_full : not b ≡ true → Gives (appended t (seen s (mem ks vs ts fs)) (lists ns bs)) (said_tile (Err (record { refusal = Room; kept = t }))) (lists ns bs)
     names_full n = rw (told, not-false a h, ← k, ← q, not-true b n) (record { answer = refl; memory = refl })
 
     pub fitted : not b ≡ false → (at : ℕ) → at ≡ name_at (seen s (mem ks vs ts fs)) → Fitted t (seen s (mem ks vs ts fs)) ns bs size at
@@ -81,7 +81,7 @@ module _ (t : Tile) (v : Seen) (ns bs : List ℕ) (size at : ℕ) (F : Fitted t 
   pub small_name : v.layer.name ≤ max_tile_bytes
   small_name = omega (arith, F.few_bytes, F.name_few)
 
-  pub layer_added : (ns₂ : List ℕ) → ns₂ ≡ laid_in (t.layers * 2) ((t.used + at) ∷ v.layer.name ∷ []) ns → (r : ℕ) (ys : List ℕ) → Gives (put (layer_field v) (mid_of t.used (length bs - t.used) bs)) r ys → Gives (appended t v (lists ns bs)) (said_tile (Done (record { extent = t.extent; used = t.used + size; layers = t.layers + 1 }))) (lists ns₂ (put_mid t.used (length bs - t.used) bs ys))
+  pub layer_added : (ns₂ : List ℕ) → ns₂ ≡ laid_in (t.layers * 2) ((t.used + at) ∷ v.layer.name ∷ []) ns → (r : ℕ) (ys : List ℕ) → Gives (put (layer_field v) (mid_of t.used (length bs - t.used) bs)) r ys → Gives (appended t v (lists ns bs)) (said_tile (Ok (record { extent = t.extent; used = t.used + size; layers = t.layers + 1 }))) (lists ns₂ (put_mid t.used (length bs - t.used) bs ys))
   layer_added ns₂ x r ys y =
       let z = laid_at (layer_field v) bs t.used (omega (arith, F.in_bytes, F.size_is)) y in
       let n = laid_fits (t.layers * 2) ((t.used + at) ∷ v.layer.name ∷ []) ns F.in_names ns₂ x in

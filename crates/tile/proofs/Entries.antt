@@ -1,11 +1,13 @@
 -- Laws of the repeated fields: the next entry's field and those behind it, where the entries are as they should be; and how long the fields are at most.
-use Prim.Native.Nat.{ℕ, zero, suc, ◌+◌, ◌-◌, ◌*◌, ◌≤◌, ◌<◌}
+use Prim.Native.Nat.{ℕ, zero, suc, ◌+◌, ◌-◌, ◌*◌, ◌/◌, ◌≤◌, ◌<◌}
+use Rattle.std.proofs.Math.Nat.{suc-mul, add_comm}
+use Rattle.std.specs.Simd.{first_chunks}
 use mathlib.Core.Path.{◌≡◌, refl, sym, ap, ◌∙◌}
 use mathlib.Core.Bool.{Bool, true, false, cond}
 use mathlib.Core.List.{List, [], ◌∷◌, ◌++◌}
 use native.Mathlib.Omega.{arith}
 use lib.Dec.{leb}
-use lib.ListN.{length, drop, get_or, length-append, length-drop, drop_of_length-le}
+use lib.ListN.{length, take, drop, get_or, length-append, length-drop, drop_of_length-le}
 use lib.Seq.{drop-drop, get_or-drop}
 use borrow.Author.Tests.{leb-true}
 use borrow.Rule.Slice.PartMut.{mid_of}
@@ -13,7 +15,7 @@ use Rattle.wire.specs.declared.field.Field.TheVariants.{LayerFeature, LayerKey, 
 use Rattle.wire.specs.Fields.{delimited}
 use Rattle.promise.proofs.Parts.{lent}
 use Rattle.wire.proofs.Fields.{varint_field_short, delimited_long}
-use Rattle.table.specs.declared.Found.TheVariants.{Nothing}
+use Rattle.std.specs.Prelude.{None}
 use Rattle.table.specs.Texts.{inside}
 use Rattle.table.specs.Keys.{keys_in}
 use Rattle.table.specs.Values.{value_ok, values_in}
@@ -34,50 +36,60 @@ twice : (a b : Bool) → cond a b false ≡ true → (a ≡ true) × (b ≡ true
 twice true b e = (refl, e)
 twice false b e = never e
 
+-- ---- entries of so many words: the list is cut into pieces of as many
+chunk_at : (n c k : ℕ) (xs : List ℕ) → k < c → get_or (first_chunks n c xs) k [] ≡ take n (drop (k * n) xs)
+chunk_at n zero k xs h = absurd (omega arith)
+chunk_at n (suc c) zero xs h = let z : 0 * n ≡ 0 = omega arith in rw z
+chunk_at n (suc c) (suc k) xs h = chunk_at n c k (drop n xs) (omega arith) ∙ rw (drop-drop (k * n) n xs, suc-mul k n, add_comm n (k * n))
+
+-- the entry at the front of some words: that it is whole, and what is behind it; the piece has its words
+record Front (whole : Type 0) (good : List ℕ → Type 0) (fields : List ℕ → List ℕ) (field : List ℕ) (l : List ℕ) (n : ℕ) : Type 0 where
+  entry : whole
+  rest : good (drop n l)
+  parts : fields l ≡ field ++ fields (drop n l)
+
 -- ---- keys
--- the key whose words stand at an index: that its text lies within the texts, and its field
-abbrev pub key_inside : List ℕ → List ℕ → ℕ → Type 0
-key_inside texts keys i = inside (length texts) (get_or keys i 0) (get_or keys (i + 1) 0) ≡ true
+-- the pieces of two words; of the key with an index, that its text lies within the texts, and its field
+abbrev pub pairs : List ℕ → List (List ℕ)
+pairs keys = first_chunks 2 (length keys / 2) keys
 
-abbrev pub key_at : List ℕ → List ℕ → ℕ → List ℕ
-key_at texts keys i = text_field LayerKey texts (get_or keys i 0) (get_or keys (i + 1) 0)
+abbrev pub key_inside : List ℕ → List ℕ → Type 0
+key_inside texts e = inside (length texts) (get_or e 0 0) (get_or e 1 0) ≡ true
 
--- the keys from an index on
-abbrev pub keys_next : List ℕ → List ℕ → ℕ → Type 0
-keys_next texts keys i =
-    Next (key_inside texts keys i) (λ (j : ℕ). keys_in (length texts) (drop j keys) ≡ true) (λ (j : ℕ). key_fields texts (drop j keys)) (key_at texts keys i) (length keys) i 2
+abbrev pub key_at : List ℕ → List ℕ → List ℕ
+key_at texts e = text_field LayerKey texts (get_or e 0 0) (get_or e 1 0)
 
-key_front : (texts l : List ℕ) → 0 < length l → keys_in (length texts) l ≡ true → keys_next texts l 0
-key_front texts [] h e = absurd (omega arith)
-key_front texts (a ∷ []) h e = never e
-key_front texts (a ∷ b ∷ l) h e =
-    let p = twice (inside (length texts) a b) (keys_in (length texts) l) e in
-    record { some = omega arith; within = omega arith; entry = p.0; rest = p.1; parts = refl }
+key_front : (texts l e : List ℕ) → e ≡ take 2 l → 2 ≤ length l → keys_in (length texts) l ≡ true
+    → Front (key_inside texts e) (λ (k : List ℕ). keys_in (length texts) k ≡ true) (key_fields texts) (key_at texts e) l 2
+key_front texts [] e q h g = absurd (omega arith)
+key_front texts (a ∷ []) e q h g = absurd (omega arith)
+key_front texts (a ∷ b ∷ l) e q h g =
+    let p = twice (inside (length texts) a b) (keys_in (length texts) l) g in
+    rw q (record { entry = p.0; rest = p.1; parts = refl })
 
+pub key_none : (texts l : List ℕ) → length l < 2 → key_fields texts l ≡ []
+key_none texts [] h = refl
+key_none texts (a ∷ []) h = refl
+key_none texts (a ∷ b ∷ l) h = absurd (omega arith)
+
+-- the keys from the one with an index on
 module _ (texts keys : List ℕ) where
-  pub key_next : (i : ℕ) → i < length keys → keys_in (length texts) (drop i keys) ≡ true → keys_next texts keys i
-  key_next i h e =
-      let K = key_front texts (drop i keys) (rw length-drop (omega arith)) e in
-      let a : get_or (drop i keys) 0 0 ≡ get_or keys i 0 = get_or-drop i keys 0 0 ∙ ap (λ (n : ℕ). get_or keys n 0) (omega arith) in
-      let b : get_or (drop i keys) 1 0 ≡ get_or keys (i + 1) 0 = get_or-drop i keys 1 0 in
-      let d : drop 2 (drop i keys) ≡ drop (i + 2) keys = drop-drop 2 i keys in
-      record {
-        some = omega arith;
-        within = omega (arith, K.within, length-drop i keys);
-        entry = rw (a, b) at K.entry;
-        rest = rw d at K.rest;
-        parts = rw (a, b, d) at K.parts;
-      }
+  pub key_next : (k : ℕ) → k < length keys / 2 → keys_in (length texts) (drop (k * 2) keys) ≡ true
+      → Next (key_inside texts (get_or (pairs keys) k [])) (λ (j : ℕ). keys_in (length texts) (drop (j * 2) keys) ≡ true) (λ (j : ℕ). key_fields texts (drop (j * 2) keys)) (key_at texts (get_or (pairs keys) k [])) (length keys / 2) k 1
+  key_next k h g =
+      let F = key_front texts (drop (k * 2) keys) (get_or (pairs keys) k []) (chunk_at 2 (length keys / 2) k keys h) (rw length-drop (omega arith)) g in
+      let d : drop 2 (drop (k * 2) keys) ≡ drop ((k + 1) * 2) keys = drop-drop 2 (k * 2) keys ∙ ap (λ (n : ℕ). drop n keys) (omega arith) in
+      record { some = omega arith; within = omega arith; entry = F.entry; rest = rw d at F.rest; parts = rw d at F.parts }
 
-  abbrev pub key_walk : Walk (length keys)
+  abbrev pub key_walk : Walk (length keys / 2)
   key_walk = record {
-    good = λ (i : ℕ). keys_in (length texts) (drop i keys) ≡ true;
-    fields = λ (i : ℕ). key_fields texts (drop i keys);
-    whole = key_inside texts keys;
-    field = key_at texts keys;
-    words = λ (i : ℕ). 2;
+    good = λ (k : ℕ). keys_in (length texts) (drop (k * 2) keys) ≡ true;
+    fields = λ (k : ℕ). key_fields texts (drop (k * 2) keys);
+    whole = λ (k : ℕ). key_inside texts (get_or (pairs keys) k []);
+    field = λ (k : ℕ). key_at texts (get_or (pairs keys) k []);
+    words = λ (k : ℕ). 1;
     next = key_next;
-    none = λ (i : ℕ) (h : length keys ≤ i). ap (key_fields texts) (drop_of_length-le keys {i = i} h);
+    none = λ (k : ℕ) (h : length keys / 2 ≤ k). key_none texts (drop (k * 2) keys) (rw length-drop (omega arith));
   }
 
 pub keys_short : (texts keys : List ℕ) (most : ℕ) → length texts ≤ most → length (key_fields texts keys) * 2 ≤ length keys * (11 + most)
@@ -86,51 +98,49 @@ keys_short texts (a ∷ []) most h = omega arith
 keys_short texts (a ∷ b ∷ keys) most h = omega (arith, length-append (text_field LayerKey texts a b) (key_fields texts keys), text_short LayerKey texts a b, keys_short texts keys most h)
 
 -- ---- values
--- the value whose words stand at an index: that it is one, and its field
-abbrev pub value_good : List ℕ → List ℕ → ℕ → Type 0
-value_good texts values i = value_ok (length texts) (get_or values i 0) (get_or values (i + 1) 0) (get_or values (i + 2) 0) ≡ true
+-- the pieces of three words; of the value with an index, that it is one, and its field
+abbrev pub triples : List ℕ → List (List ℕ)
+triples values = first_chunks 3 (length values / 3) values
 
-abbrev pub value_at : List ℕ → List ℕ → ℕ → List ℕ
-value_at texts values i = value_field texts (get_or values i 0) (get_or values (i + 1) 0) (get_or values (i + 2) 0)
+abbrev pub value_good : List ℕ → List ℕ → Type 0
+value_good texts e = value_ok (length texts) (get_or e 0 0) (get_or e 1 0) (get_or e 2 0) ≡ true
 
--- the values from an index on
-abbrev pub values_next : List ℕ → List ℕ → ℕ → Type 0
-values_next texts values i =
-    Next (value_good texts values i) (λ (j : ℕ). values_in (length texts) (drop j values) ≡ true) (λ (j : ℕ). value_fields texts (drop j values)) (value_at texts values i) (length values) i 3
+abbrev pub value_at : List ℕ → List ℕ → List ℕ
+value_at texts e = value_field texts (get_or e 0 0) (get_or e 1 0) (get_or e 2 0)
 
-value_front : (texts l : List ℕ) → 0 < length l → values_in (length texts) l ≡ true → values_next texts l 0
-value_front texts [] h e = absurd (omega arith)
-value_front texts (a ∷ []) h e = never e
-value_front texts (a ∷ b ∷ []) h e = never e
-value_front texts (a ∷ b ∷ c ∷ l) h e =
-    let p = twice (value_ok (length texts) a b c) (values_in (length texts) l) e in
-    record { some = omega arith; within = omega arith; entry = p.0; rest = p.1; parts = refl }
+value_front : (texts l e : List ℕ) → e ≡ take 3 l → 3 ≤ length l → values_in (length texts) l ≡ true
+    → Front (value_good texts e) (λ (v : List ℕ). values_in (length texts) v ≡ true) (value_fields texts) (value_at texts e) l 3
+value_front texts [] e q h g = absurd (omega arith)
+value_front texts (a ∷ []) e q h g = absurd (omega arith)
+value_front texts (a ∷ b ∷ []) e q h g = absurd (omega arith)
+value_front texts (a ∷ b ∷ c ∷ l) e q h g =
+    let p = twice (value_ok (length texts) a b c) (values_in (length texts) l) g in
+    rw q (record { entry = p.0; rest = p.1; parts = refl })
 
+pub value_none : (texts l : List ℕ) → length l < 3 → value_fields texts l ≡ []
+value_none texts [] h = refl
+value_none texts (a ∷ []) h = refl
+value_none texts (a ∷ b ∷ []) h = refl
+value_none texts (a ∷ b ∷ c ∷ l) h = absurd (omega arith)
+
+-- the values from the one with an index on
 module _ (texts values : List ℕ) where
-  pub value_next : (i : ℕ) → i < length values → values_in (length texts) (drop i values) ≡ true → values_next texts values i
-  value_next i h e =
-      let K = value_front texts (drop i values) (rw length-drop (omega arith)) e in
-      let a : get_or (drop i values) 0 0 ≡ get_or values i 0 = get_or-drop i values 0 0 ∙ ap (λ (n : ℕ). get_or values n 0) (omega arith) in
-      let b : get_or (drop i values) 1 0 ≡ get_or values (i + 1) 0 = get_or-drop i values 1 0 in
-      let c : get_or (drop i values) 2 0 ≡ get_or values (i + 2) 0 = get_or-drop i values 2 0 in
-      let d : drop 3 (drop i values) ≡ drop (i + 3) values = drop-drop 3 i values in
-      record {
-        some = omega arith;
-        within = omega (arith, K.within, length-drop i values);
-        entry = rw (a, b, c) at K.entry;
-        rest = rw d at K.rest;
-        parts = rw (a, b, c, d) at K.parts;
-      }
+  pub value_next : (k : ℕ) → k < length values / 3 → values_in (length texts) (drop (k * 3) values) ≡ true
+      → Next (value_good texts (get_or (triples values) k [])) (λ (j : ℕ). values_in (length texts) (drop (j * 3) values) ≡ true) (λ (j : ℕ). value_fields texts (drop (j * 3) values)) (value_at texts (get_or (triples values) k [])) (length values / 3) k 1
+  value_next k h g =
+      let F = value_front texts (drop (k * 3) values) (get_or (triples values) k []) (chunk_at 3 (length values / 3) k values h) (rw length-drop (omega arith)) g in
+      let d : drop 3 (drop (k * 3) values) ≡ drop ((k + 1) * 3) values = drop-drop 3 (k * 3) values ∙ ap (λ (n : ℕ). drop n values) (omega arith) in
+      record { some = omega arith; within = omega arith; entry = F.entry; rest = rw d at F.rest; parts = rw d at F.parts }
 
-  abbrev pub value_walk : Walk (length values)
+  abbrev pub value_walk : Walk (length values / 3)
   value_walk = record {
-    good = λ (i : ℕ). values_in (length texts) (drop i values) ≡ true;
-    fields = λ (i : ℕ). value_fields texts (drop i values);
-    whole = value_good texts values;
-    field = value_at texts values;
-    words = λ (i : ℕ). 3;
+    good = λ (k : ℕ). values_in (length texts) (drop (k * 3) values) ≡ true;
+    fields = λ (k : ℕ). value_fields texts (drop (k * 3) values);
+    whole = λ (k : ℕ). value_good texts (get_or (triples values) k []);
+    field = λ (k : ℕ). value_at texts (get_or (triples values) k []);
+    words = λ (k : ℕ). 1;
     next = value_next;
-    none = λ (i : ℕ) (h : length values ≤ i). ap (value_fields texts) (drop_of_length-le values {i = i} h);
+    none = λ (k : ℕ) (h : length values / 3 ≤ k). value_none texts (drop (k * 3) values) (rw length-drop (omega arith));
   }
 
 field_short : (texts : List ℕ) (kind low high : ℕ) → length (delimited LayerValue (value_message texts kind low high)) ≤ 22 + length texts
@@ -164,7 +174,7 @@ front_fields (w ∷ ws) h =
 found_within : (n left : ℕ) (ws : List ℕ) → is_found (records_in n left ws) ≡ true → (left ≤ length ws) × (is_found (records_in n 0 (drop left ws)) ≡ true)
 found_within n left ws e = by (leb left (length ws)) refl (rw (skip n left ws) at e)
   where
-    by : (t : Bool) → leb left (length ws) ≡ t → is_found (cond t (records_in n 0 (drop left ws)) Nothing) ≡ true → (left ≤ length ws) × (is_found (records_in n 0 (drop left ws)) ≡ true)
+    by : (t : Bool) → leb left (length ws) ≡ t → is_found (cond t (records_in n 0 (drop left ws)) None) ≡ true → (left ≤ length ws) × (is_found (records_in n 0 (drop left ws)) ≡ true)
     by true q f = (leb-true left (length ws) q, f)
     by false q f = never f
 
@@ -177,7 +187,7 @@ front_found n (a ∷ b ∷ c ∷ d ∷ []) h e = never e
 front_found n (a ∷ b ∷ c ∷ d ∷ x ∷ []) h e = never e
 front_found n (a ∷ b ∷ c ∷ d ∷ x ∷ y ∷ ws) h e = by (head_ok a b) e
   where
-    by : (t : Bool) → is_found (cond t (records_in (suc n) (x + y) ws) Nothing) ≡ true → (6 + y + x ≤ length (a ∷ b ∷ c ∷ d ∷ x ∷ y ∷ ws)) × Follow (drop (6 + y + x) (a ∷ b ∷ c ∷ d ∷ x ∷ y ∷ ws))
+    by : (t : Bool) → is_found (cond t (records_in (suc n) (x + y) ws) None) ≡ true → (6 + y + x ≤ length (a ∷ b ∷ c ∷ d ∷ x ∷ y ∷ ws)) × Follow (drop (6 + y + x) (a ∷ b ∷ c ∷ d ∷ x ∷ y ∷ ws))
     by true f =
         let p = found_within (suc n) (x + y) ws f in
         let k : 6 + y + x ≡ 6 + (x + y) = omega arith in
@@ -225,7 +235,7 @@ features_short n zero (a ∷ b ∷ c ∷ d ∷ []) e = never e
 features_short n zero (a ∷ b ∷ c ∷ d ∷ x ∷ []) e = never e
 features_short n zero (a ∷ b ∷ c ∷ d ∷ x ∷ y ∷ ws) e = by (head_ok a b) e (features_short (suc n) (x + y) ws)
   where
-    by : (t : Bool) → is_found (cond t (records_in (suc n) (x + y) ws) Nothing) ≡ true → (is_found (records_in (suc n) (x + y) ws) ≡ true → length (feature_fields (x + y) ws) ≤ (length ws - (x + y)) * 12) → length (feature_fields 0 (a ∷ b ∷ c ∷ d ∷ x ∷ y ∷ ws)) ≤ (length (a ∷ b ∷ c ∷ d ∷ x ∷ y ∷ ws) - 0) * 12
+    by : (t : Bool) → is_found (cond t (records_in (suc n) (x + y) ws) None) ≡ true → (is_found (records_in (suc n) (x + y) ws) ≡ true → length (feature_fields (x + y) ws) ≤ (length ws - (x + y)) * 12) → length (feature_fields 0 (a ∷ b ∷ c ∷ d ∷ x ∷ y ∷ ws)) ≤ (length (a ∷ b ∷ c ∷ d ∷ x ∷ y ∷ ws) - 0) * 12
     by false f k = never f
     by true f k =
         let z : 6 + y + x ≡ 6 + (x + y) = omega arith in

@@ -8,6 +8,7 @@ use borrow.Author.Tests.{ne_eqb}
 use lib.Dec.{leb, eqb}
 use lib.ListN.{length, take, drop, get_or, length-append, length-take}
 use borrow.Rule.Slice.PartMut.{mid_of}
+use Rattle.std.specs.Prelude.{Some, None}
 use Rattle.wire.specs.declared.field.Field.{Field}
 use Rattle.wire.specs.declared.field.Field.TheVariants.{FeatureId, FeatureTags, FeatureType, FeatureGeometry}
 use Rattle.wire.specs.Varints.{varint}
@@ -16,7 +17,6 @@ use Rattle.promise.specs.Widened.{Wide}
 use Rattle.wire.specs.Fields.{varint_field, packed_field, varints}
 use Rattle.wire.proofs.Varints.{varint_ten}
 use Rattle.wire.proofs.Fields.{varint_field_short, delimited_long}
-use Rattle.table.specs.declared.Found.TheVariants.{At, Nothing}
 use Rattle.records.specs.Records.{head_ok, record_length}
 use Rattle.tile.specs.Features.{id_field, feature_message, record_message, record_size}
 
@@ -82,7 +82,7 @@ module _ (ws : List ℕ) (tags end x y : ℕ) (p : Wide (get_or ws 5 0) x) (q : 
   record_end h = omega (arith, p.same, q.same)
 
 -- where a whole record stands, what `records` finds its length to be is its size
-pub record_found : (ws : List ℕ) (n : ℕ) → record_length ws ≡ At n → record_size ws ≡ n
+pub record_found : (ws : List ℕ) (n : ℕ) → record_length ws ≡ Some n → record_size ws ≡ n
 record_found [] n e = absurd (let z : ◌≡◌ {A = ℕ} 0 1 = cc in omega arith)
 record_found (a ∷ []) n e = absurd (let z : ◌≡◌ {A = ℕ} 0 1 = cc in omega arith)
 record_found (a ∷ b ∷ []) n e = absurd (let z : ◌≡◌ {A = ℕ} 0 1 = cc in omega arith)
@@ -91,7 +91,7 @@ record_found (a ∷ b ∷ c ∷ d ∷ []) n e = absurd (let z : ◌≡◌ {A = �
 record_found (a ∷ b ∷ c ∷ d ∷ x ∷ []) n e = absurd (let z : ◌≡◌ {A = ℕ} 0 1 = cc in omega arith)
 record_found (a ∷ b ∷ c ∷ d ∷ x ∷ y ∷ ws) n e = by (head_ok a b) (leb (x + y) (length ws)) e
   where
-    by : (good whole : Bool) → cond good (cond whole (At (6 + x + y)) Nothing) Nothing ≡ At n → 6 + y + x ≡ n
+    by : (good whole : Bool) → cond good (cond whole (Some (6 + x + y)) None) None ≡ Some n → 6 + y + x ≡ n
     by true true f = let z : 6 + x + y ≡ n = cc in omega arith
     by true false f = absurd (let z : ◌≡◌ {A = ℕ} 0 1 = cc in omega arith)
     by false whole f = absurd (let z : ◌≡◌ {A = ℕ} 0 1 = cc in omega arith)

@@ -14,8 +14,7 @@ use Rattle.table.specs.Values.{values_in}
 use Rattle.records.specs.Records.{follow}
 use Rattle.records.proofs.Growing.{follow_one, one_whole}
 use Rattle.layer.specs.declared.Figures.{Figures}
-use Rattle.layer.specs.declared.Open.{Open}
-use Rattle.layer.specs.declared.Open.TheVariants.{Shut, Since}
+use Rattle.std.specs.Prelude.{Option, Some, None}
 use Rattle.layer.specs.declared.Layer.{Layer}
 use Rattle.layer.specs.Held.{Memory, Seen, seen, held_by}
 use Rattle.layer.specs.State.{valid, records_ok}
@@ -139,10 +138,10 @@ module _ (v : Seen) (long : length (take v.layer.name v.held.texts) ≡ v.layer.
   name_upto = omega (arith, long, ap length split, length-append before (take v.layer.name v.held.texts ++ after_name v.layer v.held), length-append (take v.layer.name v.held.texts) (after_name v.layer v.held), place)
 
 -- ---- of the lent lists, where the layer breaks no rule of STATE
-follow_open : (f : Open) (used : Figures) (ws : List ℕ) → length ws ≡ used.features → records_ok f used ws ≡ true → follow ws ≡ true
-follow_open Shut used ws l e = e
-follow_open (Since o) used ws l e =
-    let P = open_parts (Since o) o used ws refl e in
+follow_open : (f : Option Figures) (used : Figures) (ws : List ℕ) → length ws ≡ used.features → records_ok f used ws ≡ true → follow ws ≡ true
+follow_open None used ws l e = e
+follow_open (Some o) used ws l e =
+    let P = open_parts (Some o) o used ws refl e in
     let i : o.features ≤ length ws = omega (arith, within o used P.room, l) in
     rw (take-append-drop o.features ws) at (follow_one (take o.features ws) (drop o.features ws) P.before (sym (one_whole ws o.features i) ∙ P.last))
 

@@ -13,8 +13,7 @@ use lib.ListN.{length, take, drop, length-drop}
 use lib.Seq.{take-append-le, drop-append-le}
 use lib.Dec.{eqb, eqb-zero-suc, eqb-suc-zero, eqb-suc-suc}
 use borrow.Author.Tests.{le-leb, leb-true, eq-eqb, ne_eqb, eqb-true, eqb-false}
-use Rattle.table.specs.declared.Found.{Found}
-use Rattle.table.specs.declared.Found.TheVariants.{At}
+use Rattle.std.specs.Prelude.{Option, Some}
 use Rattle.table.specs.Texts.{inside, begins, same_text, text_of}
 use Rattle.table.specs.Keys.{find_key, keys_in}
 use Rattle.records.specs.Records.{is_found}
@@ -49,7 +48,7 @@ bytes_equal (x ∷ a) (y ∷ b) e =
     rw (q, bytes_equal a b p.1)
 
 -- ---- entries
-found_if : (t : Bool) (j : ℕ) (f : Found) → is_found (cond t (At j) f) ≡ cond t true (is_found f)
+found_if : (t : Bool) (j : ℕ) (f : Option ℕ) → is_found (cond t (Some j) f) ≡ cond t true (is_found f)
 found_if true j f = refl
 found_if false j f = refl
 

@@ -1,14 +1,14 @@
 -- What a tile that breaks no rule of STATE is: `parts` takes `valid_tile` apart, `whole` puts it together; and `valid_tile` at each return of `is_valid`.
 use Prim.Native.Nat.{ℕ, ◌*◌, ◌≤◌, ◌<◌}
-use mathlib.Core.Path.{◌≡◌}
+use mathlib.Core.Path.{◌≡◌, refl, ap, ◌∙◌}
 use mathlib.Core.Bool.{Bool, true, false, ◌&&◌}
 use mathlib.Core.List.{List}
 use native.Mathlib.Omega.{arith}
 use lib.ListN.{length, take}
 use lib.Dec.{leb}
 use borrow.Author.Tests.{le-leb, lt-leb, leb-true}
-use Rattle.table.specs.declared.Found.{Found}
-use Rattle.table.specs.declared.Found.TheVariants.{At, Nothing}
+use Rattle.std.specs.Prelude.{Option, Some, None, is_some}
+use Rattle.records.specs.Records.{is_found}
 use Rattle.table.specs.Keys.{keys_in, find_key}
 use Rattle.layer.proofs.Fitting.{both, smaller_le}
 use Rattle.tile.specs.declared.Tile.{Tile}
@@ -65,9 +65,10 @@ module _ (t : Tile) (ns bs : List ℕ) where
       valid_is k r g = rw (← e, le-leb t.used room h, ← f, le-leb t.layers entries k) g
 
   -- ---- `has_name`
-  module _ (name : List ℕ) (f : Found) (g : f ≡ find_key 0 (take (t.layers * 2) ns) (take t.used bs) name) where
-    pub is_named : (j : ℕ) → f ≡ At j → true ≡ has_name t (lists ns bs) name
-    is_named j e = rw (← g, e)
+  module _ (name : List ℕ) (f : Option ℕ) (g : f ≡ find_key 0 (take (t.layers * 2) ns) (take t.used bs) name) where
+    found : (f : Option ℕ) → is_some f ≡ is_found f
+    found (Some j) = refl
+    found None = refl
 
-    pub not_named : f ≡ Nothing → false ≡ has_name t (lists ns bs) name
-    not_named e = rw (← g, e)
+    pub is_named : (r : Bool) → r ≡ is_some f → r ≡ has_name t (lists ns bs) name
+    is_named r e = e ∙ found f ∙ ap is_found g

@@ -1,16 +1,13 @@
 -- Document 01's number and values for each answer of a tile's calls: the tile after the call, or "its number, count zero and the given state".
-use Rattle.std.specs.Prelude.{ℕ, List, [], ◌∷◌}
+use Rattle.std.specs.Prelude.{ℕ, Result, Ok, Err, List, [], ◌∷◌}
 use Rattle.refusal.specs.declared.Refusal.{Refusal}
+use Rattle.refusal.specs.declared.Refused.{Refused}
 use Rattle.refusal.specs.Said.{Said, accepted, refused}
 use Rattle.tile.specs.declared.Tile.{Tile}
-use Rattle.tile.specs.declared.Added.{Added}
-use Rattle.tile.specs.declared.Added.TheVariants.{Done, Refused as NotAdded}
-use Rattle.tile.specs.declared.Counted.{Counted}
-use Rattle.tile.specs.declared.Counted.TheVariants.{Is, Refused as NotCounted}
 
-abbrev pub said_tile : Added → Said Tile
-said_tile (Done t) = accepted t
-said_tile (NotAdded r t) = refused r t
+abbrev pub said_tile : Result Tile (Refused Tile) → Said Tile
+said_tile (Ok t) = accepted t
+said_tile (Err e) = refused e.refusal e.kept
 
 -- what a question tells, and the tile that a refusal gives back; an accepted question leaves the tile with its caller
 pub record Told : Type 0 where
@@ -23,6 +20,6 @@ tells n = accepted (record { told = n; given = [] })
 abbrev pub tells_not : Refusal → Tile → Said Told
 tells_not r t = refused r (record { told = 0; given = t ∷ [] })
 
-abbrev pub said_counted : Counted → Said Told
-said_counted (Is n) = tells n
-said_counted (NotCounted r t) = tells_not r t
+abbrev pub said_counted : Result ℕ (Refused Tile) → Said Told
+said_counted (Ok n) = tells n
+said_counted (Err e) = tells_not e.refusal e.kept

@@ -1,8 +1,7 @@
 -- MVT's message Layer: name 1, feature 2, key 3, value 4, extent 5, version 15 (2); fields in ascending number, name, extent and version always. And the
 -- layer as a field of the tile.
-use Rattle.std.specs.Prelude.{ℕ, ◌+◌, false, ◌≡◌, refl, List, [], ◌∷◌, ◌++◌, length}
+use Rattle.std.specs.Prelude.{ℕ, ◌+◌, false, None, ◌≡◌, refl, List, [], ◌∷◌, ◌++◌, length}
 use Rattle.layer.specs.declared.Layer.{Layer}
-use Rattle.layer.specs.declared.Open.TheVariants.{Shut}
 use Rattle.layer.specs.Held.{Memory, mem, Seen, seen}
 use Rattle.wire.specs.declared.field.Field.TheVariants.{TileLayer, LayerName, LayerExtent, LayerVersion}
 use Rattle.wire.specs.Varints.{varint}
@@ -34,7 +33,7 @@ name_at v = length (varint_field TileLayer (length (layer_bytes v.layer v.held))
 
 -- ---- document 01's tile: extent 4096, layer "a" without features
 pub empty_layer : Layer
-empty_layer = record { extent = 4096; strict = false; name = 1; used = record { keys = 0; values = 0; texts = 1; features = 0 }; feature = Shut }
+empty_layer = record { extent = 4096; strict = false; name = 1; used = record { keys = 0; values = 0; texts = 1; features = 0 }; feature = None }
 
 pub empty_layer_lem : layer_field (seen empty_layer (mem [] [] (97 ∷ []) [])) ≡ 26 ∷ 8 ∷ 10 ∷ 1 ∷ 97 ∷ 40 ∷ 128 ∷ 32 ∷ 120 ∷ 2 ∷ []
 unfolding empty_layer layer_field layer_bytes text_field delimited varint_field head varint

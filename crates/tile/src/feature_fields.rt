@@ -36,6 +36,7 @@ pub(crate) fn features_size(features: &[u32]) -> usize
 {
     let mut i = 0;
     let mut size = 0;
+    // Counted by hand: how many words a record takes stands in the record, so the step differs from turn to turn.
     while i < features.len() {
         let more = field_size(&features[i..]);
         let words = record_size(&features[i..]);
@@ -51,6 +52,7 @@ pub(crate) fn put_features(features: &[u32], out: &mut [u8]) -> usize
 {
     let mut i = 0;
     let mut at = 0;
+    // Counted by hand: how many words a record takes stands in the record, so the step differs from turn to turn.
     while i < features.len() {
         let count = put_field(&features[i..], &mut out[at..]);
         let words = record_size(&features[i..]);

@@ -30,12 +30,11 @@ pub(crate) fn keys_size(texts: &[u8], keys: &[u32]) -> usize
     requires { Writable (keys_in (length texts.now) keys.now ≡ true) (key_fields texts.now keys.now) max_size }
     ensures { result ≡ length (key_fields texts.now keys.now) }
 {
-    let mut i = 0;
+    let (entries, _) = keys.as_chunks::<2>();
     let mut size = 0;
-    while i < keys.len() {
-        let more = field_size(texts, keys[i], keys[i + 1]);
+    for e in entries {
+        let more = field_size(texts, e[0], e[1]);
         size += more;
-        i += 2;
     }
     size
 }
@@ -44,12 +43,11 @@ pub(crate) fn put_keys(texts: &[u8], keys: &[u32], out: &mut [u8]) -> usize
     requires { Writable (keys_in (length texts.now) keys.now ≡ true) (key_fields texts.now keys.now) (length out.old) }
     ensures { Gives (put (key_fields texts.now keys.now) out.old) result out.new }
 {
-    let mut i = 0;
+    let (entries, _) = keys.as_chunks::<2>();
     let mut at = 0;
-    while i < keys.len() {
-        let count = put_field(texts, keys[i], keys[i + 1], &mut out[at..]);
+    for e in entries {
+        let count = put_field(texts, e[0], e[1], &mut out[at..]);
         at += count;
-        i += 2;
     }
     at
 }

@@ -25,9 +25,8 @@ mod value_fields;
 mod layer_message; // the message of a layer, and the layer as a field of the tile
 
 use crate::layer_message::{held_size, put_layer};
-use layer::{Created, Layer};
-use refusal::Refusal;
-use table::Found;
+use layer::Layer;
+use refusal::{Refusal, Refused};
 use wire::field::Field;
 use wire::head::varint_field_size;
 
@@ -40,18 +39,10 @@ pub struct Tile {
 }
 
 // What adding a layer answers: the tile after it, or the refusal and the tile as it was given.
-#[derive(Clone, Copy)]
-pub enum Added {
-    Done(Tile),
-    Refused(Refusal, Tile),
-}
+pub type Added = Result<Tile, Refused<Tile>>;
 
 // What a call answers that asks for a number.
-#[derive(Clone, Copy)]
-pub enum Counted {
-    Is(usize),
-    Refused(Refusal, Tile),
-}
+pub type Counted = Result<usize, Refused<Tile>>;
 
 impl Tile {
     pub const MAX_BYTES: usize = 4294967295;
@@ -75,7 +66,7 @@ impl Tile {
         ensures { result ≡ fresh_tile extent }
     {
         Tile {
-            extent: extent,
+            extent,
             used: 0,
             layers: 0,
         }
@@ -105,14 +96,14 @@ impl Tile {
     }
 
     // A layer of the tile's extent, without features.
-    pub fn create_layer(self, name: &[u8], texts: &mut [u8]) -> Created
+    pub fn create_layer(self, name: &[u8], texts: &mut [u8]) -> Result<Layer, Refusal>
         ensures { Gives (created name.now self.extent texts.old) (said_created result) texts.new }
     {
         Layer::new(name, self.extent, texts)
     }
 
     // The same, strict.
-    pub fn create_strict_layer(self, name: &[u8], texts: &mut [u8]) -> Created
+    pub fn create_strict_layer(self, name: &[u8], texts: &mut [u8]) -> Result<Layer, Refusal>
         ensures { Gives (created_strict name.now self.extent texts.old) (said_created result) texts.new }
     {
         Layer::new_strict(name, self.extent, texts)
@@ -125,10 +116,7 @@ impl Tile {
     {
         let n = self.layers * 2;
         let used = self.used;
-        match table::key_pos(&names[..n], &bytes[..used], name) {
-            Found::At(_) => true,
-            Found::Nothing => false,
-        }
+        table::key_pos(&names[..n], &bytes[..used], name).is_some()
     }
 
     // A layer behind the others, if it has room: what adding one does once it may.
@@ -151,20 +139,26 @@ impl Tile {
         let lead = varint_field_size(Field::TileLayer, size as u64);
         let grown = lead + size;
         if !runs::has_room(used, grown, Tile::byte_room(bytes.len())) {
-            return Added::Refused(Refusal::Room, self);
+            return Err(Refused {
+                refusal: Refusal::Room,
+                kept: self,
+            });
         }
         if !runs::has_room(layers, 1, Tile::name_room(names.len())) {
-            return Added::Refused(Refusal::Room, self);
+            return Err(Refused {
+                refusal: Refusal::Room,
+                kept: self,
+            });
         }
         let place = lead + varint_field_size(Field::LayerName, s.name as u64);
         let start = used + place;
         let name = [start as u32, s.name as u32];
-        runs::lay_words(&name, names, layers * 2);
+        runs::lay(&name, names, layers * 2);
         put_layer(s, size, keys, values, texts, features, &mut bytes[used..]);
-        Added::Done(Tile {
-            extent: self.extent,
+        Ok(Tile {
             used: used + grown,
             layers: layers + 1,
+            ..self
         })
     }
 
@@ -182,21 +176,34 @@ impl Tile {
         ensures { Gives (add_layer self (seen s (entered keys values texts features)) (tile_entered (mutable names) (mutable bytes))) (said_tile result) (tile_left (mutable names) (mutable bytes)) }
     {
         if !self.is_valid(&names[..], &bytes[..]) {
-            return Added::Refused(Refusal::State, self);
+            return Err(Refused {
+                refusal: Refusal::State,
+                kept: self,
+            });
         }
         if !layer::state::is_valid(s, keys, values, texts, features) {
-            return Added::Refused(Refusal::State, self);
+            return Err(Refused {
+                refusal: Refusal::State,
+                kept: self,
+            });
         }
-        let f = s.feature;
-        if !f.is_shut() {
-            return Added::Refused(Refusal::Turn, self);
+        if !s.is_shut() {
+            return Err(Refused {
+                refusal: Refusal::Turn,
+                kept: self,
+            });
         }
         if s.extent != self.extent {
-            return Added::Refused(Refusal::Extent, self);
+            return Err(Refused {
+                refusal: Refusal::Extent,
+                kept: self,
+            });
         }
-        let len = s.name;
-        if self.has_name(&texts[..len], &names[..], &bytes[..]) {
-            return Added::Refused(Refusal::Name, self);
+        if self.has_name(&texts[..s.name], &names[..], &bytes[..]) {
+            return Err(Refused {
+                refusal: Refusal::Name,
+                kept: self,
+            });
         }
         self.append(s, keys, values, texts, features, names, bytes)
     }
@@ -213,10 +220,13 @@ impl Tile {
         ensures { said_counted result ≡ layer_size self (seen s (entered keys values texts features)) }
     {
         if !layer::state::is_valid(s, keys, values, texts, features) {
-            return Counted::Refused(Refusal::State, self);
+            return Err(Refused {
+                refusal: Refusal::State,
+                kept: self,
+            });
         }
         let size = held_size(s, keys, values, texts, features);
-        Counted::Is(varint_field_size(Field::TileLayer, size as u64) + size)
+        Ok(varint_field_size(Field::TileLayer, size as u64) + size)
     }
 
     // A figure of the tile, if the tile breaks no rule of STATE.
@@ -224,9 +234,12 @@ impl Tile {
         ensures { said_counted result ≡ counted self (tile_entered names bytes) figure }
     {
         if !self.is_valid(names, bytes) {
-            return Counted::Refused(Refusal::State, self);
+            return Err(Refused {
+                refusal: Refusal::State,
+                kept: self,
+            });
         }
-        Counted::Is(figure)
+        Ok(figure)
     }
 
     // How many layers the tile has.

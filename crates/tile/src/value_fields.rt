@@ -32,12 +32,11 @@ pub(crate) fn values_size(texts: &[u8], values: &[u32]) -> usize
     requires { Writable (values_in (length texts.now) values.now ≡ true) (value_fields texts.now values.now) max_size }
     ensures { result ≡ length (value_fields texts.now values.now) }
 {
-    let mut i = 0;
+    let (entries, _) = values.as_chunks::<3>();
     let mut size = 0;
-    while i < values.len() {
-        let more = field_size(texts, values[i], values[i + 1], values[i + 2]);
+    for e in entries {
+        let more = field_size(texts, e[0], e[1], e[2]);
         size += more;
-        i += 3;
     }
     size
 }
@@ -46,18 +45,11 @@ pub(crate) fn put_values(texts: &[u8], values: &[u32], out: &mut [u8]) -> usize
     requires { Writable (values_in (length texts.now) values.now ≡ true) (value_fields texts.now values.now) (length out.old) }
     ensures { Gives (put (value_fields texts.now values.now) out.old) result out.new }
 {
-    let mut i = 0;
+    let (entries, _) = values.as_chunks::<3>();
     let mut at = 0;
-    while i < values.len() {
-        let count = put_field(
-            texts,
-            values[i],
-            values[i + 1],
-            values[i + 2],
-            &mut out[at..],
-        );
+    for e in entries {
+        let count = put_field(texts, e[0], e[1], e[2], &mut out[at..]);
         at += count;
-        i += 3;
     }
     at
 }

@@ -9,37 +9,35 @@ use borrow.Author.Tests.{not-true, not-false, eq-eqb, ne_eqb}
 use lib.ListN.{length, take}
 use Rattle.messages.specs.declared.key.Kind.TheVariants.{Tile as tile, Layer as layer}
 use Rattle.messages.specs.declared.field.FieldAt.{FieldAt}
-use Rattle.messages.specs.declared.field.NextField.{NextField}
-use Rattle.messages.specs.declared.field.NextField.TheVariants.{Is as is, Faulty as faulty}
 use Rattle.messages.specs.Fields.{field_at, before, fields_from}
 use Rattle.messages.specs.Tiles.{holds, all_hold, if_read, nested, is_good}
 use Rattle.messages.specs.Meaning.{each_of, or_nothing}
 use Rattle.messages.proofs.Fields.{field_ends, fields_step, fields_end}
 use Rattle.messages.proofs.Following.{field_right}
-use Rattle.tile_check.specs.declared.messages_in.Layers.{Layers}
-use Rattle.tile_check.specs.declared.messages_in.Layers.TheVariants.{Are, Faulty}
 use Rattle.tile_check.specs.Layers.{layers_of}
 use Rattle.tile_check.proofs.Asked.{tile_others, layers_ask}
+use Rattle.std.specs.Prelude.{Option as Maybe, Some, None}
+use Rattle.messages.specs.Fields.{NextField}
 
 -- the layers among some fields, where those can be read and hold what they should; and so many before them
-abbrev among : List ℕ → Option (List FieldAt) → Layers
-among src fs = cond (if_read (nested 2) tile src fs) (Are (length (each_of 26 (or_nothing fs)))) Faulty
+abbrev among : List ℕ → Option (List FieldAt) → Maybe ℕ
+among src fs = cond (if_read (nested 2) tile src fs) (Some (length (each_of 26 (or_nothing fs)))) None
 
-abbrev and : ℕ → Layers → Layers
-and n (Are k) = Are (n + k)
-and n Faulty = Faulty
+abbrev and : ℕ → Maybe ℕ → Maybe ℕ
+and n (Some k) = Some (n + k)
+and n None = None
 
-and_none : (l : Layers) → l ≡ and 0 l
-and_none (Are k) = ap Are (omega arith)
-and_none Faulty = refl
+and_none : (l : Maybe ℕ) → l ≡ and 0 l
+and_none (Some k) = ap Some (omega arith)
+and_none None = refl
 
-and_more : (n m k : ℕ) (l : Layers) → n + m ≡ k → and n (and m l) ≡ and k l
-and_more n m k (Are j) e = let s : n + (m + j) ≡ k + j = omega arith in rw s refl
-and_more n m k Faulty e = refl
+and_more : (n m k : ℕ) (l : Maybe ℕ) → n + m ≡ k → and n (and m l) ≡ and k l
+and_more n m k (Some j) e = let s : n + (m + j) ≡ k + j = omega arith in rw s refl
+and_more n m k None e = refl
 
 -- a field before others: a layer, or something else
 module _ (src : List ℕ) (f : FieldAt) where
-  bad_field : (fs : Option (List FieldAt)) → holds (nested 2) tile src f ≡ false → among src (before f fs) ≡ Faulty
+  bad_field : (fs : Option (List FieldAt)) → holds (nested 2) tile src f ≡ false → among src (before f fs) ≡ None
   bad_field none b = refl
   bad_field (some fs) b = rw b refl
 
@@ -47,8 +45,8 @@ module _ (src : List ℕ) (f : FieldAt) where
   layer_field none b k = refl
   layer_field (some fs) b k = rw (b, eq-eqb f.key 26 k) (by (all_hold (nested 2) tile src fs))
     where
-      by : (t : Bool) → cond t (Are (suc (length (each_of 26 fs)))) Faulty ≡ and 1 (cond t (Are (length (each_of 26 fs))) Faulty)
-      by true = ap Are (omega arith)
+      by : (t : Bool) → cond t (Some (suc (length (each_of 26 fs)))) None ≡ and 1 (cond t (Some (length (each_of 26 fs))) None)
+      by true = ap Some (omega arith)
       by false = refl
 
   other_field : (fs : Option (List FieldAt)) → holds (nested 2) tile src f ≡ true → (f.key ≡ 26 → ⊥) → among src (before f fs) ≡ among src fs
@@ -65,14 +63,14 @@ unfolding layers_of is_good nested
 counted_start src = record { few = omega arith; rest = and_none (among src (fields_from tile 0 src)) }
 
 module _ (src : List ℕ) (at n : ℕ) (C : Counted src at n) where
-  pub counted_end : length src ≤ at → Are n ≡ layers_of src
+  pub counted_end : length src ≤ at → Some n ≡ layers_of src
   counted_end h = let s : n + 0 ≡ n = omega arith in sym (C.rest ∙ rw (fields_end src tile at h, s) refl)
 
   module _ (h : at < length src) (r : NextField) (g : r ≡ field_at tile at src) where
-    pub counted_faulty : r ≡ faulty → Faulty ≡ layers_of src
+    pub counted_faulty : r ≡ None → None ≡ layers_of src
     counted_faulty e = sym (C.rest ∙ rw (fields_step src tile at h, ← g, e) refl)
 
-    module _ (f : FieldAt) (e : r ≡ is f) where
+    module _ (f : FieldAt) (e : r ≡ Some f) where
       step : layers_of src ≡ and n (among src (before f (fields_from tile f.end src)))
       step = C.rest ∙ rw (fields_step src tile at h, ← g, e) refl
 
@@ -85,7 +83,7 @@ module _ (src : List ℕ) (at n : ℕ) (C : Counted src at n) where
           record { few = omega (arith, later, C.few); rest = step ∙ ap (and n) (other_field src f (fields_from tile f.end src) t k) }
 
       module _ (k : f.key ≡ 26) (t : Bool) (w : t ≡ nested 2 layer f.start (take f.end src)) where
-        pub layer_bad : not t ≡ true → Faulty ≡ layers_of src
+        pub layer_bad : not t ≡ true → None ≡ layers_of src
         layer_bad b =
             let q = layers_ask (nested 2) f.start (take f.end src) f.key k ∙ sym w ∙ not-true t b in
             sym (step ∙ ap (and n) (bad_field src f (fields_from tile f.end src) q))

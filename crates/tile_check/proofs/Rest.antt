@@ -11,20 +11,22 @@ use lib.ListN.{length, take}
 use lib.Seq.{length-take-le}
 use Rattle.messages.specs.declared.key.Kind.{Kind}
 use Rattle.messages.specs.declared.key.Kind.TheVariants.{Layer as layer, Feature as feature, Value as value}
+use Rattle.messages.specs.declared.key.Follows.TheVariants.{Wrong as wrong}
 use Rattle.messages.specs.declared.field.FieldAt.{FieldAt}
-use Rattle.messages.specs.declared.field.NextField.{NextField}
-use Rattle.messages.specs.declared.field.NextField.TheVariants.{Is as is, Faulty as faulty}
 use Rattle.messages.specs.Fields.{field_at, before, fields_from, numbers_from}
-use Rattle.messages.specs.Tiles.{is_read, holds, if_read, nested}
+use Rattle.messages.specs.Keys.{follows}
+use Rattle.messages.specs.Tiles.{is_read, is_content, holds, if_read, nested}
 use Rattle.messages.proofs.Fields.{field_ends, fields_step, fields_end}
 use Rattle.messages.proofs.Following.{field_right}
 use Rattle.tile_check.proofs.Asked.{value_others, feature_others, layer_others, tags_ask, geometry_asks, features_ask, values_ask}
+use Rattle.std.specs.Prelude.{Some, None}
+use Rattle.messages.specs.Fields.{NextField}
 
 pub record Rest (depth : ℕ) (kind : Kind) (src : List ℕ) (start at : ℕ) : Type 0 where
   pub rest : nested (suc depth) kind start src ≡ nested (suc depth) kind at src
 
 -- ---- a field takes bytes that are there
-module _ (kind : Kind) (src : List ℕ) (at : ℕ) (r : NextField) (g : r ≡ field_at kind at src) (f : FieldAt) (e : r ≡ is f) where
+module _ (kind : Kind) (src : List ℕ) (at : ℕ) (r : NextField) (g : r ≡ field_at kind at src) (f : FieldAt) (e : r ≡ Some f) where
   pub field_less : length src - f.end < length src - at
   field_less = let n = field_ends kind (sym g ∙ e) in omega (arith, n.later, n.inside)
 
@@ -50,64 +52,52 @@ module _ (depth : ℕ) (kind : Kind) (src : List ℕ) where
     rest_end h = sym (R.rest ∙ rw (fields_end src kind at h) refl)
 
     module _ (h : at < length src) (r : NextField) (g : r ≡ field_at kind at src) where
-      pub rest_faulty : r ≡ faulty → false ≡ nested (suc depth) kind start src
+      pub rest_faulty : r ≡ None → false ≡ nested (suc depth) kind start src
       unfolding nested
       rest_faulty e = sym (R.rest ∙ rw (fields_step src kind at h, ← g, e) refl)
 
-      module _ (f : FieldAt) (e : r ≡ is f) where
+      module _ (f : FieldAt) (e : r ≡ Some f) where
         step : nested (suc depth) kind start src ≡ cond (holds (nested depth) kind src f) (nested (suc depth) kind f.end src) false
         unfolding nested
         step = R.rest ∙ rw (fields_step src kind at h, ← g, e) (front (nested depth) kind src f (fields_from kind f.end src))
 
-        pub rest_bad : holds (nested depth) kind src f ≡ false → false ≡ nested (suc depth) kind start src
-        rest_bad b = sym (step ∙ rw b refl)
+        -- no field that can be read has a wrong key
+        pub rest_right : follows kind f.key ≡ wrong → ⊥
+        rest_right = field_right kind at src f (sym g ∙ e)
 
-        pub rest_more : holds (nested depth) kind src f ≡ true → Rest depth kind src start f.end
-        rest_more b = record { rest = step ∙ rw b refl }
+        module _ (t : Bool) (w : t ≡ holds (nested depth) kind src f) where
+          pub rest_bad : not t ≡ true → false ≡ nested (suc depth) kind start src
+          rest_bad b = let q = sym w ∙ not-true t b in sym (step ∙ rw q refl)
 
--- ---- a value
-module _ (src : List ℕ) (start at : ℕ) (R : Rest 0 value src start at) (h : at < length src) (r : NextField) (g : r ≡ field_at value at src) (f : FieldAt) (e : r ≡ is f) where
-  pub value_more : Rest 0 value src start f.end
-  value_more = rest_more 0 value src start at R h r g f e (value_others (nested 0) f.start (take f.end src) f.key (field_right value at src f (sym g ∙ e)))
+          pub rest_more : not t ≡ false → Rest depth kind src start f.end
+          rest_more b = let q = sym w ∙ not-false t b in record { rest = step ∙ rw q refl }
 
--- ---- a feature
-module _ (src : List ℕ) (start at : ℕ) (R : Rest 0 feature src start at) (h : at < length src) (r : NextField) (g : r ≡ field_at feature at src) (f : FieldAt) (e : r ≡ is f) where
-  either : (s t : Bool) → eqb f.key 18 ≡ s → eqb f.key 34 ≡ t → (s || t) ≡ true → holds (nested 0) feature src f ≡ is_read (numbers_from f.start (take f.end src))
-  either true t a b c = tags_ask (nested 0) f.start (take f.end src) f.key (eqb-true f.key 18 a)
-  either false true a b c = geometry_asks (nested 0) f.start (take f.end src) f.key (eqb-true f.key 34 b)
+-- ---- what a field of a value, a feature and a layer holds
+module _ (at : ℕ) (src : List ℕ) (key : ℕ) where
+  pub value_holds : (follows value key ≡ wrong → ⊥) → true ≡ is_content (nested 0) (follows value key) at src
+  value_holds h = sym (value_others (nested 0) at src key h)
+
+  either : (s t : Bool) → eqb key 18 ≡ s → eqb key 34 ≡ t → (s || t) ≡ true → is_content (nested 0) (follows feature key) at src ≡ is_read (numbers_from at src)
+  either true t a b c = tags_ask (nested 0) at src key (eqb-true key 18 a)
+  either false true a b c = geometry_asks (nested 0) at src key (eqb-true key 34 b)
   either false false a b c = absurd (let z : ◌≡◌ {A = ℕ} 0 1 = cc in omega arith)
 
-  neither : (s t : Bool) → eqb f.key 18 ≡ s → eqb f.key 34 ≡ t → (s || t) ≡ false → holds (nested 0) feature src f ≡ true
-  neither true t a b c = absurd (let z : ◌≡◌ {A = ℕ} 0 1 = cc in omega arith)
-  neither false true a b c = absurd (let z : ◌≡◌ {A = ℕ} 0 1 = cc in omega arith)
-  neither false false a b c =
-      feature_others (nested 0) f.start (take f.end src) f.key (eqb-false f.key 18 a) (eqb-false f.key 34 b) (field_right feature at src f (sym g ∙ e))
+  neither : (follows feature key ≡ wrong → ⊥) → (s t : Bool) → eqb key 18 ≡ s → eqb key 34 ≡ t → (s || t) ≡ false → is_content (nested 0) (follows feature key) at src ≡ true
+  neither h true t a b c = absurd (let z : ◌≡◌ {A = ℕ} 0 1 = cc in omega arith)
+  neither h false true a b c = absurd (let z : ◌≡◌ {A = ℕ} 0 1 = cc in omega arith)
+  neither h false false a b c = feature_others (nested 0) at src key (eqb-false key 18 a) (eqb-false key 34 b) h
 
-  pub feature_more : (eqb f.key 18 || eqb f.key 34) ≡ false → Rest 0 feature src start f.end
-  feature_more n = rest_more 0 feature src start at R h r g f e (neither (eqb f.key 18) (eqb f.key 34) refl refl n)
+  pub list_holds : (eqb key 18 || eqb key 34) ≡ true → (t : Bool) → t ≡ is_read (numbers_from at src) → t ≡ is_content (nested 0) (follows feature key) at src
+  list_holds y t w = w ∙ sym (either (eqb key 18) (eqb key 34) refl refl y)
 
-  module _ (y : (eqb f.key 18 || eqb f.key 34) ≡ true) (t : Bool) (w : t ≡ is_read (numbers_from f.start (take f.end src))) where
-    pub list_bad : not t ≡ true → false ≡ nested 1 feature start src
-    list_bad n = rest_bad 0 feature src start at R h r g f e (either (eqb f.key 18) (eqb f.key 34) refl refl y ∙ sym w ∙ not-true t n)
+  pub feature_holds : (eqb key 18 || eqb key 34) ≡ false → (follows feature key ≡ wrong → ⊥) → true ≡ is_content (nested 0) (follows feature key) at src
+  feature_holds n h = sym (neither h (eqb key 18) (eqb key 34) refl refl n)
 
-    pub list_more : not t ≡ false → Rest 0 feature src start f.end
-    list_more n = rest_more 0 feature src start at R h r g f e (either (eqb f.key 18) (eqb f.key 34) refl refl y ∙ sym w ∙ not-false t n)
+  pub features_hold : key ≡ 18 → (t : Bool) → t ≡ nested 1 feature at src → t ≡ is_content (nested 1) (follows layer key) at src
+  features_hold k t w = w ∙ sym (features_ask (nested 1) at src key k)
 
--- ---- a layer
-module _ (src : List ℕ) (start at : ℕ) (R : Rest 1 layer src start at) (h : at < length src) (r : NextField) (g : r ≡ field_at layer at src) (f : FieldAt) (e : r ≡ is f) where
-  pub layer_more : (f.key ≡ 18 → ⊥) → (f.key ≡ 34 → ⊥) → Rest 1 layer src start f.end
-  layer_more m n = rest_more 1 layer src start at R h r g f e (layer_others (nested 1) f.start (take f.end src) f.key m n (field_right layer at src f (sym g ∙ e)))
+  pub values_hold : key ≡ 34 → (t : Bool) → t ≡ nested 1 value at src → t ≡ is_content (nested 1) (follows layer key) at src
+  values_hold k t w = w ∙ sym (values_ask (nested 1) at src key k)
 
-  module _ (k : f.key ≡ 18) (t : Bool) (w : t ≡ nested 1 feature f.start (take f.end src)) where
-    pub feature_bad : not t ≡ true → false ≡ nested 2 layer start src
-    feature_bad n = rest_bad 1 layer src start at R h r g f e (features_ask (nested 1) f.start (take f.end src) f.key k ∙ sym w ∙ not-true t n)
-
-    pub feature_good : not t ≡ false → Rest 1 layer src start f.end
-    feature_good n = rest_more 1 layer src start at R h r g f e (features_ask (nested 1) f.start (take f.end src) f.key k ∙ sym w ∙ not-false t n)
-
-  module _ (k : f.key ≡ 34) (t : Bool) (w : t ≡ nested 1 value f.start (take f.end src)) where
-    pub value_bad : not t ≡ true → false ≡ nested 2 layer start src
-    value_bad n = rest_bad 1 layer src start at R h r g f e (values_ask (nested 1) f.start (take f.end src) f.key k ∙ sym w ∙ not-true t n)
-
-    pub value_good : not t ≡ false → Rest 1 layer src start f.end
-    value_good n = rest_more 1 layer src start at R h r g f e (values_ask (nested 1) f.start (take f.end src) f.key k ∙ sym w ∙ not-false t n)
+  pub layer_holds : (key ≡ 18 → ⊥) → (key ≡ 34 → ⊥) → (follows layer key ≡ wrong → ⊥) → true ≡ is_content (nested 1) (follows layer key) at src
+  layer_holds m n h = sym (layer_others (nested 1) at src key m n h)

@@ -6,27 +6,21 @@ ghost use Rattle.std.specs.Prelude.{◌≡◌};
 ghost use Rattle.messages.specs.Tiles.{Answers};
 ghost use Rattle.tile_check.specs.Checking.{checked};
 
-use crate::messages_in::{Layers, layers_in};
+use crate::messages_in::layers_in;
 use refusal::{Fault, Refusal};
 use scanning::place::place_of;
 
 mod messages_in; // message by message, each to its end
 
-#[derive(Clone, Copy)]
-pub enum Checked {
-    // A good tile, of so many layers.
-    Good(usize),
-    Refused(Fault),
-}
-
-pub fn check(src: &[u8]) -> Checked
+// How many layers a good tile has, or where the fault is.
+pub fn check(src: &[u8]) -> Result<usize, Fault>
     ensures { Answers src.now (checked src.now) result }
 {
-    match layers_in(src) {
-        Layers::Are(n) => Checked::Good(n),
-        Layers::Faulty => Checked::Refused(Fault {
+    let Some(n) = layers_in(src) else {
+        return Err(Fault {
             refusal: Refusal::Wire,
             place: place_of(src),
-        }),
-    }
+        });
+    };
+    Ok(n)
 }

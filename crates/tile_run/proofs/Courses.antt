@@ -11,39 +11,31 @@ use Rattle.promise.proofs.Laying.{lay_nothing, lay_next, lay_one}
 use Rattle.refusal.specs.declared.Refusal.{Refusal}
 use Rattle.refusal.specs.declared.Refusal.TheVariants.{Room}
 use Rattle.refusal.specs.Refusals.{number_of}
+use Rattle.std.specs.Prelude.{Option, Some, None, Ok, Err}
 use Rattle.refusal.specs.Said.{Said, accepted, refused}
 use Rattle.refusal.proofs.Laws.{one_refusal, never_both}
 use Rattle.script.specs.declared.Op.{Op}
-use Rattle.script.specs.declared.Next.{Next}
-use Rattle.script.specs.declared.Next.TheVariants.{Is, Bad}
 use Rattle.script.specs.Script.{operation}
 use Rattle.script.proofs.Ends.{Reaches, operation_ends}
-use Rattle.tile_run.specs.declared.hand.Hand.TheVariants.{Nothing}
 use Rattle.tile.specs.declared.Tile.{Tile}
 use Rattle.tile.specs.Tiles.{fresh_tile}
 use Rattle.tile_run.specs.declared.performing.Work.{Work}
-use Rattle.tile_run.specs.declared.performing.Performed.{Performed}
-use Rattle.tile_run.specs.declared.performing.Performed.TheVariants.{Refused as NotDone}
-use Rattle.tile_run.specs.Operations.{Lists, said_performed, performed}
-use Rattle.tile_run.specs.declared.Step.{Step}
-use Rattle.tile_run.specs.declared.Step.TheVariants.{Is as StepIs, Bad as StepBad}
-use Rattle.tile_run.specs.declared.Ran.{Ran}
-use Rattle.tile_run.specs.declared.Ran.TheVariants.{Done, Refused}
-use Rattle.tile_run.specs.Running.{Course, ended, stopped, before, goes, ran_from, stepped_by, stepped, RunLists, run_lists, Counts, counts, said_ran, course_in, begins, course, ran_script}
+use Rattle.tile_run.specs.Operations.{Performed, Lists, said_performed, performed}
+use Rattle.tile_run.specs.Running.{Step, Ran, Course, ended, stopped, before, goes, ran_from, stepped_by, stepped, RunLists, run_lists, Counts, counts, said_ran, course_in, begins, course, ran_script}
 
 -- ---- one step
-module _ (bytes ns : List ℕ) (at : ℕ) (w : Work) (m : Lists) (r : Next) (e : r ≡ operation ns at) where
-  pub step_bad : r ≡ Bad → Gives (stepped bytes ns at w m) StepBad m
+module _ (bytes ns : List ℕ) (at : ℕ) (w : Work) (m : Lists) (r : Option (Op × ℕ)) (e : r ≡ operation ns at) where
+  pub step_bad : r ≡ None → Gives (stepped bytes ns at w m) None m
   unfolding stepped
-  step_bad f = let g : operation ns at ≡ Bad = sym e ∙ f in rw g (record { answer = refl; memory = refl })
+  step_bad f = let g : operation ns at ≡ None = sym e ∙ f in rw g (record { answer = refl; memory = refl })
 
-  pub step_is : (op : Op) (next : ℕ) (p : Performed) (l : Lists) (n : ℕ) (v : Work) → r ≡ Is op next → Gives (performed bytes ns op w m) (said_performed p) l
-      → n ≡ (said_performed p).number → v ≡ (said_performed p).values → Gives (stepped bytes ns at w m) (StepIs n v next) l
+  pub step_is : (op : Op) (next : ℕ) (p : Performed) (l : Lists) (n : ℕ) (v : Work) → r ≡ Some (op, next) → Gives (performed bytes ns op w m) (said_performed p) l
+      → n ≡ (said_performed p).number → v ≡ (said_performed p).values → Gives (stepped bytes ns at w m) (Some (n, v, next)) l
   unfolding stepped
   step_is op next p l n v f g a b =
-      let h : operation ns at ≡ Is op next = sym e ∙ f in
+      let h : operation ns at ≡ Some (op, next) = sym e ∙ f in
       rw h (record {
-        answer = λ i. StepIs ((a ∙ ap (λ (x : Said Work). x.number) g.answer) i) ((b ∙ ap (λ (x : Said Work). x.values) g.answer) i) next;
+        answer = λ i. Some ((a ∙ ap (λ (x : Said Work). x.number) g.answer) i, (b ∙ ap (λ (x : Said Work). x.values) g.answer) i, next);
         memory = g.memory;
       })
 
@@ -51,42 +43,48 @@ module _ (bytes ns : List ℕ) (at : ℕ) (w : Work) (m : Lists) (r : Next) (e :
 parted : {w : Written Step Lists} {l : Lists} {r s : Step} → r ≡ s → Gives w r l → Gives w s l
 parted e g = record { answer = sym e ∙ g.answer; memory = g.memory }
 
+-- what a step tells, or else d
+abbrev number_of_step : ℕ → Step → ℕ
+number_of_step d None = d
+number_of_step d (Some (n, v, next)) = n
+
+abbrev work_of_step : Work → Step → Work
+work_of_step d None = d
+work_of_step d (Some (n, v, next)) = v
+
+abbrev next_of_step : ℕ → Step → ℕ
+next_of_step d None = d
+next_of_step d (Some (n, v, next)) = next
+
 -- what a step tells: nothing could be read, or an operation was performed
 module _ (bytes ns : List ℕ) (at : ℕ) (w : Work) (m l : Lists) where
-  told_bad : Gives (stepped bytes ns at w m) StepBad l → (operation ns at ≡ Bad) × (l ≡ m)
+  told_bad : Gives (stepped bytes ns at w m) None l → (operation ns at ≡ None) × (l ≡ m)
   unfolding stepped
   told_bad g = by (operation ns at) refl g
     where
-      by : (o : Next) → operation ns at ≡ o → Gives (stepped_by o bytes ns w m) StepBad l → (operation ns at ≡ Bad) × (l ≡ m)
-      by Bad e g = (e, g.memory)
-      by (Is op next) e g = absurd (let z : StepBad ≡ StepIs (performed bytes ns op w m).answer.number (performed bytes ns op w m).answer.values next = g.answer in let y : ◌≡◌ {A = ℕ} 0 1 = cc in omega arith)
+      by : (o : Option (Op × ℕ)) → operation ns at ≡ o → Gives (stepped_by o bytes ns w m) None l → (operation ns at ≡ None) × (l ≡ m)
+      by None e g = (e, g.memory)
+      by (Some (op, next)) e g = absurd (let z : ◌≡◌ {A = Step} None (Some ((performed bytes ns op w m).answer.number, (performed bytes ns op w m).answer.values, next)) = g.answer in let y : ◌≡◌ {A = ℕ} 0 1 = cc in omega arith)
 
   pub record Went (n : ℕ) (v : Work) (next : ℕ) : Type 0 where
     pub op : Op
-    pub read : operation ns at ≡ Is op next
+    pub read : operation ns at ≡ Some (op, next)
     pub number : n ≡ (performed bytes ns op w m).answer.number
     pub work : v ≡ (performed bytes ns op w m).answer.values
     pub memory : l ≡ (performed bytes ns op w m).memory
 
-  told_is : (n : ℕ) (v : Work) (next : ℕ) → Gives (stepped bytes ns at w m) (StepIs n v next) l → Went n v next
+  told_is : (n : ℕ) (v : Work) (next : ℕ) → Gives (stepped bytes ns at w m) (Some (n, v, next)) l → Went n v next
   unfolding stepped
   told_is n v next g = by (operation ns at) refl g
     where
-      by : (o : Next) → operation ns at ≡ o → Gives (stepped_by o bytes ns w m) (StepIs n v next) l → Went n v next
-      by Bad e g = absurd (let z : StepIs n v next ≡ StepBad = g.answer in let y : ◌≡◌ {A = ℕ} 0 1 = cc in omega arith)
-      by (Is op k) e g =
-          let z : StepIs n v next ≡ StepIs (performed bytes ns op w m).answer.number (performed bytes ns op w m).answer.values k = g.answer in
-          let y : next ≡ k = cc in
-          record { op = op; read = e ∙ ap (Is op) (sym y); number = cc; work = cc; memory = g.memory }
+      by : (o : Option (Op × ℕ)) → operation ns at ≡ o → Gives (stepped_by o bytes ns w m) (Some (n, v, next)) l → Went n v next
+      by None e g = absurd (let z : ◌≡◌ {A = Step} (Some (n, v, next)) None = g.answer in let y : ◌≡◌ {A = ℕ} 0 1 = cc in omega arith)
+      by (Some (op, k)) e g =
+          let y : next ≡ k = ap (next_of_step next) g.answer in
+          record { op = op; read = e ∙ ap (λ (j : ℕ). Some (op, j)) (sym y); number = ap (number_of_step n) g.answer; work = ap (work_of_step v) g.answer; memory = g.memory }
 
-  pub step_ends : (n : ℕ) (v : Work) (next : ℕ) {r : Step} → r ≡ StepIs n v next → Gives (stepped bytes ns at w m) r l → Reaches ns (at + 1) next
+  pub step_ends : (n : ℕ) (v : Work) (next : ℕ) {r : Step} → r ≡ Some (n, v, next) → Gives (stepped bytes ns at w m) r l → Reaches ns (at + 1) next
   step_ends n v next e g = let t = told_is n v next (parted e g) in operation_ends ns at t.op next t.read
-
-pub refused_number : (p : Performed) (r : Refusal) (w : Work) → p ≡ NotDone r w → number_of r ≡ (said_performed p).number
-refused_number p r w e = rw e
-
-pub refused_work : (p : Performed) (r : Refusal) (w : Work) → p ≡ NotDone r w → w ≡ (said_performed p).values
-refused_work p r w e = rw e
 
 -- ---- outcomes before those of a course
 abbrev onto : List ℕ → Course → Course
@@ -118,7 +116,7 @@ module _ {bytes ns os₀ : List ℕ} {w₀ : Work} {m₀ : Lists} where
         let f : 0 + length c.done ≤ length os₀ = omega (arith, c.long) in
         lay_one os n x h ∙ rw (c.laid, ← z) (lay_next 0 c.done (x ∷ []) os₀ f)
 
-    turn : (turns : ℕ) (op : Op) (next : ℕ) → length ns ≤ at + turns → at < length ns → operation ns at ≡ Is op next
+    turn : (turns : ℕ) (op : Op) (next : ℕ) → length ns ≤ at + turns → at < length ns → operation ns at ≡ Some (op, next)
         → (k : ℕ) × (turns ≡ suc k) × (ran_from turns bytes ns at w m ≡ goes (performed bytes ns op w m) (λ v l. ran_from k bytes ns next v l))
     turn zero op next h l e = absurd (omega arith)
     turn (suc k) op next h l e = (k, refl, rw (lt-ltb at (length ns) l, e))
@@ -126,7 +124,7 @@ module _ {bytes ns os₀ : List ℕ} {w₀ : Work} {m₀ : Lists} where
     onto_next : (x : ℕ) (d : Course) → onto c.done (before x d) ≡ onto (c.done ++ (x ∷ [])) d
     onto_next x d = λ i. record { outcomes = sym (append_assoc c.done (x ∷ []) d.outcomes) i; work = d.work; lists = d.lists }
 
-    pub run_turn : (l : Lists) (x : ℕ) (v : Work) (next : ℕ) → at < length ns → {r : Step} → r ≡ StepIs x v next → Gives (stepped bytes ns at w m) r l
+    pub run_turn : (l : Lists) (x : ℕ) (v : Work) (next : ℕ) → at < length ns → {r : Step} → r ≡ Some (x, v, next) → Gives (stepped bytes ns at w m) r l
         → Running bytes ns os₀ (set os n x) w₀ m₀ v l next (n + 1)
     run_turn l x v next h e g =
         let t = told_is bytes ns at w m l x v next (parted e g) in
@@ -148,7 +146,7 @@ module _ {bytes ns os₀ : List ℕ} {w₀ : Work} {m₀ : Lists} where
         }
 
     -- the two ends: what cannot be read, and the script's end
-    halted : (turns : ℕ) → length ns ≤ at + turns → at < length ns → operation ns at ≡ Bad → ran_from turns bytes ns at w m ≡ stopped w m
+    halted : (turns : ℕ) → length ns ≤ at + turns → at < length ns → operation ns at ≡ None → ran_from turns bytes ns at w m ≡ stopped w m
     halted zero h l e = absurd (omega arith)
     halted (suc k) h l e = rw (lt-ltb at (length ns) l, e)
 
@@ -159,7 +157,7 @@ module _ {bytes ns os₀ : List ℕ} {w₀ : Work} {m₀ : Lists} where
     comes : (d : Course) (a : Said Counts) (b : RunLists) → ran_from (length ns) bytes ns 1 w₀ m₀ ≡ d → Gives (course_in d os₀) a b → Gives (course_in (ran_from (length ns) bytes ns 1 w₀ m₀) os₀) a b
     comes d a b e g = subst (λ (x : Course). Gives (course_in x os₀) a b) (sym e) g
 
-    pub run_bad : (l : Lists) (u : ℕ) → at < length ns → {r : Step} → r ≡ StepBad → Gives (stepped bytes ns at w m) r l → u ≡ w.tile.used
+    pub run_bad : (l : Lists) (u : ℕ) → at < length ns → {r : Step} → r ≡ None → Gives (stepped bytes ns at w m) r l → u ≡ w.tile.used
         → Gives (course_in (ran_from (length ns) bytes ns 1 w₀ m₀) os₀) (accepted (counts (n + 1) u)) (run_lists (set os n 1) l)
     run_bad l u h b g f =
         let (e, q) = told_bad bytes ns at w m l (parted b g) in
@@ -187,15 +185,15 @@ module _ (bytes ns os : List ℕ) (m : Lists) where
     no_extent e = rw (lt-ltb (length ns) (length os) h, eq-eqb (length ns) 0 e) (record { answer = refl; memory = ap (λ (l : List ℕ). run_lists l m) (lay_one os 0 1 (omega arith)) })
 
     pub whole_run : (t : Tile) (a : Said Counts) (b : RunLists) → (length ns ≡ 0 → ⊥) → t ≡ fresh_tile (get_or ns 0 0)
-        → Gives (course_in (ran_from (length ns) bytes ns 1 (record { tile = t; hand = Nothing }) m) os) a b → Gives (ran_script bytes ns os m) a b
+        → Gives (course_in (ran_from (length ns) bytes ns 1 (record { tile = t; hand = None }) m) os) a b → Gives (ran_script bytes ns os m) a b
     unfolding ran_script
     whole_run t a b e f g =
-        let d : Gives (course_in (ran_from (length ns) bytes ns 1 (begins (get_or ns 0 0)) m) os) a b = subst (λ (x : Tile). Gives (course_in (ran_from (length ns) bytes ns 1 (record { tile = x; hand = Nothing }) m) os) a b) f g in
+        let d : Gives (course_in (ran_from (length ns) bytes ns 1 (begins (get_or ns 0 0)) m) os) a b = subst (λ (x : Tile). Gives (course_in (ran_from (length ns) bytes ns 1 (record { tile = x; hand = None }) m) os) a b) f g in
         rw (lt-ltb (length ns) (length os) h, ne_eqb (length ns) 0 e) d
 
 -- ---- one value for each answer
 pub one_run : (r r' : Ran) → said_ran r ≡ said_ran r' → r ≡ r'
-one_run (Done n b) (Done n' b') e = ap (λ (a : Said Counts). Done a.values.outcomes a.values.bytes) e
-one_run (Done n b) (Refused r) e = absurd (never_both r e)
-one_run (Refused r) (Done n b) e = absurd (never_both r (sym e))
-one_run (Refused r) (Refused r') e = ap Refused (one_refusal r r' e)
+one_run (Ok (n, b)) (Ok (n', b')) e = ap (λ (a : Said Counts). Ok (a.values.outcomes, a.values.bytes)) e
+one_run (Ok (n, b)) (Err r) e = absurd (never_both r e)
+one_run (Err r) (Ok (n, b)) e = absurd (never_both r (sym e))
+one_run (Err r) (Err r') e = ap Err (one_refusal r r' e)

@@ -9,13 +9,13 @@ use Rattle.promise.specs.Answers.{Written, Gives}
 use Rattle.refusal.specs.declared.Refusal.{Refusal}
 use Rattle.refusal.specs.declared.Refusal.TheVariants.{Turn}
 use Rattle.refusal.specs.Refusals.{number_of}
+use Rattle.std.specs.Prelude.{Some, None, Result, Ok, Err}
+use Rattle.refusal.specs.declared.Refused.{Refused}
 use Rattle.refusal.specs.Said.{Said, accepted, refused}
 use Rattle.refusal.proofs.Laws.{numbered, one_refusal, never_both}
 use Rattle.layer.specs.declared.Layer.{Layer}
 use Rattle.layer.specs.Held.{Memory, Seen, seen, Change}
 use Rattle.tile.specs.declared.Tile.{Tile}
-use Rattle.tile.specs.declared.Added.{Added}
-use Rattle.tile.specs.declared.Added.TheVariants.{Done as AddedDone, Refused as AddedRefused}
 use Rattle.tile.specs.Tiles.{TileMemory}
 use Rattle.tile.specs.Answers.{said_tile}
 use Rattle.tile.specs.Adding.{add_layer}
@@ -25,41 +25,25 @@ use Rattle.script.specs.declared.Value.{Value}
 use Rattle.script.specs.declared.Op.{Op}
 use Rattle.script.specs.declared.Op.TheVariants.{Create, Open, SetId, Tag, Close, Abandon, Add}
 use Rattle.script.specs.Script.{text_of, words_of}
-use Rattle.tile_run.specs.declared.hand.Hand.{Hand}
-use Rattle.tile_run.specs.declared.hand.Hand.TheVariants.{Nothing, Holds}
-use Rattle.tile_run.specs.declared.hand.Handled.{Handled}
-use Rattle.tile_run.specs.declared.hand.Handled.TheVariants.{Done as HandledDone, Refused as HandledRefused}
-use Rattle.tile_run.specs.Hands.{said_handled, creating, on_hand, tag_of}
+use Rattle.tile_run.proofs.Handling.{same_kept}
+use Rattle.tile_run.specs.Hands.{Hand, said_handled, creating, on_hand, tag_of}
 use Rattle.tile_run.specs.declared.performing.Work.{Work}
-use Rattle.tile_run.specs.declared.performing.Performed.{Performed}
-use Rattle.tile_run.specs.declared.performing.Performed.TheVariants.{Done, Refused}
-use Rattle.tile_run.specs.Operations.{Lists, lists, said_performed, working, added, adding, in_layer, with_texts, in_texts, in_tile, on_layer, performed}
+use Rattle.tile_run.specs.Operations.{Performed, Lists, lists, said_performed, working, added, adding, in_layer, with_texts, in_texts, in_tile, on_layer, performed}
 
 abbrev at_work : Tile → Hand → Work
 at_work t h = record { tile = t; hand = h }
 
--- ---- a hand's answer, beside the tile
-module _ (t : Tile) (h : Handled) (k : Hand) where
-  pub kept_done : h ≡ HandledDone k → accepted (at_work t k) ≡ working t (said_handled h)
-  kept_done e = rw e
-
-  pub kept_refused : (r : Refusal) → h ≡ HandledRefused r k → refused r (at_work t k) ≡ working t (said_handled h)
-  kept_refused r e = rw e
-
--- ---- adding
-module _ (s : Layer) (a : Added) (t : Tile) where
-  pub added_done : a ≡ AddedDone t → accepted (at_work t Nothing) ≡ added s (said_tile a)
-  added_done e = rw e
-
-  pub added_refused : (r : Refusal) → a ≡ AddedRefused r t → refused r (at_work t (Holds s)) ≡ added s (said_tile a)
-  added_refused r e = rw (e, ne_eqb (number_of r) 0 (λ z. absurd (omega (arith, numbered r))))
+-- ---- adding: a refused layer stays at hand
+module _ (s : Layer) (a : Result Tile (Refused Tile)) (b : Refused Tile) where
+  pub added_refused : a ≡ Err b → refused b.refusal (at_work b.kept (Some s)) ≡ added s (said_tile a)
+  added_refused e = rw (e, ne_eqb (number_of b.refusal) 0 (λ z. absurd (omega (arith, numbered b.refusal))))
 
 module _ (w : Work) (m : Memory) (t : TileMemory) where
-  pub none_added : w.hand ≡ Nothing → Gives (adding w m t) (refused Turn w) t
+  pub none_added : w.hand ≡ None → Gives (adding w m t) (refused Turn w) t
   unfolding adding
   none_added e = rw e (record { answer = refl; memory = refl })
 
-  pub layer_added : (s : Layer) (a : Said Tile) (b : Said Work) (n : TileMemory) → w.hand ≡ Holds s → Gives (add_layer w.tile (seen s m) t) a n → b ≡ added s a → Gives (adding w m t) b n
+  pub layer_added : (s : Layer) (a : Said Tile) (b : Said Work) (n : TileMemory) → w.hand ≡ Some s → Gives (add_layer w.tile (seen s m) t) a n → b ≡ added s a → Gives (adding w m t) b n
   unfolding adding
   layer_added s a b n e g f = rw e (record { answer = f ∙ ap (added s) g.answer; memory = g.memory })
 
@@ -117,7 +101,7 @@ module _ (bytes ns : List ℕ) (op : Op) (w : Work) (m : Lists) where
 
 -- ---- one value for each answer
 pub one_performed : (r r' : Performed) → said_performed r ≡ said_performed r' → r ≡ r'
-one_performed (Done w) (Done w') e = ap (λ (a : Said Work). Done a.values) e
-one_performed (Done w) (Refused r w') e = absurd (never_both r e)
-one_performed (Refused r w) (Done w') e = absurd (never_both r (sym e))
-one_performed (Refused r w) (Refused r' w') e = λ i. Refused (one_refusal r r' e i) (e i).values
+one_performed (Ok w) (Ok w') e = ap (λ (a : Said Work). Ok a.values) e
+one_performed (Ok w) (Err b) e = absurd (never_both b.refusal e)
+one_performed (Err a) (Ok w') e = absurd (never_both a.refusal (sym e))
+one_performed (Err a) (Err b) e = ap Err (same_kept a b (one_refusal a.refusal b.refusal e) (ap (λ (x : Said Work). x.values) e))

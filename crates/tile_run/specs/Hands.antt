@@ -1,8 +1,9 @@
 -- oracle/README.md, "Tile script": "Creating a layer takes the place of the one at hand (a refused one leaves it). An operation that needs a layer where there
 -- is none, or after the layer was added, is `refused 12`."
-use Rattle.std.specs.Prelude.{ℕ, Bool, cond, List, [], ◌∷◌}
+use Rattle.std.specs.Prelude.{ℕ, Bool, cond, Option, Some, None, Result, Ok, Err, List, [], ◌∷◌}
 use Rattle.promise.specs.Answers.{Written, kept}
 use Rattle.refusal.specs.declared.Refusal.TheVariants.{Turn}
+use Rattle.refusal.specs.declared.Refused.{Refused}
 use Rattle.refusal.specs.Said.{Said, accepted, refused}
 use Rattle.layer.specs.declared.Layer.{Layer}
 use Rattle.layer.specs.Held.{Memory, Seen, seen, Change, written}
@@ -10,29 +11,32 @@ use Rattle.layer.specs.Calls.{Tag, created, created_strict, bits_of, bit_of, tag
 use Rattle.script.specs.declared.Value.{Value}
 use Rattle.script.specs.declared.Value.TheVariants.{Text, Float, Double, Int, Uint, Sint, Bool as BoolValue}
 use Rattle.script.specs.Script.{text_of}
-use Rattle.tile_run.specs.declared.hand.Hand.{Hand}
-use Rattle.tile_run.specs.declared.hand.Hand.TheVariants.{Nothing, Holds}
-use Rattle.tile_run.specs.declared.hand.Handled.{Handled}
-use Rattle.tile_run.specs.declared.hand.Handled.TheVariants.{Done, Refused}
+
+-- what is at hand: a layer, or nothing
+abbrev pub Hand : Type 0
+Hand = Option Layer
+
+abbrev pub Handled : Type 0
+Handled = Result Hand (Refused Hand)
 
 -- the paper's number, and what is at hand then
 abbrev pub said_handled : Handled → Said Hand
-said_handled (Done h) = accepted h
-said_handled (Refused r h) = refused r h
+said_handled (Ok h) = accepted h
+said_handled (Err e) = refused e.refusal e.kept
 
 -- what a layer's call says, with its layer at hand
 abbrev pub holding : Said Layer → Said Hand
-holding a = record { number = a.number; place = a.place; values = Holds a.values }
+holding a = record { number = a.number; place = a.place; values = Some a.values }
 
 -- a call on the layer at hand; TURN where there is none
 unfoldable pub on_hand : (Seen → Change) → Hand → Memory → Written (Said Hand) Memory
-on_hand call Nothing m = kept (refused Turn Nothing) m
-on_hand call (Holds s) m = record { answer = holding (written (call (seen s m)) s m).answer; memory = (written (call (seen s m)) s m).memory }
+on_hand call None m = kept (refused Turn None) m
+on_hand call (Some s) m = record { answer = holding (written (call (seen s m)) s m).answer; memory = (written (call (seen s m)) s m).memory }
 
 -- the layer that was created, or else what was at hand
 abbrev pub or_else : Hand → List Layer → Hand
 or_else h [] = h
-or_else h (s ∷ ss) = Holds s
+or_else h (s ∷ ss) = Some s
 
 abbrev pub new_hand : Hand → Said (List Layer) → Said Hand
 new_hand h a = record { number = a.number; place = a.place; values = or_else h a.values }

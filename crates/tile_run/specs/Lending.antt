@@ -5,16 +5,12 @@ use Rattle.layer.specs.Held.{Seen, Change}
 use Rattle.promise.specs.Lent.{Lent}
 use Rattle.layer.specs.Lending.{entered, left}
 use Rattle.tile.specs.Tiles.{tile_entered, tile_left}
+use Rattle.refusal.specs.Said.{accepted}
 use Rattle.script.specs.declared.Op.{Op}
-use Rattle.tile_run.specs.declared.hand.Hand.{Hand}
-use Rattle.tile_run.specs.declared.hand.Handled.{Handled}
 use Rattle.tile_run.specs.declared.performing.Work.{Work}
-use Rattle.tile_run.specs.declared.performing.Performed.{Performed}
-use Rattle.tile_run.specs.declared.Step.{Step}
-use Rattle.tile_run.specs.declared.Ran.{Ran}
-use Rattle.tile_run.specs.Hands.{said_handled, on_hand}
-use Rattle.tile_run.specs.Operations.{Lists, lists, said_performed, performed}
-use Rattle.tile_run.specs.Running.{stepped, ran_from, course_in, run_lists, said_ran, ran_script}
+use Rattle.tile_run.specs.Hands.{Hand, Handled, said_handled, on_hand}
+use Rattle.tile_run.specs.Operations.{Performed, Lists, lists, said_performed, performed}
+use Rattle.tile_run.specs.Running.{Step, Ran, counts, stepped, ran_from, course_in, run_lists, said_ran, ran_script}
 
 -- what is at hand then, and the four lists, are what the call makes of the layer at hand
 abbrev pub Handles : (Seen → Change) → Hand → Handled → Lent → Lent → Lent → Lent → Type 0
@@ -36,11 +32,11 @@ abbrev pub Steps : ℕ → Work → Step → Lent → Lent → Lent → Lent →
 Steps at w r b s k v t f n o = Gives (stepped b.entry.now s.entry.now at w (all_entered k v t f n o)) r (all_left k v t f n o)
 
 -- all of them from the first on, their outcomes in the list c; and the whole script
-abbrev pub RunsFrom : Work → Ran → Lent → Lent → Lent → Lent → Lent → Lent → Lent → Lent → Lent → Type 0
+abbrev pub RunsFrom : Work → ℕ × ℕ → Lent → Lent → Lent → Lent → Lent → Lent → Lent → Lent → Lent → Type 0
 RunsFrom w r b s c k v t f n o =
     Gives
     (course_in (ran_from (length s.entry.now) b.entry.now s.entry.now 1 w (all_entered k v t f n o)) c.entry.now)
-    (said_ran r)
+    (accepted (counts r.0 r.1))
     (run_lists c.exit.now (all_left k v t f n o))
 
 abbrev pub Runs : Ran → Lent → Lent → Lent → Lent → Lent → Lent → Lent → Lent → Lent → Type 0

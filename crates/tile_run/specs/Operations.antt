@@ -1,7 +1,8 @@
 -- oracle/README.md, "Tile script": one operation on the tile and on what is at hand, case by case. Each case is what the called function promises.
-use Rattle.std.specs.Prelude.{ℕ, ◌%◌, ◌/◌, cond, List, eqb}
+use Rattle.std.specs.Prelude.{ℕ, ◌%◌, ◌/◌, cond, Some, None, Result, Ok, Err, List, eqb}
 use Rattle.promise.specs.Answers.{Written, kept}
 use Rattle.refusal.specs.declared.Refusal.TheVariants.{Turn}
+use Rattle.refusal.specs.declared.Refused.{Refused}
 use Rattle.refusal.specs.Said.{Said, accepted, refused}
 use Rattle.layer.specs.declared.Layer.{Layer}
 use Rattle.layer.specs.Held.{Memory, Seen, seen, Change}
@@ -12,12 +13,8 @@ use Rattle.tile.specs.Adding.{add_layer}
 use Rattle.script.specs.declared.Op.{Op}
 use Rattle.script.specs.declared.Op.TheVariants.{Create, Open, SetId, Tag, Close, Abandon, Add}
 use Rattle.script.specs.Script.{text_of, words_of}
-use Rattle.tile_run.specs.declared.hand.Hand.{Hand}
-use Rattle.tile_run.specs.declared.hand.Hand.TheVariants.{Nothing, Holds}
-use Rattle.tile_run.specs.Hands.{creating, on_hand, tag_of}
+use Rattle.tile_run.specs.Hands.{Hand, creating, on_hand, tag_of}
 use Rattle.tile_run.specs.declared.performing.Work.{Work}
-use Rattle.tile_run.specs.declared.performing.Performed.{Performed}
-use Rattle.tile_run.specs.declared.performing.Performed.TheVariants.{Done, Refused}
 
 -- the six lent lists: the layer's four, and the tile's names and bytes
 pub record Lists : Type 0 where
@@ -28,9 +25,12 @@ abbrev pub lists : Memory → TileMemory → Lists
 lists m t = record { layer = m; tile = t }
 
 -- the paper's number, and the tile and what is at hand then
+abbrev pub Performed : Type 0
+Performed = Result Work (Refused Work)
+
 abbrev pub said_performed : Performed → Said Work
-said_performed (Done w) = accepted w
-said_performed (Refused r w) = refused r w
+said_performed (Ok w) = accepted w
+said_performed (Err e) = refused e.refusal e.kept
 
 -- ---- operations on the hand leave the tile and its lists
 abbrev pub working : Tile → Said Hand → Said Work
@@ -38,11 +38,11 @@ working t a = record { number = a.number; place = a.place; values = record { til
 
 -- ---- adding: an accepted layer is handed away, a refused one stays at hand
 abbrev pub added : Layer → Said Tile → Said Work
-added s a = record { number = a.number; place = a.place; values = record { tile = a.values; hand = cond (eqb a.number 0) Nothing (Holds s) } }
+added s a = record { number = a.number; place = a.place; values = record { tile = a.values; hand = cond (eqb a.number 0) None (Some s) } }
 
 abbrev pub adding_by : Hand → Work → Memory → TileMemory → Written (Said Work) TileMemory
-adding_by Nothing w m t = kept (refused Turn w) t
-adding_by (Holds s) w m t = record { answer = added s (add_layer w.tile (seen s m) t).answer; memory = (add_layer w.tile (seen s m) t).memory }
+adding_by None w m t = kept (refused Turn w) t
+adding_by (Some s) w m t = record { answer = added s (add_layer w.tile (seen s m) t).answer; memory = (add_layer w.tile (seen s m) t).memory }
 
 unfoldable pub adding : Work → Memory → TileMemory → Written (Said Work) TileMemory
 adding w m t = adding_by w.hand w m t

@@ -8,40 +8,35 @@ ghost use Rattle.layer.specs.Lending.{Does};
 ghost use Rattle.tile_run.specs.Hands.{said_handled, holding, new_hand, creating, tag_of};
 ghost use Rattle.tile_run.specs.Lending.{Handles};
 
-use layer::{Changed, Created, Layer};
-use refusal::Refusal;
+use layer::{Changed, Layer};
+use refusal::{Refusal, Refused};
 use script::Value;
 
-#[derive(Clone, Copy)]
-pub enum Hand {
-    Nothing,
-    Holds(Layer),
-}
+pub type Hand = Option<Layer>;
 
 // What is at hand after an operation, or the refusal and what was at hand.
-#[derive(Clone, Copy)]
-pub(crate) enum Handled {
-    Done(Hand),
-    Refused(Refusal, Hand),
-}
+pub(crate) type Handled = Result<Hand, Refused<Hand>>;
 
 // What a layer's call answered, taken into the hand.
 fn hold(c: Changed) -> Handled
     ensures { said_handled result ≡ holding (said_changed c) }
 {
     match c {
-        Changed::Done(s) => Handled::Done(Hand::Holds(s)),
-        Changed::Refused(r, s) => Handled::Refused(r, Hand::Holds(s)),
+        Ok(s) => Ok(Some(s)),
+        Err(e) => Err(Refused {
+            refusal: e.refusal,
+            kept: Some(e.kept),
+        }),
     }
 }
 
 // A new layer takes the place of the one at hand; a refused one leaves it.
-fn hold_new(h: Hand, c: Created) -> Handled
+fn hold_new(h: Hand, c: Result<Layer, Refusal>) -> Handled
     ensures { said_handled result ≡ new_hand h (said_created c) }
 {
     match c {
-        Created::Done(s) => Handled::Done(Hand::Holds(s)),
-        Created::Refused(r) => Handled::Refused(r, h),
+        Ok(new) => Ok(Some(new)),
+        Err(refusal) => Err(Refused { refusal, kept: h }),
     }
 }
 
@@ -68,8 +63,11 @@ pub(crate) fn open(
     ensures { Handles (into_feature kind words.now) h result keys values texts (mutable features) }
 {
     match h {
-        Hand::Nothing => Handled::Refused(Refusal::Turn, h),
-        Hand::Holds(s) => hold(layer::feature::into_feature(
+        None => Err(Refused {
+            refusal: Refusal::Turn,
+            kept: h,
+        }),
+        Some(s) => hold(layer::feature::into_feature(
             s, kind, words, keys, values, texts, features,
         )),
     }
@@ -87,8 +85,11 @@ pub(crate) fn set_id(
     ensures { Handles (set_id (id % 4294967296) (id / 4294967296)) h result keys values texts (mutable features) }
 {
     match h {
-        Hand::Nothing => Handled::Refused(Refusal::Turn, h),
-        Hand::Holds(s) => hold(layer::feature::set_id(s, id, keys, values, texts, features)),
+        None => Err(Refused {
+            refusal: Refusal::Turn,
+            kept: h,
+        }),
+        Some(s) => hold(layer::feature::set_id(s, id, keys, values, texts, features)),
     }
 }
 
@@ -103,8 +104,11 @@ pub(crate) fn close(
     ensures { Handles into_layer h result keys values texts features }
 {
     match h {
-        Hand::Nothing => Handled::Refused(Refusal::Turn, h),
-        Hand::Holds(s) => hold(layer::feature::into_layer(s, keys, values, texts, features)),
+        None => Err(Refused {
+            refusal: Refusal::Turn,
+            kept: h,
+        }),
+        Some(s) => hold(layer::feature::into_layer(s, keys, values, texts, features)),
     }
 }
 
@@ -119,8 +123,11 @@ pub(crate) fn abandon(
     ensures { Handles abandoned h result keys values texts features }
 {
     match h {
-        Hand::Nothing => Handled::Refused(Refusal::Turn, h),
-        Hand::Holds(s) => hold(layer::feature::abandon(s, keys, values, texts, features)),
+        None => Err(Refused {
+            refusal: Refusal::Turn,
+            kept: h,
+        }),
+        Some(s) => hold(layer::feature::abandon(s, keys, values, texts, features)),
     }
 }
 
@@ -165,7 +172,10 @@ pub(crate) fn tag(
     ensures { Handles (add_tag (tag_of bytes.now key.now v)) h result (mutable keys) (mutable values) (mutable texts) (mutable features) }
 {
     match h {
-        Hand::Nothing => Handled::Refused(Refusal::Turn, h),
-        Hand::Holds(s) => hold(tag_layer(s, key, v, bytes, keys, values, texts, features)),
+        None => Err(Refused {
+            refusal: Refusal::Turn,
+            kept: h,
+        }),
+        Some(s) => hold(tag_layer(s, key, v, bytes, keys, values, texts, features)),
     }
 }

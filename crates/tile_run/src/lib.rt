@@ -10,32 +10,16 @@ ghost use Rattle.promise.specs.Lent.{mutable};
 ghost use Rattle.tile_run.specs.Operations.{said_performed};
 ghost use Rattle.tile_run.specs.Lending.{Steps, RunsFrom, Runs};
 
-use crate::hand::Hand;
 use crate::performing::{Performed, Work};
 use refusal::Refusal;
-use script::Next;
 use tile::Tile;
-
-// An outcome, what there is after it and where the next operation begins; or nothing that can be read.
-#[derive(Clone, Copy)]
-pub enum Step {
-    Is(u32, Work, usize),
-    Bad,
-}
-
-// How many outcomes there are, and how many bytes the tile has.
-#[derive(Clone, Copy)]
-pub enum Ran {
-    Done(usize, usize),
-    Refused(Refusal),
-}
 
 fn outcome(p: Performed) -> u32
     ensures { result ≡ (said_performed p).number }
 {
     match p {
-        Performed::Done(_) => 0,
-        Performed::Refused(r, _) => refusal::number(r),
+        Ok(_) => 0,
+        Err(e) => refusal::number(e.refusal),
     }
 }
 
@@ -43,12 +27,13 @@ fn after(p: Performed) -> Work
     ensures { result ≡ (said_performed p).values }
 {
     match p {
-        Performed::Done(w) => w,
-        Performed::Refused(_, w) => w,
+        Ok(w) => w,
+        Err(e) => e.kept,
     }
 }
 
-// The operation that begins at a place, read and performed.
+// The operation that begins at a place, read and performed: its outcome, what there is after it and where the next one begins; or nothing that can be
+// read.
 pub fn advance(
     at: usize,
     w: Work,
@@ -60,28 +45,17 @@ pub fn advance(
     features: &mut [u32],
     names: &mut [u32],
     out: &mut [u8],
-) -> Step
+) -> Option<(u32, Work, usize)>
     ensures { Steps at w result bytes numbers (mutable keys) (mutable values) (mutable texts) (mutable features) (mutable names) (mutable out) }
 {
-    match script::read_op(numbers, at) {
-        Next::Bad => Step::Bad,
-        Next::Is(op, next) => {
-            let p = performing::perform(
-                op, w, bytes, numbers, keys, values, texts, features, names, out,
-            );
-            Step::Is(outcome(p), after(p), next)
-        }
-    }
+    let (op, next) = script::read_op(numbers, at)?;
+    let p = performing::perform(
+        op, w, bytes, numbers, keys, values, texts, features, names, out,
+    );
+    Some((outcome(p), after(p), next))
 }
 
-fn used(w: Work) -> usize
-    ensures { result ≡ w.tile.used }
-{
-    let tile = w.tile;
-    tile.used
-}
-
-// From the first operation on, with what there is then.
+// From the first operation on, with what there is then: how many outcomes there are, and how many bytes the tile has.
 fn run_from(
     start: Work,
     bytes: &[u8],
@@ -93,7 +67,7 @@ fn run_from(
     features: &mut [u32],
     names: &mut [u32],
     out: &mut [u8],
-) -> Ran
+) -> (usize, usize)
     requires numbers_nonzero { 0 < length numbers.now }
     requires numbers_in_bounds { length numbers.now < length outcomes.old }
     ensures { RunsFrom start result bytes numbers (mutable outcomes) (mutable keys) (mutable values) (mutable texts) (mutable features) (mutable names) (mutable out) }
@@ -101,26 +75,24 @@ fn run_from(
     let mut w = start;
     let mut at = 1;
     let mut n = 0;
+    // Counted by hand: an operation takes as many numbers as it has, so the step differs from turn to turn.
     while at < numbers.len() {
-        match advance(
+        let Some((number, next, place)) = advance(
             at, w, bytes, numbers, keys, values, texts, features, names, out,
-        ) {
-            Step::Bad => {
-                outcomes[n] = 1;
-                return Ran::Done(n + 1, used(w));
-            }
-            Step::Is(number, next, place) => {
-                outcomes[n] = number;
-                w = next;
-                at = place;
-            }
-        }
+        ) else {
+            outcomes[n] = 1;
+            return (n + 1, w.tile.used);
+        };
+        outcomes[n] = number;
+        w = next;
+        at = place;
         n += 1;
     }
-    Ran::Done(n, used(w))
+    (n, w.tile.used)
 }
 
-// Runs a script. Each operation takes a number at least, and the extent one, so one outcome more than there are numbers is room for all.
+// Runs a script: how many outcomes there are, and how many bytes the tile has. Each operation takes a number at least, and the extent one, so one outcome
+// more than there are numbers is room for all.
 pub fn run(
     bytes: &[u8],
     numbers: &[u32],
@@ -131,21 +103,21 @@ pub fn run(
     features: &mut [u32],
     names: &mut [u32],
     out: &mut [u8],
-) -> Ran
+) -> Result<(usize, usize), Refusal>
     ensures { Runs result bytes numbers (mutable outcomes) (mutable keys) (mutable values) (mutable texts) (mutable features) (mutable names) (mutable out) }
 {
     if outcomes.len() <= numbers.len() {
-        return Ran::Refused(Refusal::Room);
+        return Err(Refusal::Room);
     }
     if numbers.len() == 0 {
         outcomes[0] = 1;
-        return Ran::Done(1, 0);
+        return Ok((1, 0));
     }
     let start = Work {
         tile: Tile::new(numbers[0]),
-        hand: Hand::Nothing,
+        hand: None,
     };
-    run_from(
+    Ok(run_from(
         start, bytes, numbers, outcomes, keys, values, texts, features, names, out,
-    )
+    ))
 }

@@ -12,8 +12,8 @@ ghost use Rattle.tile_run.specs.Lending.{Performs};
 
 use crate::hand::{Hand, Handled};
 use layer::Layer;
-use refusal::Refusal;
-use script::{Next, Op};
+use refusal::{Refusal, Refused};
+use script::Op;
 use tile::{Added, Tile};
 
 // A tile, and what is at hand.
@@ -24,28 +24,18 @@ pub struct Work {
 }
 
 // What an operation leaves, or the refusal and what it was given.
-#[derive(Clone, Copy)]
-pub(crate) enum Performed {
-    Done(Work),
-    Refused(Refusal, Work),
-}
+pub(crate) type Performed = Result<Work, Refused<Work>>;
 
 // What an operation on the hand answered, beside the tile.
 fn keep(tile: Tile, h: Handled) -> Performed
     ensures { said_performed result ≡ working tile (said_handled h) }
 {
     match h {
-        Handled::Done(hand) => Performed::Done(Work {
-            tile: tile,
-            hand: hand,
+        Ok(hand) => Ok(Work { tile, hand }),
+        Err(e) => Err(Refused {
+            refusal: e.refusal,
+            kept: Work { tile, hand: e.kept },
         }),
-        Handled::Refused(r, hand) => Performed::Refused(
-            r,
-            Work {
-                tile: tile,
-                hand: hand,
-            },
-        ),
     }
 }
 
@@ -54,17 +44,14 @@ fn after_adding(s: Layer, a: Added) -> Performed
     ensures { said_performed result ≡ added s (said_tile a) }
 {
     match a {
-        Added::Done(tile) => Performed::Done(Work {
-            tile: tile,
-            hand: Hand::Nothing,
-        }),
-        Added::Refused(r, tile) => Performed::Refused(
-            r,
-            Work {
-                tile: tile,
-                hand: Hand::Holds(s),
+        Ok(tile) => Ok(Work { tile, hand: None }),
+        Err(e) => Err(Refused {
+            refusal: e.refusal,
+            kept: Work {
+                tile: e.kept,
+                hand: Some(s),
             },
-        ),
+        }),
     }
 }
 
@@ -80,13 +67,15 @@ fn add(
 ) -> Performed
     ensures { Gives (adding w (entered keys values texts features) (tile_entered (mutable names) (mutable out))) (said_performed result) (tile_left (mutable names) (mutable out)) }
 {
-    let tile = w.tile;
-    let hand = w.hand;
-    match hand {
-        Hand::Nothing => Performed::Refused(Refusal::Turn, w),
-        Hand::Holds(s) => after_adding(
+    match w.hand {
+        None => Err(Refused {
+            refusal: Refusal::Turn,
+            kept: w,
+        }),
+        Some(s) => after_adding(
             s,
-            tile.add_layer(s, keys, values, texts, features, names, out),
+            w.tile
+                .add_layer(s, keys, values, texts, features, names, out),
         ),
     }
 }

@@ -8,12 +8,10 @@ ghost use Rattle.printed.specs.Lending.{Shows, Tells};
 ghost use Rattle.printed.specs.Tiles.{tile_text, tile_room};
 ghost use Rattle.tiles.specs.Program.{tile_shown, Answers};
 
-use number_file::Numbers;
 use printed::{Text, first_bytes, first_words};
 use refusal::Refusal;
 use std::io;
 use std::io::Write;
-use tile_run::Ran;
 
 // A refusal of the whole script, shown: one outcome and no bytes.
 fn show_refusal(r: Refusal, text: &mut [u8]) -> usize
@@ -54,14 +52,14 @@ fn answer(
     ensures { Answers result file (mutable numbers) (mutable outcomes) (mutable keys) (mutable values) (mutable texts) (mutable features) (mutable names) (mutable out) (mutable text) }
 {
     match number_file::read_numbers(file, numbers) {
-        Numbers::Refused(r) => show_refusal(r, text),
-        Numbers::Read(n) => {
+        Err(r) => show_refusal(r, text),
+        Ok(n) => {
             let script = first_words(numbers, n);
             match tile_run::run(
                 file, script, outcomes, keys, values, texts, features, names, out,
             ) {
-                Ran::Refused(r) => show_refusal(r, text),
-                Ran::Done(k, used) => show(outcomes, k, out, used, text),
+                Err(r) => show_refusal(r, text),
+                Ok((k, used)) => show(outcomes, k, out, used, text),
             }
         }
     }

@@ -1,11 +1,13 @@
 -- The steps along a text.
-use Prim.Native.Nat.{ℕ, zero, suc, ◌+◌, ◌-◌, ◌≤◌, ◌<◌}
+use Prim.Native.Nat.{ℕ, zero, suc, ◌+◌, ◌-◌, ◌*◌, ◌/◌, ◌≤◌, ◌<◌}
 use mathlib.Core.Path.{◌≡◌, refl, sym, ap, ◌∙◌}
 use mathlib.Core.Bool.{Bool, true, false, cond, not, ◌&&◌}
 use mathlib.Core.List.{List, [], ◌∷◌}
 use native.Mathlib.Omega.{arith}
 use lib.ListN.{length, get_or, drop, length-drop}
-use lib.Seq.{drop-drop, drop-length}
+use lib.Seq.{drop-drop, drop-length, get_or-drop}
+use Rattle.std.specs.Simd.{first_chunks}
+use Rattle.std.proofs.lemmas.List.{get_or-take}
 use lib.Dec.{leb}
 use borrow.Author.Tests.{not-true, not-false, leb-true, leb-false, le-leb, lt-leb, ne_eqb}
 use Rattle.promise.proofs.Joined.{both, both_is}
@@ -202,10 +204,10 @@ module _ (ws : List ℕ) (from i : ℕ) (R : Read ws from i) where
   pub ascii_more : i < length ws → get_or ws i 0 ≤ 0x7F → Read ws from (i + 1)
   ascii_more h t = one_more ws from i (i + 1) R (omega arith) h (both_is (le-leb 0 (get_or ws i 0) (omega arith)) (le-leb (get_or ws i 0) 0x7F t))
 
-  module _ (h : 4 ≤ length ws - i) (t : Bool) (g : t ≡ (within ascii (get_or ws i 0) && (within ascii (get_or ws (i + 1) 0) && (within ascii (get_or ws (i + 2) 0) && within ascii (get_or ws (i + 3) 0))))) where
-    pub four_more : not t ≡ false → Read ws from (i + 4)
+  module _ (h : i + 4 ≤ length ws) (t : Bool) (g : t ≡ (within ascii (get_or ws i 0) && (within ascii (get_or ws (i + 1) 0) && (within ascii (get_or ws (i + 2) 0) && within ascii (get_or ws (i + 3) 0))))) where
+    four_more : t ≡ true → Read ws from (i + 4)
     four_more n =
-        let a = both (within ascii (get_or ws i 0)) _ (sym g ∙ not-false t n) in
+        let a = both (within ascii (get_or ws i 0)) _ (sym g ∙ n) in
         let b = both (within ascii (get_or ws (i + 1) 0)) _ a.1 in
         let c = both (within ascii (get_or ws (i + 2) 0)) (within ascii (get_or ws (i + 3) 0)) b.1 in
         let R1 = one_more ws from i (i + 1) R (omega arith) (omega arith) a.0 in
@@ -215,3 +217,18 @@ module _ (ws : List ℕ) (from i : ℕ) (R : Read ws from i) where
 
   pub rest_tells : (t : Bool) → t ≡ is_utf8 (drop i ws) → t ≡ is_utf8 (drop from ws)
   rest_tells t e = e ∙ sym R.rest
+
+-- ---- four bytes of the text, and the place behind them
+four_at : (m k j : ℕ) (ws : List ℕ) → k < m → j < 4 → get_or (get_or (first_chunks 4 m ws) k []) j 0 ≡ get_or ws (4 * k + j) 0
+four_at zero k j ws h l = absurd (omega arith)
+four_at (suc m) zero j ws h l = let z : 4 * 0 + j ≡ j = omega arith in rw z (get_or-take 4 ws j 0 l)
+four_at (suc m) (suc k) j ws h l =
+    let e : 4 + (4 * k + j) ≡ 4 * suc k + j = omega arith in
+    four_at m k j (drop 4 ws) (omega arith) l ∙ get_or-drop 4 ws (4 * k + j) 0 ∙ ap (λ (n : ℕ). get_or ws n 0) e
+
+module _ (ws : List ℕ) (k : ℕ) (R : Read ws 0 (4 * k)) (h : k < length ws / 4) where
+  pub next_four : (t : Bool) → t ≡ (within ascii (get_or (get_or (first_chunks 4 (length ws / 4) ws) k []) 0 0) && (within ascii (get_or (get_or (first_chunks 4 (length ws / 4) ws) k []) 1 0) && (within ascii (get_or (get_or (first_chunks 4 (length ws / 4) ws) k []) 2 0) && within ascii (get_or (get_or (first_chunks 4 (length ws / 4) ws) k []) 3 0)))) → t ≡ true → Read ws 0 (4 * (k + 1))
+  next_four t g e =
+      let z : 4 * k + 0 ≡ 4 * k = omega arith in
+      let y : 4 * k + 4 ≡ 4 * (k + 1) = omega arith in
+      rw (← y) (four_more ws 0 (4 * k) R (omega arith) t (rw (four_at (length ws / 4) k 0 ws h (omega arith), four_at (length ws / 4) k 1 ws h (omega arith), four_at (length ws / 4) k 2 ws h (omega arith), four_at (length ws / 4) k 3 ws h (omega arith), z) at g) e)

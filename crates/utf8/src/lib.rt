@@ -24,15 +24,13 @@ fn followed(text: &[u8], i: usize, low: u8, high: u8, n: usize) -> usize
     }
     let mut lo = low;
     let mut hi = high;
-    let mut k = 1;
-    while k < n {
+    for k in 1..n {
         let b = text[i + k];
         if !((lo <= b) & (b <= hi)) {
             return 0;
         }
         lo = TAIL_LOW;
         hi = TAIL_HIGH;
-        k += 1;
     }
     n
 }
@@ -79,6 +77,7 @@ fn is_utf8_from(text: &[u8], from: usize) -> bool
     ensures { result ≡ is_utf8 (drop from text.now) }
 {
     let mut i = from;
+    // A `while`: each sequence says where the next one starts.
     while i < text.len() {
         let n = sequence(text, i);
         if n == 0 {
@@ -93,7 +92,7 @@ fn is_utf8_from(text: &[u8], from: usize) -> bool
 fn are_ascii(a: u8, b: u8, c: u8, d: u8) -> bool
     ensures { result ≡ (within ascii a && (within ascii b && (within ascii c && within ascii d))) }
 {
-    let word = (a as u32) + 256 * (b as u32) + 65_536 * (c as u32) + 16_777_216 * (d as u32);
+    let word = u32::from_le_bytes([a, b, c, d]);
     word & 0x8080_8080 == 0
 }
 
@@ -101,26 +100,23 @@ fn are_ascii(a: u8, b: u8, c: u8, d: u8) -> bool
 fn past_ascii(text: &[u8]) -> usize
     ensures { Read text.now 0 result }
 {
-    let mut i = 0;
-    while 4 <= text.len() - i {
-        if !are_ascii(text[i], text[i + 1], text[i + 2], text[i + 3]) {
-            return i;
+    let (fours, _) = text.as_chunks::<4>();
+    for (k, four) in fours.iter().enumerate() {
+        if !are_ascii(four[0], four[1], four[2], four[3]) {
+            return 4 * k;
         }
-        i += 4;
     }
-    i
+    4 * fours.len()
 }
 
 // Whether a text is UTF-8. Rows are asked for from the first byte on that is not ASCII.
 pub fn is_utf8(text: &[u8]) -> bool
     ensures { result ≡ is_utf8 text.now }
 {
-    let mut i = past_ascii(text);
-    while i < text.len() {
+    for i in past_ascii(text)..text.len() {
         if ASCII_HIGH < text[i] {
             return is_utf8_from(text, i);
         }
-        i += 1;
     }
     true
 }

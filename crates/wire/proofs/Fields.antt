@@ -1,14 +1,17 @@
 -- Laws of fields: the parts of each, and so their lengths. Callers cite these; the definitions stay shut.
-use Prim.Native.Nat.{ℕ, suc, ◌+◌, ◌*◌, ◌/◌, ◌%◌, ◌≤◌, ◌<◌}
-use mathlib.Core.Path.{◌≡◌, refl, ap, ◌∙◌}
+use Prim.Native.Nat.{ℕ, suc, ◌+◌, ◌*◌, ◌^◌, ◌≤◌, ◌<◌}
+use mathlib.Core.Path.{◌≡◌, refl, sym, ap, ◌∙◌}
 use mathlib.Core.List.{List, [], ◌∷◌, ◌++◌}
 use native.Mathlib.Omega.{arith}
+use Rattle.std.proofs.Math.Nat.{div-div-eq-div-mul}
 use lib.ListN.{length, get_or, length-append}
 use Rattle.promise.specs.Answers.{Gives}
 use Rattle.wire.specs.declared.field.Field.{Field}
 use Rattle.wire.specs.Varints.{varint}
 use Rattle.wire.specs.Schema.{key_of, head}
-use Rattle.wire.specs.Numbers.{fixed32, fixed64}
+use Rattle.std.specs.Int.{to_le_bytes}
+use mir.Syntax.{w32, w64}
+use Rattle.wire.specs.Numbers.{little, fixed32, fixed64}
 use Rattle.wire.specs.Fields.{varint_field, fixed32_field, fixed64_field, delimited, varints, packed_field}
 use Rattle.promise.specs.Puts.{put}
 use Rattle.wire.proofs.Varints.{varint_ten, varint_five}
@@ -24,6 +27,22 @@ module _ (field : Field) (key : ℕ) (e : key ≡ key_of field) where
   unfolding head
   head_put out r l g = rw (← e) g
 
+-- ---- the library's bytes of a number are those of the definition
+le_four : (n : ℕ) → to_le_bytes w32 n ≡ little 4 n
+le_four n = rw (div-div-eq-div-mul n 256 256, div-div-eq-div-mul n (256 ^ 2) 256) refl
+
+le_eight : (n : ℕ) → to_le_bytes w64 n ≡ little 8 n
+le_eight n =
+    rw (
+      div-div-eq-div-mul n 256 256,
+      div-div-eq-div-mul n (256 ^ 2) 256,
+      div-div-eq-div-mul n (256 ^ 3) 256,
+      div-div-eq-div-mul n (256 ^ 4) 256,
+      div-div-eq-div-mul n (256 ^ 5) 256,
+      div-div-eq-div-mul n (256 ^ 6) 256,
+    )
+    refl
+
 module _ (field : Field) where
   -- ---- a number
   pub varint_field_lem : (n : ℕ) → varint_field field n ≡ head field ++ varint n
@@ -37,13 +56,13 @@ module _ (field : Field) where
   varint_field_short n = omega (arith, varint_field_long n, varint_ten n)
 
   -- ---- four and eight bytes
-  pub fixed32_put : (n b0 b1 b2 b3 : ℕ) → b0 ≡ n % 256 → b1 ≡ n / 256 % 256 → b2 ≡ n / 256 / 256 % 256 → b3 ≡ n / 256 / 256 / 256 % 256 → (out : List ℕ) (r : ℕ) (l : List ℕ) → Gives (put (head field ++ (b0 ∷ b1 ∷ b2 ∷ b3 ∷ [])) out) r l → Gives (put (fixed32_field field n) out) r l
+  pub fixed32_put : (n : ℕ) (bytes : List ℕ) → bytes ≡ to_le_bytes w32 n → (out : List ℕ) (r : ℕ) (l : List ℕ) → Gives (put (head field ++ bytes) out) r l → Gives (put (fixed32_field field n) out) r l
   unfolding fixed32_field fixed32
-  fixed32_put n b0 b1 b2 b3 e0 e1 e2 e3 out r l g = rw (← e0, ← e1, ← e2, ← e3) g
+  fixed32_put n bytes e out r l g = rw (sym (le_four n), ← e) g
 
-  pub fixed64_put : (n b0 b1 b2 b3 b4 b5 b6 b7 : ℕ) → b0 ≡ n % 256 → b1 ≡ n / 256 % 256 → b2 ≡ n / 256 / 256 % 256 → b3 ≡ n / 256 / 256 / 256 % 256 → b4 ≡ n / 256 / 256 / 256 / 256 % 256 → b5 ≡ n / 256 / 256 / 256 / 256 / 256 % 256 → b6 ≡ n / 256 / 256 / 256 / 256 / 256 / 256 % 256 → b7 ≡ n / 256 / 256 / 256 / 256 / 256 / 256 / 256 % 256 → (out : List ℕ) (r : ℕ) (l : List ℕ) → Gives (put (head field ++ (b0 ∷ b1 ∷ b2 ∷ b3 ∷ b4 ∷ b5 ∷ b6 ∷ b7 ∷ [])) out) r l → Gives (put (fixed64_field field n) out) r l
+  pub fixed64_put : (n : ℕ) (bytes : List ℕ) → bytes ≡ to_le_bytes w64 n → (out : List ℕ) (r : ℕ) (l : List ℕ) → Gives (put (head field ++ bytes) out) r l → Gives (put (fixed64_field field n) out) r l
   unfolding fixed64_field fixed64
-  fixed64_put n b0 b1 b2 b3 b4 b5 b6 b7 e0 e1 e2 e3 e4 e5 e6 e7 out r l g = rw (← e0, ← e1, ← e2, ← e3, ← e4, ← e5, ← e6, ← e7) g
+  fixed64_put n bytes e out r l g = rw (sym (le_eight n), ← e) g
 
   pub fixed32_field_long : (n : ℕ) → length (fixed32_field field n) ≡ 5
   unfolding fixed32_field fixed32

@@ -1,5 +1,5 @@
 // Fields of four and of eight bytes, the least significant first: the bits of a float and of a double.
-ghost use Rattle.std.specs.Prelude.{◌≡◌, ◌%◌, ◌++◌};
+ghost use Rattle.std.specs.Prelude.{◌++◌};
 ghost use Rattle.promise.specs.Answers.{Gives};
 ghost use Rattle.wire.specs.Schema.{head};
 ghost use Rattle.wire.specs.Fields.{fixed32_field, fixed64_field};
@@ -8,12 +8,6 @@ ghost use Rattle.promise.specs.Puts.{put};
 use crate::field::Field;
 use crate::head::{head_size, put_head};
 use crate::run::put_run;
-
-fn low_byte(n: u64) -> u8
-    ensures { result ≡ n % 256 }
-{
-    (n % 256) as u8
-}
 
 // A head, and bytes behind it.
 fn put_headed(field: Field, bytes: &[u8], out: &mut [u8]) -> usize
@@ -31,33 +25,13 @@ fn put_headed(field: Field, bytes: &[u8], out: &mut [u8]) -> usize
 pub fn put_fixed32(field: Field, n: u32, out: &mut [u8]) -> usize
     ensures { Gives (put (fixed32_field field n) out.old) result out.new }
 {
-    let n0 = n as u64;
-    let n1 = n0 / 256;
-    let n2 = n1 / 256;
-    let n3 = n2 / 256;
-    let bytes = [low_byte(n0), low_byte(n1), low_byte(n2), low_byte(n3)];
-    put_headed(field, &bytes, out)
+    let float = n.to_le_bytes();
+    put_headed(field, &float, out)
 }
 
 pub fn put_fixed64(field: Field, n: u64, out: &mut [u8]) -> usize
     ensures { Gives (put (fixed64_field field n) out.old) result out.new }
 {
-    let n1 = n / 256;
-    let n2 = n1 / 256;
-    let n3 = n2 / 256;
-    let n4 = n3 / 256;
-    let n5 = n4 / 256;
-    let n6 = n5 / 256;
-    let n7 = n6 / 256;
-    let bytes = [
-        low_byte(n),
-        low_byte(n1),
-        low_byte(n2),
-        low_byte(n3),
-        low_byte(n4),
-        low_byte(n5),
-        low_byte(n6),
-        low_byte(n7),
-    ];
-    put_headed(field, &bytes, out)
+    let double = n.to_le_bytes();
+    put_headed(field, &double, out)
 }

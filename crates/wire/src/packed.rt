@@ -7,18 +7,14 @@ ghost use Rattle.promise.specs.Puts.{put, Puts};
 use crate::field::Field;
 use crate::head::{put_varint_field, varint_field_size};
 use crate::varint::{put_varint, varint_size};
-use number::long;
 
 // How many bytes the numbers take: five at most each, so that a slice of words never takes more than 64 bits can count.
 pub fn varints_size(words: &[u32]) -> usize
     ensures { result ≡ length (varints words.now) }
 {
-    let mut i = 0;
     let mut size = 0;
-    while i < words.len() {
-        let word = long(words[i]);
-        size += varint_size(word);
-        i += 1;
+    for word in words {
+        size += varint_size(u64::from(*word));
     }
     size
 }
@@ -27,13 +23,10 @@ fn lay_varints(words: &[u32], out: &mut [u8]) -> usize
     requires { length (varints words.now) ≤ length out.old }
     ensures { Puts (varints words.now) out.old result out.new }
 {
-    let mut i = 0;
     let mut at = 0;
-    while i < words.len() {
-        let word = long(words[i]);
-        let count = put_varint(word, &mut out[at..]);
+    for word in words {
+        let count = put_varint(u64::from(*word), &mut out[at..]);
         at += count;
-        i += 1;
     }
     at
 }
@@ -41,7 +34,7 @@ fn lay_varints(words: &[u32], out: &mut [u8]) -> usize
 pub fn packed_size(field: Field, words: &[u32]) -> usize
     ensures { result ≡ length (packed_field field words.now) }
 {
-    if words.len() == 0 {
+    if words.is_empty() {
         return 0;
     }
     let size = varints_size(words);
@@ -52,7 +45,7 @@ pub fn packed_size(field: Field, words: &[u32]) -> usize
 pub fn put_packed(field: Field, words: &[u32], out: &mut [u8]) -> usize
     ensures { Gives (put (packed_field field words.now) out.old) result out.new }
 {
-    if words.len() == 0 {
+    if words.is_empty() {
         return 0;
     }
     let size = varints_size(words);

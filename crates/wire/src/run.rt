@@ -1,23 +1,10 @@
 // Bytes as they are, and a field of them: a text, or a message that is ready.
-ghost use Rattle.std.specs.Prelude.{◌≤◌, length};
 ghost use Rattle.promise.specs.Answers.{Gives};
 ghost use Rattle.wire.specs.Fields.{delimited};
-ghost use Rattle.promise.specs.Puts.{put, Puts};
+ghost use Rattle.promise.specs.Puts.{put};
 
 use crate::field::Field;
 use crate::head::{put_varint_field, varint_field_size};
-
-fn lay_run(bytes: &[u8], out: &mut [u8]) -> usize
-    requires { length bytes.now ≤ length out.old }
-    ensures { Puts bytes.now out.old result out.new }
-{
-    let mut i = 0;
-    while i < bytes.len() {
-        out[i] = bytes[i];
-        i += 1;
-    }
-    i
-}
 
 pub fn put_run(bytes: &[u8], out: &mut [u8]) -> usize
     ensures { Gives (put bytes.now out.old) result out.new }
@@ -25,7 +12,8 @@ pub fn put_run(bytes: &[u8], out: &mut [u8]) -> usize
     if out.len() < bytes.len() {
         return 0;
     }
-    lay_run(bytes, out)
+    out[..bytes.len()].copy_from_slice(bytes);
+    bytes.len()
 }
 
 pub fn put_bytes(field: Field, bytes: &[u8], out: &mut [u8]) -> usize

@@ -9,5 +9,5 @@ pub fn zigzag(bits: u64) -> u64
     if bits < 9_223_372_036_854_775_808 {
         return 2 * bits;
     }
-    2 * (18_446_744_073_709_551_615 - bits) + 1
+    2 * (u64::MAX - bits) + 1
 }

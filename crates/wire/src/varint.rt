@@ -44,6 +44,7 @@ fn group(n: u64) -> u8
     (n % 128 + 128) as u8
 }
 
+// How many bytes there are shows on the way, so it is a `while`.
 fn lay_varint(n: u64, out: &mut [u8]) -> usize
     requires { length (varint n) ≤ length out.old }
     ensures { Puts (varint n) out.old result out.new }

@@ -1,10 +1,9 @@
 -- Laws of command words: encoding and decoding undo each other, and an answer is known by what it says.
 use mathlib.Core.Path.{◌≡◌, refl, sym, ◌∙◌, ap}
 use mathlib.Core.Bool.{Bool, true, false, cond}
-use Prim.Native.Nat.{ℕ, ◌/◌, ◌%◌, ◌≤◌}
+use Prim.Native.Nat.{ℕ, ◌/◌, ◌%◌}
 use native.Mathlib.Omega.{arith}
-use borrow.Author.Tests.{ne_eqb}
-use lib.Dec.{eqb}
+use Rattle.std.specs.Prelude.{Result, Ok, Err}
 use Rattle.refusal.specs.declared.Refusal.{Refusal}
 use Rattle.refusal.specs.declared.Refusal.TheVariants.{Command as NoCommand}
 use Rattle.refusal.specs.Said.{Said, accepted, refused}
@@ -12,16 +11,7 @@ use Rattle.refusal.proofs.Laws.{one_refusal, never_both}
 use Rattle.words.specs.declared.command.Command.{Command}
 use Rattle.words.specs.declared.command.Command.TheVariants.{MoveTo, LineTo, ClosePath}
 use Rattle.words.specs.declared.command.CommandInt.{CommandInt}
-use Rattle.words.specs.declared.command.CommandWord.{CommandWord}
-use Rattle.words.specs.declared.command.CommandWord.TheVariants.{Word, Refused as WordRefused}
-use Rattle.words.specs.declared.command.CommandRead.{CommandRead}
-use Rattle.words.specs.declared.command.CommandRead.TheVariants.{Read, Refused as ReadRefused}
 use Rattle.words.specs.Commands.{id_of, command_word, said_word, IdCount, is_id, decoded, said_command}
-
-pub id_small : (c : Command) → id_of c ≤ 7
-id_small MoveTo = omega arith
-id_small LineTo = omega arith
-id_small ClosePath = omega arith
 
 -- ---- there and back
 parts : (c : Command) (count : ℕ) → (command_word (id_of c) count % 8 ≡ id_of c) × (command_word (id_of c) count / 8 ≡ count)
@@ -52,28 +42,20 @@ same_id ClosePath MoveTo e = absurd (omega arith)
 same_id ClosePath LineTo e = absurd (omega arith)
 same_id ClosePath ClosePath e = refl
 
-pub one_word : (r r' : CommandWord) → said_word r ≡ said_word r' → r ≡ r'
-one_word (Word w) (Word w') e = ap (λ (s : Said ℕ). Word s.values) e
-one_word (Word w) (WordRefused r) e = absurd (never_both r e)
-one_word (WordRefused r) (Word w) e = absurd (never_both r (sym e))
-one_word (WordRefused r) (WordRefused r') e = ap WordRefused (one_refusal r r' e)
+pub one_word : (r r' : Result ℕ Refusal) → said_word r ≡ said_word r' → r ≡ r'
+one_word (Ok w) (Ok w') e = ap (λ (s : Said ℕ). Ok s.values) e
+one_word (Ok w) (Err r) e = absurd (never_both r e)
+one_word (Err r) (Ok w) e = absurd (never_both r (sym e))
+one_word (Err r) (Err r') e = ap Err (one_refusal r r' e)
 
-pub one_command : (r r' : CommandRead) → said_command r ≡ said_command r' → r ≡ r'
-one_command (Read c) (Read c') e =
+pub one_command : (r r' : Result CommandInt Refusal) → said_command r ≡ said_command r' → r ≡ r'
+one_command (Ok c) (Ok c') e =
     let i : c.id ≡ c'.id = same_id c.id c'.id (ap (λ (s : Said IdCount). s.values.id) e) in
     let n : c.count ≡ c'.count = ap (λ (s : Said IdCount). s.values.count) e in
-    λ k. Read (record { id = i k; count = n k })
-one_command (Read c) (ReadRefused r) e = absurd (never_both r e)
-one_command (ReadRefused r) (Read c) e = absurd (never_both r (sym e))
-one_command (ReadRefused r) (ReadRefused r') e = ap ReadRefused (one_refusal r r' e)
-
--- ---- what each `return` of decode says
-module _ (word : ℕ) where
-  pub says_id : (id : Command) → word % 8 ≡ id_of id → said_command (Read (record { id = id; count = word / 8 })) ≡ decoded word
-  says_id id e = rw (e, known id)
-
-  pub says_none : (word % 8 ≡ 1 → ⊥) → (word % 8 ≡ 2 → ⊥) → (word % 8 ≡ 7 → ⊥) → is_id (word % 8) ≡ false
-  says_none a b c = rw (ne_eqb (word % 8) 1 a, ne_eqb (word % 8) 2 b, ne_eqb (word % 8) 7 c)
+    λ k. Ok (record { id = i k; count = n k })
+one_command (Ok c) (Err r) e = absurd (never_both r e)
+one_command (Err r) (Ok c) e = absurd (never_both r (sym e))
+one_command (Err r) (Err r') e = ap Err (one_refusal r r' e)
 
 -- ---- the word that was decoded, by what `decode` answered
 abbrev none : IdCount
@@ -87,11 +69,11 @@ heard : (t : Bool) (x v : IdCount) → accepted v ≡ cond t (accepted x) (refus
 heard true x v e = (refl, ap (λ (s : Said IdCount). s.values) e)
 heard false x v e = absurd (never_both NoCommand e)
 
-module _ (word : ℕ) (r : CommandRead) (said : said_command r ≡ decoded word) where
-  pub decoded_none : (k : Refusal) → r ≡ ReadRefused k → is_id (word % 8) ≡ false
+module _ (word : ℕ) (r : Result CommandInt Refusal) (said : said_command r ≡ decoded word) where
+  pub decoded_none : (k : Refusal) → r ≡ Err k → is_id (word % 8) ≡ false
   decoded_none k e = heard_not (is_id (word % 8)) (record { id = word % 8; count = word / 8 }) k (ap said_command (sym e) ∙ said)
 
-  pub decoded_some : (c : CommandInt) → r ≡ Read c → (is_id (word % 8) ≡ true) × (id_of c.id ≡ word % 8) × (c.count ≡ word / 8)
+  pub decoded_some : (c : CommandInt) → r ≡ Ok c → (is_id (word % 8) ≡ true) × (id_of c.id ≡ word % 8) × (c.count ≡ word / 8)
   decoded_some c e =
       let (t, v) = heard (is_id (word % 8)) (record { id = word % 8; count = word / 8 }) (record { id = id_of c.id; count = c.count }) (ap said_command (sym e) ∙ said) in
       (t, ap (λ (x : IdCount). x.id) v, ap (λ (x : IdCount). x.count) v)

@@ -1,13 +1,11 @@
 -- Document 01, "Words", and MVT 4.3.1: "Command word: id + 8 × count; MoveTo 1, LineTo 2, ClosePath 7."
-use Rattle.std.specs.Prelude.{ℕ, ◌+◌, ◌*◌, ◌/◌, ◌%◌, Bool, cond, ◌||◌, leb, eqb}
+use Rattle.std.specs.Prelude.{ℕ, ◌+◌, ◌*◌, ◌/◌, ◌%◌, Bool, cond, ◌||◌, leb, eqb, Result, Ok, Err}
+use Rattle.refusal.specs.declared.Refusal.{Refusal}
 use Rattle.refusal.specs.declared.Refusal.TheVariants.{Command as NoCommand, Room}
 use Rattle.refusal.specs.Said.{Said, accepted, refused}
 use Rattle.words.specs.declared.command.Command.{Command}
 use Rattle.words.specs.declared.command.Command.TheVariants.{MoveTo, LineTo, ClosePath}
-use Rattle.words.specs.declared.command.CommandWord.{CommandWord}
-use Rattle.words.specs.declared.command.CommandWord.TheVariants.{Word, Refused as WordRefused}
-use Rattle.words.specs.declared.command.CommandRead.{CommandRead}
-use Rattle.words.specs.declared.command.CommandRead.TheVariants.{Read, Refused as ReadRefused}
+use Rattle.words.specs.declared.command.CommandInt.{CommandInt}
 
 abbrev pub id_of : Command → ℕ
 id_of MoveTo = 1
@@ -25,9 +23,9 @@ max_count = 536870911
 abbrev pub encoded : ℕ → ℕ → Said ℕ
 encoded id count = cond (leb count max_count) (accepted (command_word id count)) (refused Room 0)
 
-abbrev pub said_word : CommandWord → Said ℕ
-said_word (Word w) = accepted w
-said_word (WordRefused r) = refused r 0
+abbrev pub said_word : Result ℕ Refusal → Said ℕ
+said_word (Ok w) = accepted w
+said_word (Err r) = refused r 0
 
 -- ---- decoding: an id that is not 1, 2 or 7 is COMMAND
 pub record IdCount : Type 0 where
@@ -40,6 +38,6 @@ is_id n = eqb n 1 || eqb n 2 || eqb n 7
 abbrev pub decoded : ℕ → Said IdCount
 decoded w = cond (is_id (w % 8)) (accepted (record { id = w % 8; count = w / 8 })) (refused NoCommand (record { id = 0; count = 0 }))
 
-abbrev pub said_command : CommandRead → Said IdCount
-said_command (Read c) = accepted (record { id = id_of c.id; count = c.count })
-said_command (ReadRefused r) = refused r (record { id = 0; count = 0 })
+abbrev pub said_command : Result CommandInt Refusal → Said IdCount
+said_command (Ok c) = accepted (record { id = id_of c.id; count = c.count })
+said_command (Err r) = refused r (record { id = 0; count = 0 })

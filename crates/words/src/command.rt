@@ -17,18 +17,6 @@ pub struct CommandInt {
     pub count: u32,
 }
 
-#[derive(Clone, Copy)]
-pub enum CommandWord {
-    Word(u32),
-    Refused(Refusal),
-}
-
-#[derive(Clone, Copy)]
-pub enum CommandRead {
-    Read(CommandInt),
-    Refused(Refusal),
-}
-
 impl Command {
     // MVT's number of a command.
     pub fn number(self) -> u32
@@ -52,41 +40,26 @@ impl CommandInt {
         CommandInt::MAX_COUNT
     }
 
-    pub fn encode(self) -> CommandWord
+    pub fn encode(self) -> Result<u32, Refusal>
         ensures { said_word result ≡ encoded (id_of self.id) self.count }
     {
-        let command = self.id;
-        let count = self.count;
-        if CommandInt::MAX_COUNT < count {
-            return CommandWord::Refused(Refusal::Room);
+        if CommandInt::MAX_COUNT < self.count {
+            return Err(Refusal::Room);
         }
-        let id = command.number();
-        CommandWord::Word(id + 8 * count)
+        let id = self.id.number();
+        Ok(id + 8 * self.count)
     }
 
-    pub fn decode(word: u32) -> CommandRead
+    pub fn decode(word: u32) -> Result<CommandInt, Refusal>
         ensures { said_command result ≡ decoded word }
     {
-        let id = word % 8;
         let count = word / 8;
-        if id == 1 {
-            return CommandRead::Read(CommandInt {
-                id: Command::MoveTo,
-                count,
-            });
-        }
-        if id == 2 {
-            return CommandRead::Read(CommandInt {
-                id: Command::LineTo,
-                count,
-            });
-        }
-        if id == 7 {
-            return CommandRead::Read(CommandInt {
-                id: Command::ClosePath,
-                count,
-            });
-        }
-        CommandRead::Refused(Refusal::Command)
+        let id = match word % 8 {
+            1 => Command::MoveTo,
+            2 => Command::LineTo,
+            7 => Command::ClosePath,
+            _ => return Err(Refusal::Command),
+        };
+        Ok(CommandInt { id, count })
     }
 }

@@ -4,6 +4,7 @@ ghost use Rattle.words.specs.Geometries.{is_kind, max_words, room};
 
 use number::smaller;
 
+// The kind is a number from outside, any number: `is_good` asks which ones are kinds, so it is no enum.
 #[derive(Clone, Copy)]
 pub struct Geometry {
     pub kind: u32,
@@ -27,8 +28,7 @@ impl Geometry {
     pub fn is_good(self) -> bool
         ensures { result ≡ is_kind self.kind }
     {
-        let kind = self.kind;
-        (Geometry::POINT <= kind) & (kind <= Geometry::POLYGON)
+        Geometry::POINT <= self.kind && self.kind <= Geometry::POLYGON
     }
 
     // How many words fit a lent list of that length.

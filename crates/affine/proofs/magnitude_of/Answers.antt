@@ -1,7 +1,7 @@
 -- `affine::magnitude_of` meets its contract: doubled exactly, cut, and halved upwards.
 use Rattle.std.proofs.Common.{ℕ, ◌+◌, ◌/◌, ◌<◌, T, pos, sym, ap, ◌∙◌, subst, arith, w32}
 use mir.Facts.{to_z_pos}
-use lib.Ieee.{binary64, fits, add}
+use lib.Ieee.{binary64, add}
 use Rattle.affine.specs.Facts.{magnitude}
 use Rattle.affine.proofs.Halving.{Doubled, doubled}
 use Rattle.affine.proofs.magnitude_of.Goals as goal

@@ -1,4 +1,4 @@
-use Rattle.std.proofs.Common.{◌≡◌, ◌+◌, ◌-◌, ◌≤◌, length, get_or, arith, length-set, rules}
+use Rattle.std.proofs.Common.{◌≡◌, ◌+◌, ◌≤◌, length, get_or, arith}
 use lib.Ieee.{nan}
 use Rattle.affine.proofs.Plain.{Tested, cast_across, cast_upward, is_x, is_y}
 use Rattle.affine.proofs.Turns.{maps_none, maps_one, maps_long, maps_more}
@@ -29,12 +29,6 @@ left : (c : In-loop-i) → c.loop-i.i + 2 ≤ c.args.to
 left c =
     omega (arith, c.loop-i.invariant.ahead, c.loop-i.invariant.whole, c.requires.from_le_to, c.requires.from_value, c.loop-i-test.true)
 
-in_points : (c : In-loop-i) → c.loop-i.i + 2 ≤ length c.args.points.now
-in_points c = omega (arith, left c, c.requires.to_in_bounds)
-
-in_out : (c : In-loop-i) → c.loop-i.i + 2 ≤ length c.loop-i.out
-in_out c = omega (arith, left c, long c.before, c.requires.to_in_bounds_2)
-
 -- what is known of the point at i where its tests have passed
 abbrev Passed : Else-not-on_grid-near → Type 0
 Passed c =
@@ -56,58 +50,16 @@ tested c =
       passed = c.if-not-on_grid-near.false-raw;
     }
 
-pub offset_bounds-points-i : goal.offset_bounds-points-i
-offset_bounds-points-i c = let h = in_points c.before in search rules
-
-pub bounds-points-i : goal.bounds-points-i
-bounds-points-i c = let h = in_points c.before.before in search rules
-
-pub overflow_add-y : goal.overflow_add-y
-overflow_add-y c = let h = in_points c.before.before in search rules
-
-pub offset_bounds-points-i-in-loop-i : goal.offset_bounds-points-i-in-loop-i
-offset_bounds-points-i-in-loop-i c = let h = in_points c.before.before in search rules
-
-pub bounds-points-i-in-loop-i : goal.bounds-points-i-in-loop-i
-bounds-points-i-in-loop-i c = let h = in_points c.before.before.before in search rules
-
-pub shape_of-out-then-not-on_grid-near : goal.shape_of-out-then-not-on_grid-near
-shape_of-out-then-not-on_grid-near c = long c.before.before.before.before.before.before.before.before.before.before.before.before.before
-
-pub returns-then-not-on_grid-near : goal.returns-then-not-on_grid-near
-returns-then-not-on_grid-near c = c.loop-i.invariant
-
 pub float_to_int-out : goal.float_to_int-out
 float_to_int-out c = cast_across (tested c.before.before)
 
-pub offset_bounds-out-i : goal.offset_bounds-out-i
-offset_bounds-out-i c = let h = in_points c.before.before.before.before.before.before.before.before.before.before.before.before.before in search rules
-
-pub bounds-out-i : goal.bounds-out-i
-bounds-out-i c = omega (arith, in_out c.before.before.before.before.before.before.before.before.before.before.before.before.before)
-
 pub float_to_int-out-in-loop-i : goal.float_to_int-out-in-loop-i
 float_to_int-out-in-loop-i c = cast_upward (tested c.before.before.before)
-
-pub overflow_add-i : goal.overflow_add-i
-overflow_add-i c = let h = in_points c.before.before.before.before.before.before.before.before.before.before.before.before.before.before in search rules
-
-pub offset_bounds-out-i-in-loop-i : goal.offset_bounds-out-i-in-loop-i
-offset_bounds-out-i-in-loop-i c = let h = in_points c.before.before.before.before.before.before.before.before.before.before.before.before.before.before in search rules
-
-pub bounds-out-i-in-loop-i : goal.bounds-out-i-in-loop-i
-bounds-out-i-in-loop-i c = simp length-set (omega (arith, in_out c.before.before.before.before.before.before.before.before.before.before.before.before.before.before))
-
-pub overflow_add-i-in-loop-i : goal.overflow_add-i-in-loop-i
-overflow_add-i-in-loop-i c = let h = in_points c.before.before.before.before.before.before.before.before.before.before.before.before.before.before in search rules
 
 pub loop-i-preserved : goal.loop-i-preserved
 loop-i-preserved c =
     maps_more c.requires.to_in_bounds c.requires.to_in_bounds_2 c.loop-i.invariant
     (maps_one c.requires.to_in_bounds (omega (arith, long c.before.before.before.before.before.before.before.before.before.before.before.before.before.before.before, c.requires.to_in_bounds_2)) nan (left c.before.before.before.before.before.before.before.before.before.before.before.before.before.before) (is_x (tested c.before.before.before)) (is_y (tested c.before.before.before)))
-
-pub shape_of-out : goal.shape_of-out
-shape_of-out c = long c.before.before
 
 pub returns : goal.returns
 returns c = c.loop-i.invariant

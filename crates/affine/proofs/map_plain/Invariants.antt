@@ -4,7 +4,7 @@ use Rattle.affine.specs.Facts.{MapsPlain}
 use Rattle.affine.proofs.map_plain.Given as goal
 
 abbrev pub invariant-loop-i : goal.invariant-loop-i
-invariant-loop-i l = MapsPlain (record { a = l.a; b = l.b; c = l.c; d = l.d; e = l.e; f = l.f }) l.points l.from l.to l.initial.out l.i l.out
+invariant-loop-i l = MapsPlain l.t l.points l.from l.to l.initial.out l.i l.out
 
 abbrev pub decreases-loop-i : goal.decreases-loop-i
 decreases-loop-i l = l.to - l.i

@@ -1,7 +1,7 @@
 -- `clip::clip` meets its contract: BOX, then COORD, then the clip, where a segment beside the box stays; and demand 3 is a theorem about the definition.
 use mathlib.Core.Path.{◌≡◌, sym, ◌∙◌}
 use Rattle.clip.specs.declared.ClippedSeg.{ClippedSeg}
-use Rattle.clip.specs.declared.Clipped.TheVariants.{Done}
+use Rattle.std.specs.Prelude.{Ok}
 use Rattle.clip.specs.Facts.{Good}
 use Rattle.clip.specs.Cutting.{clip}
 use Rattle.clip.proofs.Returns.{Owed, bad_box, good, bad_coord, coords, done, beside_x_lem, beside_y_lem, good_cornered, clip_cornered}
@@ -24,7 +24,7 @@ Else-not-are_coords = places.Else2 tie.the-claims contract.Pre contract.Post tie
 is_good_box : (c : Else-not-is_good) → Good c.args.bbox
 is_good_box c = good c.args.seg c.args.bbox _ c.is_good.ensures c.if-not-is_good.false-raw
 
-are_coords_done : (c : Else-not-are_coords) → (r : ClippedSeg) → r ≡ clip c.args.bbox c.args.seg → Owed c.args.seg c.args.bbox (Done r)
+are_coords_done : (c : Else-not-are_coords) → (r : ClippedSeg) → r ≡ clip c.args.bbox c.args.seg → Owed c.args.seg c.args.bbox (Ok r)
 are_coords_done c =
     done c.args.seg c.args.bbox _ c.is_good.ensures c.if-not-is_good.false-raw _ c.are_coords.ensures c.if-not-are_coords.false-raw
 

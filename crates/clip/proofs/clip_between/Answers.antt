@@ -2,7 +2,7 @@
 use mathlib.Core.Path.{◌≡◌, ◌∙◌}
 use Rattle.clip.specs.declared.Seg.{Seg}
 use Rattle.clip.specs.declared.ClippedSeg.{ClippedSeg}
-use Rattle.clip.specs.declared.Clipped.TheVariants.{Done}
+use Rattle.std.specs.Prelude.{Ok}
 use Rattle.clip.specs.Answer.{said_clipped, clipped}
 use Rattle.clip.specs.Facts.{Good}
 use Rattle.clip.specs.Cutting.{clip}
@@ -30,7 +30,7 @@ seg s = between s.args.from s.args.to
 is_good_box : (c : Else-not-is_good) → Good c.args.bbox
 is_good_box c = good (seg c.before.before) c.args.bbox _ c.is_good.ensures c.if-not-is_good.false-raw
 
-said : (c : Else-not-are_coords) → (r : ClippedSeg) → r ≡ clip c.args.bbox (seg c.before.before.before.before) → said_clipped (Done r) ≡ clipped (seg c.before.before.before.before) c.args.bbox
+said : (c : Else-not-are_coords) → (r : ClippedSeg) → r ≡ clip c.args.bbox (seg c.before.before.before.before) → said_clipped (Ok r) ≡ clipped (seg c.before.before.before.before) c.args.bbox
 said c r h =
     (done (seg c.before.before.before.before) c.args.bbox _ c.is_good.ensures c.if-not-is_good.false-raw _ c.are_coords.ensures c.if-not-are_coords.false-raw r h).0
 

@@ -7,11 +7,5 @@ use Rattle.decoder.proofs.draw.Goals as goal
 pub returns-then-not-is_inside : goal.returns-then-not-is_inside
 returns-then-not-is_inside c = search (rules, draw_out, leads_out)
 
-pub overflow_cast-x : goal.overflow_cast-x
-overflow_cast-x c = search (rules, x_fits)
-
-pub overflow_cast-y : goal.overflow_cast-y
-overflow_cast-y c = search (rules, y_fits)
-
 pub returns : goal.returns
 returns c = search (rules, draw_done, leads_in, leads_behind)

@@ -13,40 +13,40 @@ use Rattle.edges.proofs.Telling.{within, no_numbers, no_job, all_edges}
 use Rattle.edges.proofs.answer.Goals as goal
 
 pub slice_bounds-encode_file_edges-end : goal.slice_bounds-encode_file_edges-end
-slice_bounds-encode_file_edges-end c = omega (arith, read_within _ _ _ _ (found said_numbers _ _ c.in-Read.is c.read_numbers.ensures))
+slice_bounds-encode_file_edges-end c = omega (arith, read_within _ _ _ _ (found said_numbers _ _ c.in-Ok.is c.read_numbers.ensures))
 
-pub slice_bounds-encode_file_edges-end-in-Read : goal.slice_bounds-encode_file_edges-end-in-Read
-slice_bounds-encode_file_edges-end-in-Read c = sym (length-take-le _ _ (omega (arith, read_within _ _ _ _ (found said_numbers _ _ c.in-Read.is c.read_numbers.ensures))))
+pub slice_bounds-encode_file_edges-end-in-Ok : goal.slice_bounds-encode_file_edges-end-in-Ok
+slice_bounds-encode_file_edges-end-in-Ok c = sym (length-take-le _ _ (omega (arith, read_within _ _ _ _ (found said_numbers _ _ c.in-Ok.is c.read_numbers.ensures))))
 
 pub slice_bounds-point_count-end : goal.slice_bounds-point_count-end
-slice_bounds-point_count-end c = omega (arith, read_within _ _ _ _ (found said_numbers _ _ c.in-Read.is c.read_numbers.ensures))
+slice_bounds-point_count-end c = omega (arith, read_within _ _ _ _ (found said_numbers _ _ c.in-Ok.is c.read_numbers.ensures))
 
-pub slice_bounds-point_count-end-in-Words : goal.slice_bounds-point_count-end-in-Words
-slice_bounds-point_count-end-in-Words c = sym (length-take-le _ _ (omega (arith, read_within _ _ _ _ (found said_numbers _ _ c.in-Read.is c.read_numbers.ensures))))
+pub slice_bounds-point_count-end-in-Ok-encode_file_edges : goal.slice_bounds-point_count-end-in-Ok-encode_file_edges
+slice_bounds-point_count-end-in-Ok-encode_file_edges c = sym (length-take-le _ _ (omega (arith, read_within _ _ _ _ (found said_numbers _ _ c.in-Ok.is c.read_numbers.ensures))))
 
 pub overflow_mul-points : goal.overflow_mul-points
-overflow_mul-points c = omega (arith, within c.in-Read.n _ _ (length c.args.edges.now) c.point_count-points.ensures (omega (arith, read_within _ _ _ _ (found said_numbers _ _ c.in-Read.is c.read_numbers.ensures))))
+overflow_mul-points c = omega (arith, within c.in-Ok.n _ _ (length c.args.edges.now) c.point_count-points.ensures (omega (arith, read_within _ _ _ _ (found said_numbers _ _ c.in-Ok.is c.read_numbers.ensures))))
 
 pub slice_bounds-show_edges-end : goal.slice_bounds-show_edges-end
-slice_bounds-show_edges-end c = omega (arith, within c.in-Read.n _ _ (length c.args.edges.now) c.point_count-points.ensures (omega (arith, read_within _ _ _ _ (found said_numbers _ _ c.in-Read.is c.read_numbers.ensures))))
+slice_bounds-show_edges-end c = omega (arith, within c.in-Ok.n _ _ (length c.args.edges.now) c.point_count-points.ensures (omega (arith, read_within _ _ _ _ (found said_numbers _ _ c.in-Ok.is c.read_numbers.ensures))))
 
-pub slice_bounds-show_edges-end-in-Words : goal.slice_bounds-show_edges-end-in-Words
-slice_bounds-show_edges-end-in-Words c = sym (length-take-le _ _ (omega (arith, within c.in-Read.n _ _ (length c.args.edges.now) c.point_count-points.ensures (omega (arith, read_within _ _ _ _ (found said_numbers _ _ c.in-Read.is c.read_numbers.ensures))))))
+pub slice_bounds-show_edges-end-in-Ok-encode_file_edges : goal.slice_bounds-show_edges-end-in-Ok-encode_file_edges
+slice_bounds-show_edges-end-in-Ok-encode_file_edges c = sym (length-take-le _ _ (omega (arith, within c.in-Ok.n _ _ (length c.args.edges.now) c.point_count-points.ensures (omega (arith, read_within _ _ _ _ (found said_numbers _ _ c.in-Ok.is c.read_numbers.ensures))))))
 
-pub returns-in-Refused : goal.returns-in-Refused
+pub returns-in-Err : goal.returns-in-Err
 unfolding printed
-returns-in-Refused c =
-    no_numbers _ (lists c.args.words.now c.args.edges.now) c.args.text.now _ _ _ c.in-Refused.r c.requires.in_bounds
-    (found said_numbers _ _ c.in-Refused.is c.read_numbers.ensures) (rw c.number.ensures at c.show_refused.ensures)
+returns-in-Err c =
+    no_numbers _ (lists c.args.words.now c.args.edges.now) c.args.text.now _ _ _ c.in-Err.r c.requires.in_bounds
+    (found said_numbers _ _ c.in-Err.is c.read_numbers.ensures) (rw c.number.ensures at c.show_refused.ensures)
 
-pub returns-in-Refused-encode_file_edges : goal.returns-in-Refused-encode_file_edges
+pub returns-in-Err-encode_file_edges : goal.returns-in-Err-encode_file_edges
 unfolding printed
-returns-in-Refused-encode_file_edges c =
-    no_job _ (lists c.args.words.now c.args.edges.now) c.args.text.now _ _ _ _ (found said_numbers _ _ c.in-Read.is c.read_numbers.ensures) _ c.in-Refused-encode_file_edges.r _ c.requires.in_bounds
-    (found said_encoded _ _ c.in-Refused-encode_file_edges.is c.encode_file_edges.ensures) (rw c.number-in-Refused-encode_file_edges.ensures at c.show_refused-in-Refused-encode_file_edges.ensures)
+returns-in-Err-encode_file_edges c =
+    no_job _ (lists c.args.words.now c.args.edges.now) c.args.text.now _ _ _ _ (found said_numbers _ _ c.in-Ok.is c.read_numbers.ensures) _ c.in-Err-encode_file_edges.e.refusal _ c.requires.in_bounds
+    (found said_encoded _ _ c.in-Err-encode_file_edges.is c.encode_file_edges.ensures) (rw c.number-in-Err-encode_file_edges.ensures at c.show_refused-in-Err-encode_file_edges.ensures)
 
-pub returns-in-Words : goal.returns-in-Words
+pub returns-in-Ok-encode_file_edges : goal.returns-in-Ok-encode_file_edges
 unfolding printed
-returns-in-Words c =
-    all_edges _ (lists c.args.words.now c.args.edges.now) c.args.text.now _ _ _ _ (found said_numbers _ _ c.in-Read.is c.read_numbers.ensures) _ c.in-Words.field-0 _ c.point_count-points.ensures
-    (omega (arith, within c.in-Read.n _ _ (length c.args.edges.now) c.point_count-points.ensures (omega (arith, read_within _ _ _ _ (found said_numbers _ _ c.in-Read.is c.read_numbers.ensures))))) (omega arith) (found said_encoded _ _ c.in-Words.is c.encode_file_edges.ensures) c.show_edges.ensures
+returns-in-Ok-encode_file_edges c =
+    all_edges _ (lists c.args.words.now c.args.edges.now) c.args.text.now _ _ _ _ (found said_numbers _ _ c.in-Ok.is c.read_numbers.ensures) _ c.in-Ok-encode_file_edges.field-0 _ c.point_count-points.ensures
+    (omega (arith, within c.in-Ok.n _ _ (length c.args.edges.now) c.point_count-points.ensures (omega (arith, read_within _ _ _ _ (found said_numbers _ _ c.in-Ok.is c.read_numbers.ensures))))) (omega arith) (found said_encoded _ _ c.in-Ok-encode_file_edges.is c.encode_file_edges.ensures) c.show_edges.ensures

@@ -1,13 +1,9 @@
 -- The loop's invariant: the entries below j have been pushed.
-use Prim.Native.Nat.{◌-◌, ◌/◌}
-use mathlib.Core.Path.{◌≡◌}
+use Prim.Native.Nat.{◌/◌}
 use lib.ListN.{length}
 use Rattle.index.specs.Entries.{value_hash}
 use Rattle.index.proofs.Pushing.{Built}
 use Rattle.index.proofs.build_values.Given as goal
 
 abbrev pub invariant-loop-j : goal.invariant-loop-j
-invariant-loop-j l = (l.n ≡ length l.values / 3) × Built l.initial.index l.index (value_hash l.values l.texts) l.n l.j
-
-abbrev pub decreases-loop-j : goal.decreases-loop-j
-decreases-loop-j l = l.n - l.j
+invariant-loop-j l = Built l.initial.index l.index (value_hash l.values l.texts) (length l.values / 3) l.j

@@ -1,13 +1,12 @@
-use Prim.Native.Nat.{◌-◌}
+use Rattle.std.proofs.Common.{rules}
 use Rattle.index.proofs.Hashing.{start, further, ends}
-use borrow.Author.Rules.{rules}
 use Rattle.index.proofs.hash_text.Goals as goal
 
-pub loop-i-init : goal.loop-i-init
-loop-i-init c = start _
+pub loop-b-init : goal.loop-b-init
+loop-b-init c = start _
 
-pub loop-i-preserved : goal.loop-i-preserved
-loop-i-preserved c = search (rules, further)
+pub loop-b-preserved : goal.loop-b-preserved
+loop-b-preserved c = search (rules, further)
 
 pub returns : goal.returns
 returns c = search (rules, ends)

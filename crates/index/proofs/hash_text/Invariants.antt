@@ -1,11 +1,6 @@
--- The loop's invariant: the number of the text is what the bytes from i on make of acc.
-use Prim.Native.Nat.{◌-◌}
-use lib.ListN.{length}
+-- The loop's invariant: the number of the text is what the bytes that are left make of acc.
 use Rattle.index.proofs.Hashing.{Inv}
 use Rattle.index.proofs.hash_text.Given as goal
 
-abbrev pub invariant-loop-i : goal.invariant-loop-i
-invariant-loop-i l = Inv l.text l.acc l.i
-
-abbrev pub decreases-loop-i : goal.decreases-loop-i
-decreases-loop-i l = length l.text - l.i
+abbrev pub invariant-loop-b : goal.invariant-loop-b
+invariant-loop-b l = Inv l.text l.acc l.b-index

@@ -2,7 +2,7 @@
 use Prim.Native.Nat.{◌/◌}
 use lib.ListN.{length}
 use Rattle.index.specs.Entries.{key_at}
-use Rattle.index.proofs.Walking.{walked_nowhere, in_slots, ahead_keys, walked_is}
+use Rattle.index.proofs.Walking.{walked_nowhere, in_slots, ahead_keys, walked_is, found_is}
 use borrow.Author.Rules.{rules}
 use Rattle.index.proofs.key_pos.Goals as goal
 
@@ -20,4 +20,4 @@ walk_keys-requires c = search (rules, ahead_keys)
 
 pub returns : goal.returns
 returns c = let g = c.args in
-    walked_is g.index.now (key_at g.keys.now g.texts.now g.key.now) (length g.keys.now / 2) g.hash _ c.smaller-limit.ensures _ c.wide-head.ensures _ c.walk_keys.ensures _ c.found.ensures
+    walked_is g.index.now (key_at g.keys.now g.texts.now g.key.now) (length g.keys.now / 2) g.hash _ (search rules) _ c.wide-head.ensures _ c.walk_keys.ensures _ (found_is _ _ c.checked_sub.ensures)

@@ -7,9 +7,6 @@ use Rattle.index.proofs.push.Goals as goal
 pub returns-then-slots-n : goal.returns-then-slots-n
 returns-then-slots-n c = search (rules, tests)
 
-pub returns-then-n-ge4294967295 : goal.returns-then-n-ge4294967295
-returns-then-n-ge4294967295 c = search (rules, tests)
-
 pub offset_bounds-index-b : goal.offset_bounds-index-b
 offset_bounds-index-b c = search (rules, in_heads)
 

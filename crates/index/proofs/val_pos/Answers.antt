@@ -2,7 +2,7 @@
 use Prim.Native.Nat.{◌/◌}
 use lib.ListN.{length}
 use Rattle.index.specs.Entries.{value_at}
-use Rattle.index.proofs.Walking.{walked_nowhere, in_slots, ahead_values, walked_is}
+use Rattle.index.proofs.Walking.{walked_nowhere, in_slots, ahead_values, walked_is, found_is}
 use borrow.Author.Rules.{rules}
 use Rattle.index.proofs.val_pos.Goals as goal
 
@@ -20,4 +20,4 @@ walk_values-requires c = search (rules, ahead_values)
 
 pub returns : goal.returns
 returns c = let g = c.args in
-    walked_is g.index.now (value_at g.values.now g.texts.now g.v g.text.now) (length g.values.now / 3) g.hash _ c.smaller-limit.ensures _ c.wide-head.ensures _ c.walk_values.ensures _ c.found.ensures
+    walked_is g.index.now (value_at g.values.now g.texts.now g.v g.text.now) (length g.values.now / 3) g.hash _ (search rules) _ c.wide-head.ensures _ c.walk_values.ensures _ (found_is _ _ c.checked_sub.ensures)

@@ -1,5 +1,4 @@
 -- The loop's invariant: what is left of the walk gives the answer.
-use Prim.Native.Nat.{◌-◌}
 use Rattle.index.specs.Entries.{key_at}
 use Rattle.index.proofs.Walking.{Inv}
 use Rattle.index.proofs.walk_keys.Given as goal

@@ -3,4 +3,4 @@ use Rattle.opened.proofs.Chains.{laid}
 use Rattle.opened.proofs.append.Goals as goal
 
 pub returns : goal.returns
-returns c = let a = c.args in laid a.bytes.now a.at a.text.now _ c.requires c.lay_bytes.ensures
+returns c = let a = c.args in laid a.bytes.now a.at a.text.now _ c.requires c.lay.ensures

@@ -7,7 +7,7 @@ use Rattle.opened.proofs.Lines.{with_id, without_id}
 use Rattle.opened.proofs.show_feature.Goals as goal
 
 pub returns-then-text-lt-FEATURE : goal.returns-then-text-lt-FEATURE
-returns-then-text-lt-FEATURE c = let a = c.args in not_shown feature_room (feature_text a.kind a.has_id a.id) a.text.now (omega arith)
+returns-then-text-lt-FEATURE c = let a = c.args in not_shown feature_room (feature_text a.kind a.id) a.text.now (omega arith)
 
 pub append_named-next-requires : goal.append_named-next-requires
 append_named-next-requires c = omega (arith, c.append_named-at.ensures.answer, named_short feature_head c.args.kind)
@@ -19,13 +19,13 @@ append-requires c =
       c.append_named-at.ensures.answer,
       named_short feature_head c.args.kind,
       c.append_named-next.ensures.answer,
-      named_short id_head c.args.id,
+      named_short id_head c.in-Some.id,
     )
 
-pub returns-then-has_id : goal.returns-then-has_id
-returns-then-has_id c =
+pub returns-in-Some : goal.returns-in-Some
+returns-in-Some c =
     let a = c.args in
-    rw c.if-has_id.true (with_id a.kind a.id a.text.now (omega arith) c.append_named-at.ensures c.append_named-next.ensures c.append.ensures)
+    rw c.in-Some.is (with_id a.kind a.text.now (omega arith) c.append_named-at.ensures c.in-Some.id c.append_named-next.ensures c.append.ensures)
 
 pub append-requires-2 : goal.append-requires-2
 append-requires-2 c = omega (arith, c.append_named-at.ensures.answer, named_short feature_head c.args.kind)
@@ -33,4 +33,4 @@ append-requires-2 c = omega (arith, c.append_named-at.ensures.answer, named_shor
 pub returns : goal.returns
 returns c =
     let a = c.args in
-    rw c.if-has_id.false (without_id a.kind a.id a.text.now (omega arith) c.append_named-at.ensures c.append-2.ensures)
+    rw c.in_default.is (without_id a.kind a.text.now (omega arith) c.append_named-at.ensures c.append-2.ensures)

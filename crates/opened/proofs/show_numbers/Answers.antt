@@ -1,5 +1,4 @@
 use native.Mathlib.Omega.{arith}
-use Prim.Native.Nat.{◌-◌}
 use mathlib.Core.List.{[], ◌∷◌}
 use Rattle.printed.specs.Printed.{space}
 use Rattle.printed.proofs.Pieces.{pieces_start, pieces_room, pieces_turn, pieces_done}
@@ -14,19 +13,19 @@ use Rattle.opened.proofs.show_numbers.Goals as goal
 pub returns-then-text-n : goal.returns-then-text-n
 returns-then-text-n c = let a = c.args in not_shown (numbers_room a.numbers.now) (numbers_text a.numbers.now) a.text.now (omega arith)
 
-pub loop-i-init : goal.loop-i-init
-loop-i-init c = pieces_start (omega arith)
+pub loop-number-init : goal.loop-number-init
+loop-number-init c = pieces_start (omega arith)
 
 pub append_named-next-requires : goal.append_named-next-requires
-append_named-next-requires c = omega (arith, pieces_room c.loop-i.invariant c.loop-i-test.true)
+append_named-next-requires c = omega (arith, pieces_room c.loop-number.invariant (search rules))
 
-pub loop-i-preserved : goal.loop-i-preserved
-loop-i-preserved c =
-    let w = c.long in
-    pieces_turn c.loop-i.invariant _ _ _ _ (search rules) (named_short (space ∷ []) w.result)
-    (numbers_turn c.args.numbers.now c.loop-i.i w.result (search rules) w.ensures.same) (search rules) c.append_named-next.ensures
+pub loop-number-preserved : goal.loop-number-preserved
+loop-number-preserved c =
+    let w = c.from in
+    pieces_turn c.loop-number.invariant _ _ _ _ (search rules) (named_short (space ∷ []) w.result)
+    (numbers_turn c.args.numbers.now c.loop-number.number-index w.result (search rules) (search rules)) (search rules) c.append_named-next.ensures
 
 pub returns : goal.returns
 returns c =
     let a = c.args in
-    front (numbers_room a.numbers.now) (numbers_text a.numbers.now) a.text.now (omega arith) (pieces_done c.loop-i.invariant (numbers_done a.numbers.now c.loop-i.i (search rules)))
+    front (numbers_room a.numbers.now) (numbers_text a.numbers.now) a.text.now (omega arith) (pieces_done c.loop-number.invariant (numbers_done a.numbers.now c.loop-number.number-index (search rules)))

@@ -7,6 +7,3 @@ use Rattle.printed.proofs.append_hex.Given as goal
 
 abbrev pub invariant-loop-i : goal.invariant-loop-i
 invariant-loop-i l = Pieces 3 (length l.bytes) l.at (hex_lines l.bytes) l.initial.text l.text l.next l.i (hex_from (length l.bytes) l.i (drop l.i l.bytes))
-
-abbrev pub decreases-loop-i : goal.decreases-loop-i
-decreases-loop-i l = length l.bytes - l.i

@@ -5,8 +5,5 @@ use Rattle.printed.specs.Tiles.{outcome_lines}
 use Rattle.printed.proofs.Pieces.{Pieces}
 use Rattle.printed.proofs.append_outcomes.Given as goal
 
-abbrev pub invariant-loop-i : goal.invariant-loop-i
-invariant-loop-i l = Pieces 29 (length l.outcomes) l.at (outcome_lines l.outcomes) l.initial.text l.text l.next l.i (outcome_lines (drop l.i l.outcomes))
-
-abbrev pub decreases-loop-i : goal.decreases-loop-i
-decreases-loop-i l = length l.outcomes - l.i
+abbrev pub invariant-loop-outcome : goal.invariant-loop-outcome
+invariant-loop-outcome l = Pieces 29 (length l.outcomes) l.at (outcome_lines l.outcomes) l.initial.text l.text l.next l.outcome-index (outcome_lines (drop l.outcome-index l.outcomes))

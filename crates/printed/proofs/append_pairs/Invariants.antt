@@ -6,6 +6,3 @@ use Rattle.printed.proofs.append_pairs.Given as goal
 
 abbrev pub invariant-loop-i : goal.invariant-loop-i
 invariant-loop-i l = Pairs l.numbers l.at l.initial.text l.text l.next l.i
-
-abbrev pub decreases-loop-i : goal.decreases-loop-i
-decreases-loop-i l = length l.numbers / 2 - l.i

@@ -4,8 +4,5 @@ use lib.ListN.{length}
 use Rattle.printed.proofs.Columns.{Column}
 use Rattle.printed.proofs.append_words.Given as goal
 
-abbrev pub invariant-loop-i : goal.invariant-loop-i
-invariant-loop-i l = Column l.words l.at l.initial.text l.text l.next l.i
-
-abbrev pub decreases-loop-i : goal.decreases-loop-i
-decreases-loop-i l = length l.words - l.i
+abbrev pub invariant-loop-word : goal.invariant-loop-word
+invariant-loop-word l = Column l.words l.at l.initial.text l.text l.next l.word-index

@@ -7,6 +7,3 @@ use Rattle.printed.proofs.show_row.Given as goal
 
 abbrev pub invariant-loop-i : goal.invariant-loop-i
 invariant-loop-i l = Pieces 22 (length l.numbers) 0 (row_text l.numbers) l.initial.text l.text l.next l.i (row_from (length l.numbers) l.i (drop l.i l.numbers))
-
-abbrev pub decreases-loop-i : goal.decreases-loop-i
-decreases-loop-i l = length l.numbers - l.i

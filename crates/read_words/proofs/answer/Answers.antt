@@ -11,35 +11,35 @@ use Rattle.read_words.proofs.Telling.{read_room, no_numbers, no_reading, all_ver
 use Rattle.read_words.proofs.answer.Goals as goal
 
 pub slice_bounds-decode-end : goal.slice_bounds-decode-end
-slice_bounds-decode-end c = omega (arith, read_within _ _ _ _ (found said_numbers _ _ c.in-Read.is c.read_numbers.ensures))
+slice_bounds-decode-end c = omega (arith, read_within _ _ _ _ (found said_numbers _ _ c.in-Ok.is c.read_numbers.ensures))
 
-pub slice_bounds-decode-end-in-Read : goal.slice_bounds-decode-end-in-Read
-slice_bounds-decode-end-in-Read c = sym (length-take-le _ _ (omega (arith, read_within _ _ _ _ (found said_numbers _ _ c.in-Read.is c.read_numbers.ensures))))
+pub slice_bounds-decode-end-in-Ok : goal.slice_bounds-decode-end-in-Ok
+slice_bounds-decode-end-in-Ok c = sym (length-take-le _ _ (omega (arith, read_within _ _ _ _ (found said_numbers _ _ c.in-Ok.is c.read_numbers.ensures))))
 
 pub overflow_mul-vertices : goal.overflow_mul-vertices
-overflow_mul-vertices c = omega (arith, read_room _ _ _ _ (found said_reading _ _ c.in-Read-decode.is c.decode.ensures))
+overflow_mul-vertices c = omega (arith, read_room _ _ _ _ (found said_reading _ _ c.in-Ok-decode.is c.decode.ensures))
 
 pub slice_bounds-show_vertices-end : goal.slice_bounds-show_vertices-end
-slice_bounds-show_vertices-end c = omega (arith, read_room _ _ _ _ (found said_reading _ _ c.in-Read-decode.is c.decode.ensures))
+slice_bounds-show_vertices-end c = omega (arith, read_room _ _ _ _ (found said_reading _ _ c.in-Ok-decode.is c.decode.ensures))
 
-pub slice_bounds-show_vertices-end-in-Read-decode : goal.slice_bounds-show_vertices-end-in-Read-decode
-slice_bounds-show_vertices-end-in-Read-decode c = sym (length-take-le _ _ (omega (arith, read_room _ _ _ _ (found said_reading _ _ c.in-Read-decode.is c.decode.ensures))))
+pub slice_bounds-show_vertices-end-in-Ok-decode : goal.slice_bounds-show_vertices-end-in-Ok-decode
+slice_bounds-show_vertices-end-in-Ok-decode c = sym (length-take-le _ _ (omega (arith, read_room _ _ _ _ (found said_reading _ _ c.in-Ok-decode.is c.decode.ensures))))
 
-pub returns-in-Refused : goal.returns-in-Refused
+pub returns-in-Err : goal.returns-in-Err
 unfolding printed
-returns-in-Refused c =
-    no_numbers _ c.args.out.now c.args.text.now _ _ _ c.in-Refused.r (omega (arith, c.requires))
-    (found said_numbers _ _ c.in-Refused.is c.read_numbers.ensures) (rw c.number.ensures at c.show_fault.ensures)
+returns-in-Err c =
+    no_numbers _ c.args.out.now c.args.text.now _ _ _ c.in-Err.r (omega (arith, c.requires))
+    (found said_numbers _ _ c.in-Err.is c.read_numbers.ensures) (rw c.number.ensures at c.show_fault.ensures)
 
-pub returns-in-Refused-decode : goal.returns-in-Refused-decode
+pub returns-in-Err-decode : goal.returns-in-Err-decode
 unfolding printed
-returns-in-Refused-decode c =
-    no_reading _ c.args.out.now c.args.text.now _ _ _ _ (found said_numbers _ _ c.in-Read.is c.read_numbers.ensures) _
-    c.in-Refused-decode.f (omega (arith, c.requires)) (found said_reading _ _ c.in-Refused-decode.is c.decode.ensures) (rw c.number-in-Refused-decode.ensures at c.show_fault-in-Refused-decode.ensures)
+returns-in-Err-decode c =
+    no_reading _ c.args.out.now c.args.text.now _ _ _ _ (found said_numbers _ _ c.in-Ok.is c.read_numbers.ensures) _
+    c.in-Err-decode.f (omega (arith, c.requires)) (found said_reading _ _ c.in-Err-decode.is c.decode.ensures) (rw c.number-in-Err-decode.ensures at c.show_fault-in-Err-decode.ensures)
 
-pub returns-in-Read-decode : goal.returns-in-Read-decode
+pub returns-in-Ok-decode : goal.returns-in-Ok-decode
 unfolding printed
-returns-in-Read-decode c =
-    all_vertices _ c.args.out.now c.args.text.now _ _ _ _ (found said_numbers _ _ c.in-Read.is c.read_numbers.ensures) _
-    c.in-Read-decode.vertices (omega (arith, c.requires)) (found said_reading _ _ c.in-Read-decode.is c.decode.ensures)
+returns-in-Ok-decode c =
+    all_vertices _ c.args.out.now c.args.text.now _ _ _ _ (found said_numbers _ _ c.in-Ok.is c.read_numbers.ensures) _
+    c.in-Ok-decode.vertices (omega (arith, c.requires)) (found said_reading _ _ c.in-Ok-decode.is c.decode.ensures)
     c.show_vertices.ensures.shows (omega (arith, c.show_vertices.ensures.inside))

@@ -5,4 +5,4 @@ use Rattle.replay_tiles.proofs.print_tags.Goals as goal
 
 pub loop-at-smaller : goal.loop-at-smaller
 loop-at-smaller g c =
-    omega (arith, (step_ends _ _ _ _ _ _ _ _ _ c.in-Is.is c.advance.ensures).on, c.loop-at-test.true)
+    omega (arith, (step_ends _ _ _ _ _ _ _ _ _ c.in-Some.is c.advance.ensures).on, c.loop-at-test.true)

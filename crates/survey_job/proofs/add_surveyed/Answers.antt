@@ -8,7 +8,9 @@ use Prim.Native.Nat.{ℕ}
 use Rattle.promise.specs.Answers.{Gives}
 use Rattle.clip.specs.declared.Pt.{Pt}
 use Rattle.encoder.specs.declared.GeomEncoder.{GeomEncoder}
-use Rattle.encoder.specs.declared.Drawn.{Drawn}
+use Rattle.encoder.specs.declared.Edges.{Edges}
+use Rattle.refusal.specs.declared.Refused.{Refused}
+use Rattle.std.specs.Prelude.{Result}
 use Rattle.encoder.specs.Answers.{said_drawn, edges_of, passed}
 use Rattle.encoder.specs.Adding.{point_at, added, edges}
 use Rattle.whole.proofs.Machine.{back}
@@ -30,7 +32,7 @@ y_back : (c : After-struct_told-2-1) → to_z w32 (of_z w32 c.grid_point-p.resul
 y_back c = back {w = w32} (search rules)
 
 -- what a call says of a point, it says of the same point
-same : (s : GeomEncoder) (p q : Pt) → p ≡ q → (x y : ℤ) → x ≡ p.x → y ≡ p.y → (out : List ℕ) (r : Drawn) (o : List ℕ) →
+same : (s : GeomEncoder) (p q : Pt) → p ≡ q → (x y : ℤ) → x ≡ p.x → y ≡ p.y → (out : List ℕ) (r : Result (GeomEncoder × Edges) (Refused GeomEncoder)) (o : List ℕ) →
     Gives (added s (point_at x y) out) (said_drawn r) o × (edges_of r ≡ passed (added s (point_at x y) out).answer (edges s (point_at x y))) →
     Gives (added s q out) (said_drawn r) o × (edges_of r ≡ passed (added s q out).answer (edges s q))
 same s p q e x y i j out r o g =

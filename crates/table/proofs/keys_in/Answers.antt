@@ -1,16 +1,15 @@
-use Rattle.table.proofs.Keys.{start, ends, past, further}
-use Prim.Native.Nat.{◌-◌}
-use borrow.Author.Rules.{rules}
+-- All entries, and no word behind them.
+use Rattle.std.proofs.Common.{rules, tests, ◌∙◌, sym, length, arith}
+use borrow.Author.Tests.{eqb-true, eqb-false}
+use Rattle.std.proofs.lemmas.Iterator.{YieldsList-from_slice}
+use Rattle.std.proofs.lemmas.Iterator.Search.{all_from_yields_List}
+use Rattle.table.proofs.Entries.{key_in, keys_all, keys_odd}
 use Rattle.table.proofs.keys_in.Goals as goal
 
-pub loop-i-init : goal.loop-i-init
-loop-i-init c = start _ _
+pub returns-then-is_empty : goal.returns-then-is_empty
+returns-then-is_empty c =
+    all_from_yields_List (key_in c.args.bytes) _ _ _ c.all.ensures.ran (YieldsList-from_slice _ c.iter.ensures.rest) (λ x b q k. search (rules, tests))
+    ∙ rw c.as_chunks.ensures.front (keys_all c.args.bytes c.args.keys.now (omega (arith, eqb-true (length c.as_chunks.result.1.now) 0 (sym c.is_empty.ensures ∙ c.if-is_empty.true), c.as_chunks.ensures.back_len)))
 
-pub returns-then-not-has_room : goal.returns-then-not-has_room
-returns-then-not-has_room c = search (rules, past)
-
-pub loop-i-preserved : goal.loop-i-preserved
-loop-i-preserved c = further _ _ _ c.loop-i.invariant _ _ c.wide-start.ensures.same c.wide-len.ensures.same _ c.has_room.ensures c.loop-i-test.true c.if-not-has_room.false-raw
-
-pub returns : goal.returns
-returns c = search (rules, ends)
+pub returns-else-is_empty : goal.returns-else-is_empty
+returns-else-is_empty c = c.if-is_empty.false ∙ keys_odd c.args.bytes c.args.keys.now (omega (arith, eqb-false (length c.as_chunks.result.1.now) 0 (sym c.is_empty.ensures ∙ c.if-is_empty.false), c.as_chunks.ensures.back_len))

@@ -1,25 +1,7 @@
-use Rattle.table.proofs.Same.{text_other, text_far, text_cut, begin, differs, same, all_same}
-use Prim.Native.Nat.{◌-◌}
-use borrow.Author.Rules.{rules}
+-- The bytes at start are compared with all of the key.
+use Rattle.std.proofs.Common.{◌≡◌, ◌∙◌, ◌+◌, ◌-◌, arith}
+use Rattle.table.proofs.Same.{text_is}
 use Rattle.table.proofs.same_text.Goals as goal
 
-pub returns-then-len-key : goal.returns-then-len-key
-returns-then-len-key c = search (rules, text_other)
-
-pub returns-then-texts-start : goal.returns-then-texts-start
-returns-then-texts-start c = search (rules, text_far)
-
-pub returns-then-texts-start-2 : goal.returns-then-texts-start-2
-returns-then-texts-start-2 c = search (rules, text_cut)
-
-pub loop-i-init : goal.loop-i-init
-loop-i-init c = search (rules, begin)
-
-pub returns-then-texts-start-3 : goal.returns-then-texts-start-3
-returns-then-texts-start-3 c = search (rules, differs)
-
-pub loop-i-preserved : goal.loop-i-preserved
-loop-i-preserved c = search (rules, same)
-
 pub returns : goal.returns
-returns c = search (rules, all_same)
+returns c = let z : c.args.start + c.args.len - c.args.start ≡ c.args.len = omega arith in c.eq.ensures ∙ rw z (text_is _ _ _ _ c.if-len-key.false c.if-texts-start.false c.if-texts-start-2.false)

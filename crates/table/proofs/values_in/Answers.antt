@@ -1,16 +1,15 @@
-use Prim.Native.Nat.{◌-◌}
-use Rattle.table.proofs.Values.{all_start, all_ends, all_bad, all_further}
-use borrow.Author.Rules.{rules}
+-- All entries, and no word behind them.
+use Rattle.std.proofs.Common.{rules, tests, ◌∙◌, sym, length, arith}
+use borrow.Author.Tests.{eqb-true, eqb-false}
+use Rattle.std.proofs.lemmas.Iterator.{YieldsList-from_slice}
+use Rattle.std.proofs.lemmas.Iterator.Search.{all_from_yields_List}
+use Rattle.table.proofs.Entries.{value_in, values_all, values_odd}
 use Rattle.table.proofs.values_in.Goals as goal
 
-pub loop-i-init : goal.loop-i-init
-loop-i-init c = all_start _ _
+pub returns-then-is_empty : goal.returns-then-is_empty
+returns-then-is_empty c =
+    all_from_yields_List (value_in c.args.bytes) _ _ _ c.all.ensures.ran (YieldsList-from_slice _ c.iter.ensures.rest) (λ x b q k. search (rules, tests))
+    ∙ rw c.as_chunks.ensures.front (values_all c.args.bytes c.args.values.now (omega (arith, eqb-true (length c.as_chunks.result.1.now) 0 (sym c.is_empty.ensures ∙ c.if-is_empty.true), c.as_chunks.ensures.back_len)))
 
-pub returns-then-not-value_ok : goal.returns-then-not-value_ok
-returns-then-not-value_ok c = search (rules, all_bad)
-
-pub loop-i-preserved : goal.loop-i-preserved
-loop-i-preserved c = all_further _ _ _ c.loop-i.invariant c.loop-i-test.true _ c.value_ok.ensures c.if-not-value_ok.false-raw
-
-pub returns : goal.returns
-returns c = search (rules, all_ends)
+pub returns-else-is_empty : goal.returns-else-is_empty
+returns-else-is_empty c = c.if-is_empty.false ∙ values_odd c.args.bytes c.args.values.now (omega (arith, eqb-false (length c.as_chunks.result.1.now) 0 (sym c.is_empty.ensures ∙ c.if-is_empty.false), c.as_chunks.ensures.back_len))

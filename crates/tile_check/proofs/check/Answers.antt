@@ -3,8 +3,8 @@ use mathlib.Core.Path.{sym, ◌∙◌}
 use Rattle.tile_check.proofs.Checks.{check_good, check_not}
 use Rattle.tile_check.proofs.check.Goals as goal
 
-pub returns-in-Are : goal.returns-in-Are
-returns-in-Are c = check_good _ _ (sym c.in-Are.is ∙ c.layers_in.ensures)
+pub returns : goal.returns
+returns c = check_good _ _ (sym c.in-Some.is ∙ c.layers_in.ensures)
 
-pub returns-in-Faulty : goal.returns-in-Faulty
-returns-in-Faulty c = check_not _ (sym c.in-Faulty.is ∙ c.layers_in.ensures) _ c.place_of.ensures
+pub returns-in_default : goal.returns-in_default
+returns-in_default c = check_not _ (sym c.in_default.is ∙ c.layers_in.ensures) _ c.place_of.ensures

@@ -21,16 +21,16 @@ pub overflow_add-result : goal.overflow_add-result
 overflow_add-result c =
     omega (arith, c.loop-at.invariant.0.few, c.loop-at.invariant.0.inside, c.loop-at.invariant.0.room, c.loop-at.invariant.0.long, c.before.before.before.before.before.before.before.before.before.before.before.before.before.before.before.before.before.before.before.before.before.before.before)
 
-pub returns-in-Bad : goal.returns-in-Bad
-returns-in-Bad c =
-    run_bad c.loop-at.invariant.0 _ _ (search rules) c.in-Bad.is c.advance.ensures c.used.ensures
+pub returns-in_default : goal.returns-in_default
+returns-in_default c =
+    run_bad c.loop-at.invariant.0 _ _ (search rules) c.in_default.is c.advance.ensures refl
 
-pub offset_bounds-outcomes-n-in-Is : goal.offset_bounds-outcomes-n-in-Is
-offset_bounds-outcomes-n-in-Is c =
+pub offset_bounds-outcomes-n-in-loop-at : goal.offset_bounds-outcomes-n-in-loop-at
+offset_bounds-outcomes-n-in-loop-at c =
     omega (arith, c.loop-at.invariant.0.few, c.loop-at.invariant.0.inside, c.loop-at.invariant.0.room, c.loop-at.invariant.0.long, c.before.before.before.before.before.before.before.before.before.before.before.before.before.before.before.before.before.before.before.before.before.before.before)
 
-pub bounds-outcomes-n-in-Is : goal.bounds-outcomes-n-in-Is
-bounds-outcomes-n-in-Is c =
+pub bounds-outcomes-n-in-loop-at : goal.bounds-outcomes-n-in-loop-at
+bounds-outcomes-n-in-loop-at c =
     omega (arith, c.loop-at.invariant.0.few, c.loop-at.invariant.0.inside, c.loop-at.invariant.0.room, c.loop-at.invariant.0.long)
 
 pub overflow_add-n : goal.overflow_add-n
@@ -39,11 +39,11 @@ overflow_add-n c =
 
 pub loop-at-smaller : goal.loop-at-smaller
 loop-at-smaller c =
-    omega (arith, (step_ends _ _ _ _ _ _ _ _ _ c.in-Is.is c.advance.ensures).on, c.loop-at-test)
+    omega (arith, (step_ends _ _ _ _ _ _ _ _ _ c.in-Some.is c.advance.ensures).on, c.loop-at-test)
 
 pub loop-at-preserved : goal.loop-at-preserved
 loop-at-preserved c = (
-  run_turn c.loop-at.invariant.0 _ _ _ _ (search rules) c.in-Is.is c.advance.ensures,
+  run_turn c.loop-at.invariant.0 _ _ _ _ (search rules) c.in-Some.is c.advance.ensures,
   search rules,
   search rules,
   search rules,
@@ -53,4 +53,4 @@ loop-at-preserved c = (
 )
 
 pub returns : goal.returns
-returns c = run_done c.loop-at.invariant.0 _ (search rules) c.used-2.ensures
+returns c = run_done c.loop-at.invariant.0 _ (search rules) refl

@@ -7,19 +7,19 @@ use Rattle.tiles.specs.Program.{printed}
 use Rattle.tiles.proofs.Telling.{no_numbers, no_run, all_run}
 use Rattle.tiles.proofs.answer.Goals as goal
 
-pub returns-in-Refused : goal.returns-in-Refused
+pub returns-in-Err : goal.returns-in-Err
 unfolding printed
-returns-in-Refused c =
-    no_numbers _ _ _ _ c.args.text.now _ _ _ _ c.requires c.in-Refused.r (ap said_numbers c.in-Refused.is) c.read_numbers.ensures c.show_refusal.ensures
+returns-in-Err c =
+    no_numbers _ _ _ _ c.args.text.now _ _ _ _ c.requires c.in-Err.r (ap said_numbers c.in-Err.is) c.read_numbers.ensures c.show_refusal.ensures
 
-pub returns-in-Refused-run : goal.returns-in-Refused-run
+pub returns-in-Err-run : goal.returns-in-Err-run
 unfolding printed
-returns-in-Refused-run c =
-    no_run _ _ _ _ c.args.text.now _ _ _ _ c.requires _ (ap said_numbers c.in-Read.is) c.read_numbers.ensures _ c.first_words-script.ensures
-    c.in-Refused-run.r (ap said_ran c.in-Refused-run.is) c.run.ensures c.show_refusal-in-Refused-run.ensures
+returns-in-Err-run c =
+    no_run _ _ _ _ c.args.text.now _ _ _ _ c.requires _ (ap said_numbers c.in-Ok.is) c.read_numbers.ensures _ c.first_words-script.ensures
+    c.in-Err-run.r (ap said_ran c.in-Err-run.is) c.run.ensures c.show_refusal-in-Err-run.ensures
 
-pub returns-in-Done : goal.returns-in-Done
+pub returns-in-Ok-run : goal.returns-in-Ok-run
 unfolding printed
-returns-in-Done c =
-    all_run _ _ _ _ c.args.text.now _ _ _ _ c.requires _ (ap said_numbers c.in-Read.is) c.read_numbers.ensures _ c.first_words-script.ensures
-    _ _ (ap said_ran c.in-Done.is) c.run.ensures c.show.ensures
+returns-in-Ok-run c =
+    all_run _ _ _ _ c.args.text.now _ _ _ _ c.requires _ (ap said_numbers c.in-Ok.is) c.read_numbers.ensures _ c.first_words-script.ensures
+    _ _ (ap said_ran c.in-Ok-run.is) c.run.ensures c.show.ensures

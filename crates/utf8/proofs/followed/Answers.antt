@@ -1,4 +1,3 @@
-use Prim.Native.Nat.{◌-◌}
 use borrow.Author.Rules.{rules}
 use Rattle.utf8.proofs.Laws.{cut, begin, differs, goes, done}
 use Rattle.utf8.proofs.followed.Goals as goal

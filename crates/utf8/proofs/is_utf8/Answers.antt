@@ -1,4 +1,3 @@
-use Prim.Native.Nat.{◌-◌}
 use Rattle.utf8.proofs.Laws.{ascii_more, ends, rest_tells}
 use borrow.Author.Rules.{rules}
 use Rattle.utf8.proofs.is_utf8.Goals as goal

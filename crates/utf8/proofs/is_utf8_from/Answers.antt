@@ -1,4 +1,3 @@
-use Prim.Native.Nat.{◌-◌}
 use Rattle.utf8.proofs.Laws.{read_start, stops, onward, ends}
 use borrow.Author.Rules.{rules}
 use Rattle.utf8.proofs.is_utf8_from.Goals as goal

@@ -1,4 +1,4 @@
-use Rattle.std.proofs.Common.{◌≡◌, ◌+◌, ◌-◌, ◌*◌, ◌≤◌, length, ap, ◌∙◌, arith, length-set, w32, to_z, of_z, rules}
+use Rattle.std.proofs.Common.{◌≡◌, ◌+◌, ◌*◌, ◌≤◌, length, ap, ◌∙◌, arith, w32, to_z, of_z, rules}
 use lib.Ieee.{nan}
 use Rattle.whole.proofs.Machine.{back}
 use Rattle.clip.specs.declared.Pt.{Pt}
@@ -32,9 +32,6 @@ inside c = omega (arith, fits_points c.args.points.now c.args.out.now c.smaller-
 room : (c : After-smaller-n) → 2 * c.smaller-n.result ≤ length c.args.out.now
 room c = omega (arith, fits_out c.args.points.now c.args.out.now c.smaller-n.result c.smaller-n.ensures)
 
-pub overflow_mul-end : goal.overflow_mul-end
-overflow_mul-end c = let h = inside c.before in search rules
-
 pub loop-i-init : goal.loop-i-init
 loop-i-init c = maps_none (inside c.before) (room c.before) (omega arith)
 
@@ -59,12 +56,6 @@ after_long c = maps_long (inside c.before.before.before.before.before) (room c.b
 left : (c : Then-i-end) → c.map_plain-i.result + 2 ≤ 2 * c.smaller-n.result
 left c = omega (arith, (after c.before).whole, c.if-i-end.true)
 
-in_points : (c : Then-i-end) → c.map_plain-i.result + 2 ≤ length c.args.points.now
-in_points c = omega (arith, inside c.before.before.before.before.before.before, left c)
-
-in_out : (c : Then-i-end) → c.map_plain-i.result + 2 ≤ length c.map_plain-i.new.out
-in_out c = omega (arith, room c.before.before.before.before.before.before, left c, after_long c.before)
-
 -- its numbers, read back from the machine's bits
 x_back : (c : After-struct_told-then-i-end-1) → to_z w32 (of_z w32 c.grid_point-p.result.x) ≡ c.grid_point-p.result.x
 x_back c = back {w = w32} (search rules)
@@ -72,50 +63,11 @@ x_back c = back {w = w32} (search rules)
 y_back : (c : After-struct_told-then-i-end-1) → to_z w32 (of_z w32 c.grid_point-p.result.y) ≡ c.grid_point-p.result.y
 y_back c = back {w = w32} (search rules)
 
-pub offset_bounds-points-i : goal.offset_bounds-points-i
-offset_bounds-points-i c = let h = in_points c.before in search rules
-
-pub bounds-points-i : goal.bounds-points-i
-bounds-points-i c = let h = in_points c.before.before in search rules
-
-pub overflow_add-i : goal.overflow_add-i
-overflow_add-i c = let h = in_points c.before.before in search rules
-
-pub offset_bounds-points-i-then-i-end : goal.offset_bounds-points-i-then-i-end
-offset_bounds-points-i-then-i-end c = let h = in_points c.before.before in search rules
-
-pub bounds-points-i-then-i-end : goal.bounds-points-i-then-i-end
-bounds-points-i-then-i-end c = let h = in_points c.before.before.before in search rules
-
-pub offset_bounds-out-i : goal.offset_bounds-out-i
-offset_bounds-out-i c = let h = in_points c.before.before.before.before.before.before in search rules
-
-pub bounds-out-i : goal.bounds-out-i
-bounds-out-i c = omega (arith, in_out c.before.before.before.before.before.before)
-
-pub overflow_add-y : goal.overflow_add-y
-overflow_add-y c = let h = in_points c.before.before.before.before.before.before in search rules
-
-pub offset_bounds-out-i-then-i-end : goal.offset_bounds-out-i-then-i-end
-offset_bounds-out-i-then-i-end c = let h = in_points c.before.before.before.before.before.before in search rules
-
-pub bounds-out-i-then-i-end : goal.bounds-out-i-then-i-end
-bounds-out-i-then-i-end c = simp length-set (omega (arith, in_out c.before.before.before.before.before.before))
-
-pub overflow_add-i-then-i-end : goal.overflow_add-i-then-i-end
-overflow_add-i-then-i-end c = let h = in_points c.before.before.before.before.before.before in search rules
-
-pub loop-i-smaller-then-i-end : goal.loop-i-smaller-then-i-end
-loop-i-smaller-then-i-end c = omega (arith, c.if-i-end.true, c.map_plain-i.ensures.ahead, c.loop-i-test.true)
-
 pub loop-i-preserved-then-i-end : goal.loop-i-preserved-then-i-end
 loop-i-preserved-then-i-end c =
     let p = c.grid_point-p in
     maps_more (inside c.before.before.before.before.before.before.before.before.before.before.before.before) (room c.before.before.before.before.before.before.before.before.before.before.before.before) (after c.before.before.before.before.before.before.before)
     (maps_one (inside c.before.before.before.before.before.before.before.before.before.before.before.before) (omega (arith, room c.before.before.before.before.before.before.before.before.before.before.before.before, after_long c.before.before.before.before.before.before.before)) nan (left c.before.before.before.before.before.before) (x_back c.before ∙ ap (λ (q : Pt). q.x) p.ensures) (y_back c.before ∙ ap (λ (q : Pt). q.y) p.ensures))
-
-pub loop-i-smaller : goal.loop-i-smaller
-loop-i-smaller c = omega (arith, c.if-i-end.false, c.loop-i-test.true)
 
 pub loop-i-preserved : goal.loop-i-preserved
 loop-i-preserved c = after c.before.before

@@ -3,8 +3,8 @@ use Rattle.brinepost.proofs.Structs.{finish_done, finish_not}
 use borrow.Author.Rules.{rules}
 use Rattle.brinepost.proofs.finished.answered.Goals as goal
 
-pub returns-in-On : goal.returns-in-On
-returns-in-On c = search (rules, finish_done)
+pub returns-in-Ok : goal.returns-in-Ok
+returns-in-Ok c = search (rules, finish_done)
 
-pub returns-in-Off : goal.returns-in-Off
-returns-in-Off c = search (rules, finish_not)
+pub returns-in-Err : goal.returns-in-Err
+returns-in-Err c = search (rules, finish_not)

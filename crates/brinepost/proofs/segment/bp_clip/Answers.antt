@@ -23,8 +23,8 @@ After-make_box-bbox = places.After-make_box tie.the-claims contract.Pre contract
 abbrev Else-not-is_good : Type 0
 Else-not-is_good = places.Else1 tie.the-claims contract.Pre contract.Post tie.handed_clauses
 
-abbrev In-Done : Type 0
-In-Done = places.Past-After-known_told tie.the-claims contract.Pre contract.Post tie.handed_clauses
+abbrev In-Ok : Type 0
+In-Ok = places.Past-After-known_told tie.the-claims contract.Pre contract.Post tie.handed_clauses
 
 -- the segment and the box, and what is told of them is told of the numbers
 abbrev seg : After-make_box-bbox → Seg
@@ -61,10 +61,10 @@ returns-then-not-overlaps c =
     of_numbers c.before.before.before.before.before.before.before.before.before.before.before.before.before _ (clip_apart (seg c.before.before.before.before.before.before.before.before.before.before.before.before.before) (box c.before.before.before.before.before.before.before.before.before.before.before.before.before) _ c.is_good.ensures _ c.if-not-is_good.false-raw _ _ c.is_coord.ensures c.is_coord-2.ensures c.if-not-is_coord.false-raw _ c.overlaps.ensures c.if-not-overlaps.true-raw _ c.make_seg-seg.ensures c.kept-then-not-overlaps.ensures)
 
 -- the clipped segment, what the machine reads back of its numbers, and where it is taken apart, seen from the answer
-abbrev cut : In-Done → ClippedSeg
-cut k = k.in-Done.c
+abbrev cut : In-Ok → ClippedSeg
+cut k = k.in-Ok.c
 
-module _ (k : In-Done) where
+module _ (k : In-Ok) where
   x0 : Back w32 (cut k).seg.p0.x
   x0 = back {w = w32} (search rules depth 12)
 
@@ -77,12 +77,12 @@ module _ (k : In-Done) where
   y1 : Back w32 (cut k).seg.p1.y
   y1 = back {w = w32} (search rules depth 12)
 
-pub returns-in-Done : goal.returns-in-Done
-returns-in-Done c =
-    let k : In-Done = c.before.before.before.before.before.before.before.before in
+pub returns-in-Ok : goal.returns-in-Ok
+returns-in-Ok c =
+    let k : In-Ok = c.before.before.before.before.before.before.before.before in
     let m = k.before.before.before.before.before.before.before.before.before.before.before.before.before.before in
-    of_numbers m _ (clip_done _ (seg m) (box m) c.clip.ensures.answer _ (cut k) c.in-Done.is (ends_read (x0 k) (y0 k) (x1 k) (y1 k) (cut k).first (cut k).second _ c.accepted.ensures))
+    of_numbers m _ (clip_done _ (seg m) (box m) c.clip.ensures.answer _ (cut k) c.in-Ok.is (ends_read (x0 k) (y0 k) (x1 k) (y1 k) (cut k).first (cut k).second _ c.accepted.ensures))
 
-pub returns-in-Refused : goal.returns-in-Refused
-returns-in-Refused c =
-    of_numbers c.before.before.before.before.before.before.before.before.before.before.before.before.before.before.before _ (clip_not _ (seg c.before.before.before.before.before.before.before.before.before.before.before.before.before.before.before) (box c.before.before.before.before.before.before.before.before.before.before.before.before.before.before.before) c.clip.ensures.answer _ c.in-Refused.k c.in-Refused.is c.refused-in-Refused.ensures)
+pub returns-in-Err : goal.returns-in-Err
+returns-in-Err c =
+    of_numbers c.before.before.before.before.before.before.before.before.before.before.before.before.before.before.before _ (clip_not _ (seg c.before.before.before.before.before.before.before.before.before.before.before.before.before.before.before) (box c.before.before.before.before.before.before.before.before.before.before.before.before.before.before.before) c.clip.ensures.answer _ c.in-Err.k c.in-Err.is c.refused-in-Err.ensures)

@@ -4,10 +4,10 @@ use Rattle.brinepost.specs.Carried.{point_to}
 use borrow.Author.Rules.{rules}
 use Rattle.brinepost.proofs.state.point_to.Goals as goal
 
-pub returns-in-Nowhere : goal.returns-in-Nowhere
+pub returns-in-None : goal.returns-in-None
 unfolding point_to
-returns-in-Nowhere c = cc
+returns-in-None c = cc
 
-pub returns-in-At : goal.returns-in-At
+pub returns-in-Some : goal.returns-in-Some
 unfolding point_to
-returns-in-At c = search (rules, to_point)
+returns-in-Some c = search (rules, to_point)

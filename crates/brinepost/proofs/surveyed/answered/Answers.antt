@@ -3,8 +3,8 @@ use Rattle.brinepost.proofs.Structs.{mapped_done, mapped_not}
 use borrow.Author.Rules.{rules}
 use Rattle.brinepost.proofs.surveyed.answered.Goals as goal
 
-pub returns-in-At : goal.returns-in-At
-returns-in-At c = search (rules, mapped_done)
+pub returns-in-Ok : goal.returns-in-Ok
+returns-in-Ok c = search (rules, mapped_done)
 
-pub returns-in-Refused : goal.returns-in-Refused
-returns-in-Refused c = search (rules, mapped_not)
+pub returns-in-Err : goal.returns-in-Err
+returns-in-Err c = search (rules, mapped_not)

@@ -2,4 +2,4 @@
 use Rattle.brinepost_tiles.proofs.carried.no_layer.Goals as goal
 
 pub returns : goal.returns
-returns c = rw c.broken_layer-s.ensures at c.layer_to.ensures
+returns c = rw c.broken_layer.ensures at c.layer_to.ensures

@@ -17,25 +17,25 @@ reads : (s : Start) → Reads s.args.c.seg s.args.x s.args.a s.args.b
 reads s = record { x0 = back {w = w32} (search rules depth 12); y0 = back {w = w32} (search rules depth 12); x1 = back {w = w32} (search rules depth 12); y1 = back {w = w32} (search rules depth 12); at = back s.ranges.x; from = back s.ranges.a; to = back s.ranges.b }
 
 pub returns-then-p1-x : goal.returns-then-p1-x
-returns-then-p1-x c = both_out low c.args.lower c.args.c c.args.x c.args.a c.args.b (reads c.before.before.before.before.before.before.before.before.before) c.if-p0-x.true c.if-p1-x.true
+returns-then-p1-x c = both_out low c.args.lower c.args.c c.args.x c.args.a c.args.b (reads c.before.before.before.before.before.before.before.before) c.if-p0-x.true c.if-p1-x.true
 
 pub intersect_at_x-requires : goal.intersect_at_x-requires
-intersect_at_x-requires c = asked_0 low c.args.lower c.args.c c.args.x c.args.a c.args.b (reads c.before.before.before.before.before.before.before.before.before.before) c.requires.coord c.requires.coord_2 c.if-p0-x.true c.if-p1-x.false
+intersect_at_x-requires c = asked_0 low c.args.lower c.args.c c.args.x c.args.a c.args.b (reads c.before.before.before.before.before.before.before.before.before) c.requires.coord c.requires.coord_2 c.if-p0-x.true c.if-p1-x.false
 
-pub returns-in-At : goal.returns-in-At
-returns-in-At c = goes_0 low c.args.lower c.args.c c.args.x c.args.a c.args.b (reads c.before.before.before.before.before.before.before.before.before.before.before.before) c.intersect_at_x.result c.intersect_at_x.ensures c.if-p0-x.true c.in-At.y (back {w = w32} (search rules depth 12)) c.in-At.is
+pub returns-in-Some : goal.returns-in-Some
+returns-in-Some c = goes_0 low c.args.lower c.args.c c.args.x c.args.a c.args.b (reads c.before.before.before.before.before.before.before.before.before.before.before) c.intersect_at_x.result c.intersect_at_x.ensures c.if-p0-x.true c.in-Some.y (back {w = w32} (search rules depth 12)) c.in-Some.is
 
-pub returns-in-Nowhere : goal.returns-in-Nowhere
-returns-in-Nowhere c = stays_0 low c.args.lower c.args.c c.args.x c.args.a c.args.b (reads c.before.before.before.before.before.before.before.before.before.before.before) c.intersect_at_x.result c.intersect_at_x.ensures c.in-Nowhere.is
+pub returns-then-p0-x : goal.returns-then-p0-x
+returns-then-p0-x c = stays_0 low c.args.lower c.args.c c.args.x c.args.a c.args.b (reads c.before.before.before.before.before.before.before.before.before.before) c.intersect_at_x.result c.intersect_at_x.ensures c.in_default.is
 
 pub intersect_at_x-requires-then-p1-x-2 : goal.intersect_at_x-requires-then-p1-x-2
-intersect_at_x-requires-then-p1-x-2 c = asked_1 low c.args.lower c.args.c c.args.x c.args.a c.args.b (reads c.before.before.before.before.before.before.before.before.before.before) c.requires.coord c.requires.coord_2 c.if-p0-x.false c.if-p1-x-2.true
+intersect_at_x-requires-then-p1-x-2 c = asked_1 low c.args.lower c.args.c c.args.x c.args.a c.args.b (reads c.before.before.before.before.before.before.before.before.before) c.requires.coord c.requires.coord_2 c.if-p0-x.false c.if-p1-x-2.true
 
-pub returns-in-At-intersect_at_x : goal.returns-in-At-intersect_at_x
-returns-in-At-intersect_at_x c = goes_1 low c.args.lower c.args.c c.args.x c.args.a c.args.b (reads c.before.before.before.before.before.before.before.before.before.before.before.before) c.intersect_at_x-then-p1-x-2.result c.intersect_at_x-then-p1-x-2.ensures c.if-p0-x.false c.if-p1-x-2.true c.in-At-intersect_at_x.y (back {w = w32} (search rules depth 12)) c.in-At-intersect_at_x.is
+pub returns-in-Some-intersect_at_x : goal.returns-in-Some-intersect_at_x
+returns-in-Some-intersect_at_x c = goes_1 low c.args.lower c.args.c c.args.x c.args.a c.args.b (reads c.before.before.before.before.before.before.before.before.before.before.before) c.intersect_at_x-then-p1-x-2.result c.intersect_at_x-then-p1-x-2.ensures c.if-p0-x.false c.if-p1-x-2.true c.in-Some-intersect_at_x.y (back {w = w32} (search rules depth 12)) c.in-Some-intersect_at_x.is
 
-pub returns-in-Nowhere-intersect_at_x : goal.returns-in-Nowhere-intersect_at_x
-returns-in-Nowhere-intersect_at_x c = stays_1 low c.args.lower c.args.c c.args.x c.args.a c.args.b (reads c.before.before.before.before.before.before.before.before.before.before.before) c.intersect_at_x-then-p1-x-2.result c.intersect_at_x-then-p1-x-2.ensures c.in-Nowhere-intersect_at_x.is
+pub returns-in_default-intersect_at_x : goal.returns-in_default-intersect_at_x
+returns-in_default-intersect_at_x c = stays_1 low c.args.lower c.args.c c.args.x c.args.a c.args.b (reads c.before.before.before.before.before.before.before.before.before.before) c.intersect_at_x-then-p1-x-2.result c.intersect_at_x-then-p1-x-2.ensures c.in_default-intersect_at_x.is
 
-pub returns : goal.returns
-returns c = none_out low c.args.lower c.args.c c.args.x c.args.a c.args.b (reads c.before.before.before.before.before.before.before.before.before) c.if-p0-x.false c.if-p1-x-2.false
+pub returns-else-p1-x-2 : goal.returns-else-p1-x-2
+returns-else-p1-x-2 c = none_out low c.args.lower c.args.c c.args.x c.args.a c.args.b (reads c.before.before.before.before.before.before.before.before) c.if-p0-x.false c.if-p1-x-2.false

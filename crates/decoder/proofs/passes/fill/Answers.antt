@@ -11,12 +11,6 @@ follow-pen-requires c = search (rules, fill_leads)
 pub put-requires : goal.put-requires
 put-requires c = search (rules, fill_known, fill_room)
 
-pub overflow_add-n : goal.overflow_add-n
-overflow_add-n c = search (rules, fill_small)
-
-pub loop-pen-smaller : goal.loop-pen-smaller
-loop-pen-smaller c = search (rules, fill_less)
-
 pub loop-pen-preserved : goal.loop-pen-preserved
 loop-pen-preserved c = search (rules, fill_turn)
 

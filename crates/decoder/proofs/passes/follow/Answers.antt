@@ -3,11 +3,5 @@ use borrow.Author.Rules.{rules}
 use Rattle.decoder.proofs.Running.{follow_x, follow_y, follow_done}
 use Rattle.decoder.proofs.passes.follow.Goals as goal
 
-pub overflow_add-pen : goal.overflow_add-pen
-overflow_add-pen c = search (rules, follow_x)
-
-pub overflow_add-pen-2 : goal.overflow_add-pen-2
-overflow_add-pen-2 c = search (rules, follow_y)
-
 pub returns : goal.returns
 returns c = search (rules, follow_done)

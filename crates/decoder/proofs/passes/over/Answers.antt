@@ -9,15 +9,6 @@ loop-pen-init c = search (rules, run_start)
 pub returns-then-not-is_inside : goal.returns-then-not-is_inside
 returns-then-not-is_inside c = search (rules, run_out, leads_out)
 
-pub overflow_cast-x : goal.overflow_cast-x
-overflow_cast-x c = search (rules, x_fits)
-
-pub overflow_cast-y : goal.overflow_cast-y
-overflow_cast-y c = search (rules, y_fits)
-
-pub loop-pen-smaller : goal.loop-pen-smaller
-loop-pen-smaller c = search (rules, one_less)
-
 pub loop-pen-preserved : goal.loop-pen-preserved
 loop-pen-preserved c = search (rules, run_turn, leads_in, leads_behind)
 

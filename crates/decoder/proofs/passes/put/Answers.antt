@@ -6,12 +6,6 @@ use mir.Facts.{to_z-of_z, to_z_pos}
 use Rattle.promise.proofs.Stores.{three_stores}
 use Rattle.decoder.proofs.passes.put.Goals as goal
 
-pub bounds-out-at-2 : goal.bounds-out-at-2
-bounds-out-at-2 c = simp length-set (omega arith)
-
-pub bounds-out-at-3 : goal.bounds-out-at-3
-bounds-out-at-3 c = simp length-set (omega arith)
-
 pub returns : goal.returns
 returns c =
     rw (to_z_pos w32 {n = c.args.id} (omega arith), to_z-of_z c.ranges.x, to_z-of_z c.ranges.y) (three_stores c.args.out.now c.args.at _ _ _ (omega arith))

@@ -1,11 +1,7 @@
 -- STATE, then the part.
-use Rattle.encoder.proofs.States.{yes_of}
 use Rattle.encoder.proofs.Calls.{end_state}
 use borrow.Author.Rules.{rules}
 use Rattle.encoder.proofs.GeomEncoder.complete_geom.Goals as goal
 
 pub returns-then-not-is_valid : goal.returns-then-not-is_valid
 returns-then-not-is_valid c = search (rules, end_state)
-
-pub complete_valid-requires : goal.complete_valid-requires
-complete_valid-requires c = yes_of _ _ c.is_valid.ensures c.if-not-is_valid.false-raw

@@ -1,10 +1,7 @@
 -- The clip where a segment leaves the box, else none.
 use mathlib.Core.Path.{refl}
-use Rattle.encoder.proofs.Bounds.{cut_asked, brought_cut, brought_none}
+use Rattle.encoder.proofs.Bounds.{brought_cut, brought_none}
 use Rattle.encoder.proofs.boundary.add_boundary_points.Goals as goal
-
-pub clip_named-requires : goal.clip_named-requires
-clip_named-requires c = let whole = cut_asked c.args.d c.args.p c.requires.bbox_value c.requires.xy_end_value c.requires.p_value _ c.if-d-out0.true in record { bbox_value = whole.0; raw_value = whole.1 }
 
 pub returns-then-d-out0 : goal.returns-then-d-out0
 returns-then-d-out0 c = brought_cut c.args.d c.args.p _ refl c.requires.bbox_value _ c.if-d-out0.true _ c.clip_named.ensures

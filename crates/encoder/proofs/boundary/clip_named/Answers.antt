@@ -3,8 +3,8 @@ use Rattle.encoder.proofs.Boundaries.{clip_done, clip_refused}
 use borrow.Author.Rules.{rules}
 use Rattle.encoder.proofs.boundary.clip_named.Goals as goal
 
-pub returns-in-Done : goal.returns-in-Done
-returns-in-Done c = search (rules, clip_done, clip_refused)
+pub returns-in-Ok : goal.returns-in-Ok
+returns-in-Ok c = search (rules, clip_done, clip_refused)
 
-pub returns-in-Refused : goal.returns-in-Refused
-returns-in-Refused c = search (rules, clip_done, clip_refused)
+pub returns-in-Err : goal.returns-in-Err
+returns-in-Err c = search (rules, clip_done, clip_refused)

@@ -1,7 +1,7 @@
 use native.Mathlib.Omega.{arith}
 use mathlib.Core.Path.{◌≡◌}
 use mathlib.Core.Bool.{Bool, true, false, cond, not, ◌&&◌}
-use Prim.Native.Nat.{ℕ, ◌+◌, ◌-◌, ◌*◌, ◌≤◌, ◌<◌}
+use Prim.Native.Nat.{ℕ, ◌+◌, ◌*◌, ◌≤◌, ◌<◌}
 use lib.Dec.{leb}
 use Rattle.encoder.proofs.Runs.{run_start, run_all, run_stretch, run_valid, run_turn, run_stop}
 use borrow.Author.Rules.{rules}
@@ -34,9 +34,9 @@ loop-i-preserved-then-q-tried c =
 pub add_valid-requires : goal.add_valid-requires
 add_valid-requires c = run_valid _ _ _ _ _ c.requires.to_in_bounds _ _ _ c.loop-i.invariant
 
-pub returns-in-Refused : goal.returns-in-Refused
-returns-in-Refused c =
-    run_stop _ _ _ _ _ c.requires.to_in_bounds _ _ _ c.loop-i.invariant c.loop-i-test.true c.add_valid.result _ c.x-1.given c.y-1.given c.add_valid.ensures.answer _ _ c.in-Refused.is
+pub returns-in-Err : goal.returns-in-Err
+returns-in-Err c =
+    run_stop _ _ _ _ _ c.requires.to_in_bounds _ _ _ c.loop-i.invariant c.loop-i-test.true c.add_valid.result _ c.x-1.given c.y-1.given c.add_valid.ensures.answer _ c.in-Err.is
 
 pub overflow_add-i : goal.overflow_add-i
 overflow_add-i c =
@@ -48,7 +48,7 @@ loop-i-smaller c =
 
 pub loop-i-preserved : goal.loop-i-preserved
 loop-i-preserved c =
-    run_turn _ _ _ _ _ c.requires.to_in_bounds _ _ _ c.loop-i.invariant c.loop-i-test.true c.add_valid.result _ c.x-1.given c.y-1.given c.add_valid.ensures.answer _ _ c.in-Done.is (search rules)
+    run_turn _ _ _ _ _ c.requires.to_in_bounds _ _ _ c.loop-i.invariant c.loop-i-test.true c.add_valid.result _ c.x-1.given c.y-1.given c.add_valid.ensures.answer _ _ c.in-Ok.is (search rules)
 
 pub returns : goal.returns
 returns c = run_all _ _ _ _ _ c.requires.to_in_bounds _ _ _ c.loop-i.invariant (omega (arith, c.loop-i-test.false))

@@ -1,5 +1,5 @@
 -- What is left of the run, from the state and the list that there are, gives the rest of the answer, after a stretch and after a point by itself.
-use mathlib.Core.Bool.{cond, not}
+use mathlib.Core.Bool.{cond}
 use Prim.Native.Nat.{◌+◌, ◌-◌, ◌*◌}
 use Rattle.encoder.proofs.Runs.{Running}
 use Rattle.encoder.proofs.run.add_run.Given as goal

@@ -1,5 +1,4 @@
 use native.Mathlib.Omega.{arith}
-use Prim.Native.Nat.{◌-◌}
 use borrow.Author.Rules.{rules}
 use Rattle.encoder.proofs.Drawing.{point_is, draw_start, draw_end, plain_asked, draw_stop, draw_asked, draw_turn, few_points, state_asked}
 use Rattle.encoder.proofs.stretch.draw_all.Goals as goal

@@ -1,19 +1,21 @@
--- JOB, then what a fresh encoder answers, then the calls: the definition is the same chain.
-use Rattle.encoder.proofs.Whole.{job_asked, words_none, words_start, words_all, words_stop}
+-- What the start answers, then the calls: the definition is the same chain.
+use Rattle.encoder.proofs.Whole.{job_asked, words_start, words_all, words_stop}
+use Rattle.std.proofs.lemmas.Result.{err_from_is_err_and}
 use borrow.Author.Rules.{rules}
 use Rattle.encoder.proofs.whole_job.encode.Goals as goal
 
-pub returns-then-not-is_job : goal.returns-then-not-is_job
-returns-then-not-is_job c = search (rules, words_none)
-
 pub add_parts-requires : goal.add_parts-requires
-add_parts-requires c = let whole = job_asked c.args.kind c.args.bbox c.args.points.now c.args.ends.now c.args.words.now _ c.is_job.ensures c.if-not-is_job.false-raw c.new.result c.new.ensures _ c.in-Fresh.is in record { points_value = whole.0; sound = whole.1 }
+add_parts-requires c = let whole = job_asked c.args.kind c.args.bbox c.args.points.now c.args.ends.now c.args.words.now c.start.result c.start.ensures _ c.in-Ok.is in record { points_value = whole.0; sound = whole.1 }
 
-pub returns-in-Refused : goal.returns-in-Refused
-returns-in-Refused c = search (rules, words_start)
+pub returns-in-Err : goal.returns-in-Err
+returns-in-Err c = search (rules, words_start)
 
-pub returns-in-On : goal.returns-in-On
-returns-in-On c = search (rules, words_all)
+pub returns-in_err-t : goal.returns-in_err-t
+returns-in_err-t c =
+    let p = err_from_is_err_and c.from_residual.result c.from_residual.ensures.1 in
+    rw (p.1, p.2)
+    (words_stop c.args.kind c.args.bbox c.args.points.now c.args.ends.now c.args.words.now c.start.result c.start.ensures _ c.in-Ok.is c.add_parts.result _ c.add_parts.ensures _ c.in_err-t.was)
 
-pub returns-in-Off : goal.returns-in-Off
-returns-in-Off c = search (rules, words_stop)
+pub returns : goal.returns
+returns c =
+    words_all c.args.kind c.args.bbox c.args.points.now c.args.ends.now c.args.words.now c.start.result c.start.ensures _ c.in-Ok.is c.add_parts.result _ c.add_parts.ensures _ c.in_ok-t.was

@@ -3,8 +3,8 @@ use Rattle.layer.proofs.Repeating.{strict_done, strict_refused}
 use borrow.Author.Rules.{rules}
 use Rattle.layer.proofs.Layer.new_strict.Goals as goal
 
-pub returns-in-Done : goal.returns-in-Done
-returns-in-Done c = search (rules, strict_done)
+pub returns-in_err-new : goal.returns-in_err-new
+returns-in_err-new c = search (rules, strict_refused)
 
-pub returns-in-Refused : goal.returns-in-Refused
-returns-in-Refused c = search (rules, strict_refused)
+pub returns : goal.returns
+returns c = search (rules, strict_done)

@@ -12,10 +12,10 @@ pub returns-in_default : goal.returns-in_default
 returns-in_default c = search (rules, tags_shut)
 
 pub overflow_add-at : goal.overflow_add-at
-overflow_add-at c = let h : c.in-Since.o.features + 4 < 4294967296 = search (rules, tags_small) in record { fits = omega arith }
+overflow_add-at c = let h : c.in-Some.o.features + 4 < 4294967296 = search (rules, tags_small) in record { fits = omega arith }
 
 pub offset_bounds-features-at : goal.offset_bounds-features-at
-offset_bounds-features-at c = let h : c.in-Since.o.features + 4 < 4294967296 = search (rules, tags_small) in record { fits = omega arith }
+offset_bounds-features-at c = let h : c.in-Some.o.features + 4 < 4294967296 = search (rules, tags_small) in record { fits = omega arith }
 
 pub bounds-features-at : goal.bounds-features-at
 bounds-features-at c = search (rules, tags_in_lem)

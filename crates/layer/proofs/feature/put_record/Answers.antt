@@ -1,26 +1,16 @@
 -- ROOM is asked of the words alone and of the figures after them; then the record is laid behind what is used.
 use native.Mathlib.Omega.{arith}
 use lib.ListN.{length}
-use Rattle.layer.proofs.Fitting.{Fit, fit}
+use Rattle.layer.proofs.Fitting.{fit}
 use Rattle.layer.proofs.Opening.{open_many, open_full, open_fit, open_done}
 use borrow.Author.Rules.{rules}
 use Rattle.layer.proofs.feature.put_record.Goals as goal
-use Rattle.layer.proofs.feature.put_record.Tie as tie
-use Rattle.layer.proofs.feature.put_record.Reads as contract
-use Rattle.layer.proofs.feature.put_record.Lts as places
-
--- the places on the way that the lemmas below speak of
-abbrev Start : Type 0
-Start = places.Start tie.the-claims contract.Pre contract.Post tie.handed_clauses
-
-at_begin : (c : Start) → Fit c.args.s.used (length c.args.keys.now) (length c.args.values.now) (length c.args.texts.now) (length c.args.features.now)
-at_begin c = fit _ _ _ _ _ c.requires
 
 pub returns-then-n-gt-MAX_WORDS : goal.returns-then-n-gt-MAX_WORDS
 returns-then-n-gt-MAX_WORDS c = search (rules, open_many)
 
 pub overflow_add-after-2 : goal.overflow_add-after-2
-overflow_add-after-2 c = omega (arith, at_begin c.before.before.before.before.before.before.before.before.before, c.if-n-gt-MAX_WORDS)
+overflow_add-after-2 c = omega (arith, fit c.args.s.used (length c.args.keys.now) (length c.args.values.now) (length c.args.texts.now) (length c.args.features.now) c.requires, c.if-n-gt-MAX_WORDS)
 
 pub returns-then-not-has_room_for : goal.returns-then-not-has_room_for
 returns-then-not-has_room_for c = search (rules, open_full)

@@ -15,7 +15,7 @@ pub overflow_add-o : goal.overflow_add-o
 overflow_add-o c =
     let g = c.args in
     let l = c.if-not-is_valid.false-raw in
-    let o = c.in-Since.is in
+    let o = c.in-Some.is in
     omega (arith, fitting g.s g.keys.now g.values.now g.texts.now g.features.now _ c.is_valid.ensures l _ o, id_there g.s g.keys.now g.values.now g.texts.now g.features.now _ c.is_valid.ensures l _ o)
 
 pub returns : goal.returns

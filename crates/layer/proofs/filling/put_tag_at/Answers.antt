@@ -97,4 +97,4 @@ returns c =
     let g = c.args in
     let p = c.place_at-p.result in
     sliced_left g.bytes.now g.tags.now g.i _ c.place_at-p.ensures g.o (seen g.s (mem g.keys.now g.values.now g.texts.now g.features.now)) _ _ _ _ _
-    (tag_left g.s g.o (part g.bytes.now p.key) p.value (part g.bytes.now p.text) g.keys.now g.values.now g.texts.now g.features.now g.ki.now g.vi.now (may c.before.before.before.before.before.before.before.before.before.before.before.before.before.before.before.before.before.before.before.before.before.before.before.before.before.before.before.before.before.before.before.before.before.before.before.before) _ c.room-room.ensures _ _ c.hash_text-kh.ensures c.hash_value-vh.ensures _ _ c.find_key-kf.ensures c.find_value-vf.ensures _ c.grown-after.ensures _ _ _ _ c.put_tag.ensures _ _ c.note.ensures c.note-2.ensures)
+    (tag_left g.s g.o (part g.bytes.now p.key) p.value (part g.bytes.now p.text) g.keys.now g.values.now g.texts.now g.features.now g.ki.now g.vi.now (sliced_may g.bytes.now g.tags.now g.i _ c.place_at-p.ensures _ _ _ _ c.requires.may_tag) _ c.room-room.ensures _ _ c.hash_text-kh.ensures c.hash_value-vh.ensures _ _ c.find_key-kf.ensures c.find_value-vf.ensures _ c.grown-after.ensures _ _ _ _ c.put_tag.ensures _ _ c.note.ensures c.note-2.ensures)

@@ -6,8 +6,8 @@ use Rattle.layer.proofs.lookup.note.Goals as goal
 pub returns-then-not-serves : goal.returns-then-not-serves
 returns-then-not-serves c = search (rules, note_none)
 
-pub returns-in-At : goal.returns-in-At
-returns-in-At c = search (rules, note_old)
+pub returns-in-Some : goal.returns-in-Some
+returns-in-Some c = search (rules, note_old)
 
-pub returns-in-Nothing : goal.returns-in-Nothing
-returns-in-Nothing c = search (rules, note_new)
+pub returns-in-None : goal.returns-in-None
+returns-in-None c = search (rules, note_new)

@@ -1,4 +1,3 @@
-use Prim.Native.Nat.{◌-◌}
 use mathlib.Core.Path.{refl}
 use native.Mathlib.Omega.{arith}
 use Rattle.layer.specs.Held.{mem}
@@ -61,27 +60,27 @@ slice_bounds-add_known-end-in-loop-i c = omega (arith, tags_there _ _ _ _ _ _ _ 
 pub add_known-requires : goal.add_known-requires
 add_known-requires c = known _ _ _ _ _ _ _ _ _ _ _ _ _ _ _ c.loop-i.invariant c.loop-i-test.true _ refl
 
-pub shape_of-keys-in-Refused : goal.shape_of-keys-in-Refused
-shape_of-keys-in-Refused c = let h = c.loop-i.invariant.long.keys in omega (arith, c.before.before.before.before.before.before.before.before.before.before.before.before.before, h)
+pub shape_of-keys-in-Err : goal.shape_of-keys-in-Err
+shape_of-keys-in-Err c = let h = c.loop-i.invariant.long.keys in omega (arith, c.before.before.before.before.before.before.before.before.before.before.before.before.before, h)
 
-pub shape_of-values-in-Refused : goal.shape_of-values-in-Refused
-shape_of-values-in-Refused c = let h = c.loop-i.invariant.long.values in omega (arith, c.before.before.before.before.before.before.before.before.before.before.before, h)
+pub shape_of-values-in-Err : goal.shape_of-values-in-Err
+shape_of-values-in-Err c = let h = c.loop-i.invariant.long.values in omega (arith, c.before.before.before.before.before.before.before.before.before.before.before, h)
 
-pub shape_of-texts-in-Refused : goal.shape_of-texts-in-Refused
-shape_of-texts-in-Refused c = let h = c.loop-i.invariant.long.texts in omega (arith, c.before.before.before.before.before.before.before.before.before, h)
+pub shape_of-texts-in-Err : goal.shape_of-texts-in-Err
+shape_of-texts-in-Err c = let h = c.loop-i.invariant.long.texts in omega (arith, c.before.before.before.before.before.before.before.before.before, h)
 
-pub shape_of-features-in-Refused : goal.shape_of-features-in-Refused
-shape_of-features-in-Refused c = let h = c.loop-i.invariant.long.features in omega (arith, c.before.before.before.before.before.before.before, h)
+pub shape_of-features-in-Err : goal.shape_of-features-in-Err
+shape_of-features-in-Err c = let h = c.loop-i.invariant.long.features in omega (arith, c.before.before.before.before.before.before.before, h)
 
-pub shape_of-ki-in-Refused : goal.shape_of-ki-in-Refused
-shape_of-ki-in-Refused c = let h = c.loop-i.invariant.kept.keys_long in omega (arith, c.before.before.before.before.before, h)
+pub shape_of-ki-in-Err : goal.shape_of-ki-in-Err
+shape_of-ki-in-Err c = let h = c.loop-i.invariant.kept.keys_long in omega (arith, c.before.before.before.before.before, h)
 
-pub shape_of-vi-in-Refused : goal.shape_of-vi-in-Refused
-shape_of-vi-in-Refused c = let h = c.loop-i.invariant.kept.values_long in omega (arith, c.before.before.before, h)
+pub shape_of-vi-in-Err : goal.shape_of-vi-in-Err
+shape_of-vi-in-Err c = let h = c.loop-i.invariant.kept.values_long in omega (arith, c.before.before.before, h)
 
-pub returns-in-Refused : goal.returns-in-Refused
-returns-in-Refused c =
-    let a = as_refused _ _ _ _ _ _ _ c.add_known.ensures _ _ c.in-Refused.is in
+pub returns-in-Err : goal.returns-in-Err
+returns-in-Err c =
+    let a = as_refused _ _ _ _ _ _ _ c.add_known.ensures _ c.in-Err.is in
     let g = c.args in
     all_added g.heads.now g.words.now g.tags.now g.bytes.now g.s (mem g.keys.now g.values.now g.texts.now g.features.now) (idx g.ki.now g.vi.now) _ c.is_head_list.ensures c.if-not-is_head_list.false-raw _ _ _
     (stops _ _ _ _ _ _ _ _ _ _ _ _ _ _ _ c.loop-i.invariant c.loop-i-test.true _ _ _ c.head_at.ensures c.wide.ensures.same c.wide-in-loop-i.ensures.same _ _ _ _ a)
@@ -97,7 +96,7 @@ loop-i-smaller c = omega (arith, c.loop-i-test)
 
 pub loop-i-preserved : goal.loop-i-preserved
 loop-i-preserved c =
-    let a = as_done _ _ _ _ _ _ _ c.add_known.ensures _ c.in-Done.is in
+    let a = as_done _ _ _ _ _ _ _ c.add_known.ensures _ c.in-Ok.is in
     turn _ _ _ _ _ _ _ _ _ _ _ _ _ _ _ c.loop-i.invariant c.loop-i-test.true _ _ _ c.head_at.ensures c.wide.ensures.same c.wide-in-loop-i.ensures.same _ _ _ a
 
 pub shape_of-keys : goal.shape_of-keys

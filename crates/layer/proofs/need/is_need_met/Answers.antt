@@ -1,4 +1,3 @@
-use Prim.Native.Nat.{◌-◌}
 use Rattle.layer.proofs.Knowing.{reckons_start, reckons_past, need_asked, reckons_on, reckons_done}
 use borrow.Author.Rules.{rules}
 use Rattle.layer.proofs.need.is_need_met.Goals as goal

@@ -1,17 +1,11 @@
-use Prim.Native.Nat.{◌-◌}
-use Rattle.layer.proofs.Walking.{looks_start, key_met, key_on, key_not}
-use borrow.Author.Rules.{rules}
+-- Some tag of the list is one of this key.
+use Rattle.std.proofs.Common.{rules, tests, ◌∙◌}
+use Rattle.std.proofs.lemmas.Iterator.{YieldsList-from_slice}
+use Rattle.std.proofs.lemmas.Iterator.Search.{any_from_yields_List}
+use Rattle.layer.proofs.Chunks.{key_in, key_any}
 use Rattle.layer.proofs.need.key_given.Goals as goal
 
-pub loop-i-init : goal.loop-i-init
-loop-i-init c = looks_start _ _
-
-pub returns-then-same_text : goal.returns-then-same_text
-returns-then-same_text c = search (rules, key_met)
-
-pub loop-i-preserved : goal.loop-i-preserved
-loop-i-preserved c =
-    key_on _ _ _ _ c.loop-i.invariant c.loop-i-test.true _ _ c.wide-start.ensures c.wide-len.ensures _ c.same_text.ensures c.if-same_text.false
-
 pub returns : goal.returns
-returns c = search (rules, key_not)
+returns c =
+    any_from_yields_List (key_in c.args.bytes.now c.args.key.now) _ _ _ c.any.ensures.ran (YieldsList-from_slice _ c.iter.ensures.rest) (λ x b q k. search (rules, tests))
+    ∙ rw c.as_chunks.ensures.front (key_any c.args.bytes.now c.args.tags.now c.args.key.now)

@@ -1,17 +1,11 @@
-use Prim.Native.Nat.{◌-◌}
-use Rattle.layer.proofs.Walking.{looks_start, value_met, value_on, value_not}
-use borrow.Author.Rules.{rules}
+-- Some tag of the list is one of this value.
+use Rattle.std.proofs.Common.{rules, tests, ◌∙◌}
+use Rattle.std.proofs.lemmas.Iterator.{YieldsList-from_slice}
+use Rattle.std.proofs.lemmas.Iterator.Search.{any_from_yields_List}
+use Rattle.layer.proofs.Chunks.{value_in, value_any}
 use Rattle.layer.proofs.need.value_among.Goals as goal
 
-pub loop-i-init : goal.loop-i-init
-loop-i-init c = looks_start _ _
-
-pub returns-then-same_value : goal.returns-then-same_value
-returns-then-same_value c = search (rules, value_met)
-
-pub loop-i-preserved : goal.loop-i-preserved
-loop-i-preserved c =
-    value_on _ _ _ _ _ c.loop-i.invariant c.loop-i-test.true _ c.same_value.ensures c.if-same_value.false
-
 pub returns : goal.returns
-returns c = search (rules, value_not)
+returns c =
+    any_from_yields_List (value_in c.args.bytes.now c.args.v c.args.text.now) _ _ _ c.any.ensures.ran (YieldsList-from_slice _ c.iter.ensures.rest) (λ x b q k. search (rules, tests))
+    ∙ rw c.as_chunks.ensures.front (value_any c.args.bytes.now c.args.tags.now c.args.v c.args.text.now)

@@ -1,4 +1,3 @@
-use Prim.Native.Nat.{◌-◌}
 use mathlib.Core.Path.{refl}
 use Rattle.layer.proofs.Listing.{each_start, each_room, each_ok, each_done, each_fails, each_on}
 use Rattle.layer.proofs.Repeating.{once_step}

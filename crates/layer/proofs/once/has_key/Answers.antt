@@ -1,18 +1,11 @@
-use Prim.Native.Nat.{◌-◌}
-use Rattle.layer.proofs.Walking.{looks_start}
-use Rattle.layer.proofs.Repeating.{tag_met, tag_on, tag_none}
-use borrow.Author.Rules.{rules}
+-- Some two words are those of a tag of this key.
+use Rattle.std.proofs.Common.{rules, tests, ◌∙◌}
+use Rattle.std.proofs.lemmas.Iterator.{YieldsList-from_slice}
+use Rattle.std.proofs.lemmas.Iterator.Search.{any_from_yields_List}
+use Rattle.layer.proofs.Chunks.{has_in, has_any}
 use Rattle.layer.proofs.once.has_key.Goals as goal
 
-pub loop-i-init : goal.loop-i-init
-loop-i-init c = looks_start _ _
-
-pub returns-then-is_key : goal.returns-then-is_key
-returns-then-is_key c = search (rules, tag_met)
-
-pub loop-i-preserved : goal.loop-i-preserved
-loop-i-preserved c =
-    tag_on _ _ _ _ _ c.loop-i.invariant c.loop-i-test.true _ c.wide-k.ensures _ c.is_key.ensures c.if-is_key.false
-
 pub returns : goal.returns
-returns c = search (rules, tag_none)
+returns c =
+    any_from_yields_List (has_in c.args.keys.now c.args.texts.now c.args.key.now) _ _ _ c.any.ensures.ran (YieldsList-from_slice _ c.iter.ensures.rest) (λ x b q k. search (rules, tests))
+    ∙ rw c.as_chunks.ensures.front (has_any c.args.keys.now c.args.texts.now c.args.tags.now c.args.key.now)

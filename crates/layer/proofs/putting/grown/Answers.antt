@@ -2,12 +2,12 @@
 use Prim.Native.Nat.{ℕ, ◌+◌}
 use native.Mathlib.Omega.{arith}
 use mathlib.Core.Path.{◌≡◌}
-use Rattle.table.specs.declared.Found.{Found}
+use Rattle.std.specs.Prelude.{Option}
 use Rattle.layer.specs.declared.Figures.{Figures}
 use Rattle.layer.specs.Calls.{more_of, grown_by}
 use Rattle.layer.proofs.putting.grown.Goals as goal
 
-sums : (u : Figures) (kf vf : Found) (key text a b d e : ℕ) → a ≡ more_of kf 1 → b ≡ more_of vf 1 → d ≡ more_of kf key → e ≡ more_of vf text → record { keys = u.keys + a; values = u.values + b; texts = u.texts + d + e; features = u.features + 2 } ≡ grown_by u kf vf key text
+sums : (u : Figures) (kf vf : Option ℕ) (key text a b d e : ℕ) → a ≡ more_of kf 1 → b ≡ more_of vf 1 → d ≡ more_of kf key → e ≡ more_of vf text → record { keys = u.keys + a; values = u.values + b; texts = u.texts + d + e; features = u.features + 2 } ≡ grown_by u kf vf key text
 sums u kf vf key text a b d e ha hb hd he = rw (ha, hb, hd, he)
 
 pub overflow_add-result : goal.overflow_add-result

@@ -3,8 +3,8 @@ use Rattle.layer.proofs.Entering.{put_none, put_last}
 use borrow.Author.Rules.{rules}
 use Rattle.layer.proofs.putting.put_key.Goals as goal
 
-pub returns-in-At : goal.returns-in-At
-returns-in-At c = search (rules, put_none)
+pub returns-in-Some : goal.returns-in-Some
+returns-in-Some c = search (rules, put_none)
 
-pub returns-in-Nothing : goal.returns-in-Nothing
-returns-in-Nothing c = search (rules, put_last)
+pub returns-in-None : goal.returns-in-None
+returns-in-None c = search (rules, put_last)

@@ -3,40 +3,30 @@ use lib.Seq.{length-take-le}
 use lib.ListN.{length}
 use mathlib.Core.Path.{sym}
 use native.Mathlib.Omega.{arith}
-use Rattle.layer.proofs.Fitting.{Fit, told_fit, unfit, valid_is}
+use Rattle.layer.proofs.Fitting.{told_fit, unfit, valid_is}
 use borrow.Author.Rules.{rules}
 use Rattle.layer.proofs.state.is_valid.Goals as goal
-use Rattle.layer.proofs.state.is_valid.Tie as tie
-use Rattle.layer.proofs.state.is_valid.Reads as contract
-use Rattle.layer.proofs.state.is_valid.Lts as places
-
--- the places on the way that the lemmas below speak of
-abbrev Else-not-has_room_for : Type 0
-Else-not-has_room_for = places.Else1 tie.the-claims contract.Pre contract.Post
-
-at_fit : (c : Else-not-has_room_for) → let g = c.args in Fit g.s.used (length g.keys.now) (length g.values.now) (length g.texts.now) (length g.features.now)
-at_fit c = told_fit _ _ _ _ _ _ c.has_room_for.ensures c.if-not-has_room_for.false-raw
 
 pub returns-then-not-has_room_for : goal.returns-then-not-has_room_for
 returns-then-not-has_room_for c = search (rules, unfit)
 
 pub overflow_mul-k : goal.overflow_mul-k
-overflow_mul-k c = record { fits = omega (arith, at_fit c.before.before) }
+overflow_mul-k c = record { fits = omega (arith, told_fit c.args.s.used (length c.args.keys.now) (length c.args.values.now) (length c.args.texts.now) (length c.args.features.now) _ c.has_room_for.ensures c.if-not-has_room_for.false-raw) }
 
 pub overflow_mul-v : goal.overflow_mul-v
-overflow_mul-v c = record { fits = omega (arith, at_fit c.before.before.before) }
+overflow_mul-v c = record { fits = omega (arith, told_fit c.args.s.used (length c.args.keys.now) (length c.args.values.now) (length c.args.texts.now) (length c.args.features.now) _ c.has_room_for.ensures c.if-not-has_room_for.false-raw) }
 
 pub slice_bounds-keys_in-end : goal.slice_bounds-keys_in-end
-slice_bounds-keys_in-end c = sym (length-take-le _ _ (at_fit c.before.before.before.before).in_keys)
+slice_bounds-keys_in-end c = sym (length-take-le _ _ (told_fit c.args.s.used (length c.args.keys.now) (length c.args.values.now) (length c.args.texts.now) (length c.args.features.now) _ c.has_room_for.ensures c.if-not-has_room_for.false-raw).in_keys)
 
 pub slice_bounds-values_in-end : goal.slice_bounds-values_in-end
-slice_bounds-values_in-end c = sym (length-take-le _ _ (at_fit c.before.before.before.before.before).in_values)
+slice_bounds-values_in-end c = sym (length-take-le _ _ (told_fit c.args.s.used (length c.args.keys.now) (length c.args.values.now) (length c.args.texts.now) (length c.args.features.now) _ c.has_room_for.ensures c.if-not-has_room_for.false-raw).in_values)
 
 pub slice_bounds-records_ok-end : goal.slice_bounds-records_ok-end
-slice_bounds-records_ok-end c = sym (length-take-le _ _ (at_fit c.before.before.before.before.before.before).in_features)
+slice_bounds-records_ok-end c = sym (length-take-le _ _ (told_fit c.args.s.used (length c.args.keys.now) (length c.args.values.now) (length c.args.texts.now) (length c.args.features.now) _ c.has_room_for.ensures c.if-not-has_room_for.false-raw).in_features)
 
 pub records_ok-requires : goal.records_ok-requires
-records_ok-requires c = length-take-le _ _ (at_fit c.before.before.before.before.before.before).in_features
+records_ok-requires c = length-take-le _ _ (told_fit c.args.s.used (length c.args.keys.now) (length c.args.values.now) (length c.args.texts.now) (length c.args.features.now) _ c.has_room_for.ensures c.if-not-has_room_for.false-raw).in_features
 
 pub returns : goal.returns
 returns c =

@@ -6,8 +6,8 @@ use Rattle.layer.proofs.tag_list.is_short.Goals as goal
 pub returns-then-not-may_have : goal.returns-then-not-may_have
 returns-then-not-may_have c = search (rules, long_key)
 
-pub returns-then-tags-i-ne-TEXT : goal.returns-then-tags-i-ne-TEXT
-returns-then-tags-i-ne-TEXT c = search (rules, no_long_text)
+pub returns-then-t-ne-TEXT : goal.returns-then-t-ne-TEXT
+returns-then-t-ne-TEXT c = search (rules, no_long_text)
 
 pub returns : goal.returns
 returns c = search (rules, text_length)

@@ -1,16 +1,15 @@
-use Prim.Native.Nat.{◌-◌}
-use Rattle.layer.proofs.Listing.{start, ends, past, further}
-use borrow.Author.Rules.{rules}
+-- Every five words are a tag, and no word is behind them.
+use Rattle.std.proofs.Common.{rules, tests, ◌∙◌, sym, length, arith}
+use borrow.Author.Tests.{eqb-true, eqb-false}
+use Rattle.std.proofs.lemmas.Iterator.{YieldsList-from_slice}
+use Rattle.std.proofs.lemmas.Iterator.Search.{all_from_yields_List}
+use Rattle.layer.proofs.Chunks.{ok_in, ok_all, ok_odd}
 use Rattle.layer.proofs.tag_list.is_tag_list.Goals as goal
 
-pub loop-i-init : goal.loop-i-init
-loop-i-init c = start _ _
+pub returns-then-is_empty : goal.returns-then-is_empty
+returns-then-is_empty c =
+    all_from_yields_List (ok_in c.args.bytes) _ _ _ c.all.ensures.ran (YieldsList-from_slice _ c.iter.ensures.rest) (λ x b q k. search (rules, tests))
+    ∙ rw c.as_chunks.ensures.front (ok_all c.args.bytes c.args.tags.now (omega (arith, eqb-true (length c.as_chunks.result.1.now) 0 (sym c.is_empty.ensures ∙ c.if-is_empty.true), c.as_chunks.ensures.back_len)))
 
-pub returns-then-not-tag_ok : goal.returns-then-not-tag_ok
-returns-then-not-tag_ok c = past _ _ _ c.loop-i.invariant _ c.tag_ok.ensures (search rules) c.if-not-tag_ok.true-raw
-
-pub loop-i-preserved : goal.loop-i-preserved
-loop-i-preserved c = further _ _ _ c.loop-i.invariant _ c.tag_ok.ensures (search rules) c.if-not-tag_ok.false-raw
-
-pub returns : goal.returns
-returns c = search (rules, ends)
+pub returns-else-is_empty : goal.returns-else-is_empty
+returns-else-is_empty c = c.if-is_empty.false ∙ ok_odd c.args.bytes c.args.tags.now (omega (arith, eqb-false (length c.as_chunks.result.1.now) 0 (sym c.is_empty.ensures ∙ c.if-is_empty.false), c.as_chunks.ensures.back_len))

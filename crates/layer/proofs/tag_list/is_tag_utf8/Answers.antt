@@ -5,16 +5,16 @@ use borrow.Author.Rules.{rules}
 use Rattle.layer.proofs.tag_list.is_tag_utf8.Goals as goal
 
 pub slice_bounds-is_utf8-end : goal.slice_bounds-is_utf8-end
-slice_bounds-is_utf8-end c = key_read c.args.bytes.now c.args.tags.now c.args.i c.requires.i_value _ _ c.wide-a.ensures c.wide.ensures
+slice_bounds-is_utf8-end c = key_read c.args.bytes.now c.args.t.now 0 c.requires _ _ c.wide-a.ensures c.wide.ensures
 
 pub returns-then-not-is_utf8 : goal.returns-then-not-is_utf8
 returns-then-not-is_utf8 c = search (rules, key_ill)
 
-pub returns-then-tags-i-ne-TEXT : goal.returns-then-tags-i-ne-TEXT
-returns-then-tags-i-ne-TEXT c = search (rules, no_text)
+pub returns-then-t-ne-TEXT : goal.returns-then-t-ne-TEXT
+returns-then-t-ne-TEXT c = search (rules, no_text)
 
 pub slice_bounds-is_utf8-end-2 : goal.slice_bounds-is_utf8-end-2
-slice_bounds-is_utf8-end-2 c = text_read c.args.bytes.now c.args.tags.now c.args.i c.requires.i_value (search rules) _ _ c.wide-c.ensures c.wide-2.ensures
+slice_bounds-is_utf8-end-2 c = text_read c.args.bytes.now c.args.t.now 0 c.requires (search rules) _ _ c.wide-c.ensures c.wide-2.ensures
 
 pub returns : goal.returns
 returns c = search (rules, text_told)

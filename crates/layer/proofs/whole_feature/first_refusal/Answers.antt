@@ -13,9 +13,6 @@ returns-then-not-is_good c = search (rules, bar_kind)
 pub returns-then-not-stands : goal.returns-then-not-stands
 returns-then-not-stands c = search (rules, bar_state)
 
-pub are_short-requires : goal.are_short-requires
-are_short-requires c = search (rules, answered)
-
 pub returns-then-not-are_short : goal.returns-then-not-are_short
 returns-then-not-are_short c = search (rules, bar_text)
 

@@ -1,8 +1,8 @@
-use Prim.Native.Nat.{◌-◌}
 use native.Mathlib.Omega.{arith}
 use Rattle.layer.specs.Lookup.{idx}
 use Rattle.layer.proofs.Features.{few_words, record_fits, put_fit, may_fill, put_left}
 use Rattle.layer.proofs.Filled.{begin, ends, there, may_tag, turn}
+use borrow.Author.Rules.{rules}
 use Rattle.layer.proofs.whole_feature.put_feature.Goals as goal
 
 pub lay_record-requires : goal.lay_record-requires
@@ -30,7 +30,7 @@ put_tag_at-t-requires c =
 pub overflow_add-i : goal.overflow_add-i
 overflow_add-i c =
     let h = c.loop-i-test in
-    record { fits = omega (arith, c.before.before.before.before.before.before.before.before.before.before.before.before.before.before.before.before.before.before.before.before.before.before.before.before.before.before.before.before.before.before.before.before.before.before.before.before.before, (there _ _ _ _ _ _ _ _ _ _ c.loop-i.invariant (omega (arith, h))).words) }
+    let r = (there _ _ _ _ _ _ _ _ _ _ c.loop-i.invariant (omega (arith, h))).words in search rules
 
 pub loop-i-smaller : goal.loop-i-smaller
 loop-i-smaller c = omega (arith, c.loop-i-test)

@@ -9,8 +9,8 @@ overflow_sub-src c = search (rules, begins_inside)
 pub returns-then-src-start : goal.returns-then-src-start
 returns-then-src-start c = search (rules, bodied_past)
 
-pub returns-in-Faulty : goal.returns-in-Faulty
-returns-in-Faulty c = search (rules, bodied_not)
+pub returns-in_err-n : goal.returns-in_err-n
+returns-in_err-n c = search (rules, bodied_not)
 
-pub returns-else-src-start : goal.returns-else-src-start
-returns-else-src-start c = search (rules, bodied_is)
+pub returns : goal.returns
+returns c = search (rules, bodied_is)

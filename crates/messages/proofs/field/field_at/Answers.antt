@@ -6,8 +6,8 @@ use Rattle.messages.proofs.field.field_at.Goals as goal
 pub content-requires : goal.content-requires
 content-requires c = search (rules, field_short, field_inside)
 
-pub returns-in-Faulty : goal.returns-in-Faulty
-returns-in-Faulty c = search (rules, field_no_key)
+pub returns-in_err-key : goal.returns-in_err-key
+returns-in_err-key c = search (rules, field_no_key)
 
-pub returns-in-Is : goal.returns-in-Is
-returns-in-Is c = search (rules, field_is)
+pub returns : goal.returns
+returns c = search (rules, field_is)

@@ -1,4 +1,3 @@
-use Prim.Native.Nat.{◌-◌}
 use borrow.Author.Rules.{rules}
 use Rattle.messages.proofs.Packed.{packed_start, packed_end, packed_one, packed_more, packed_less, packed_none}
 use Rattle.messages.proofs.numbers.are_varints.Goals as goal
@@ -9,8 +8,8 @@ loop-i-init c = search (rules, packed_start)
 pub loop-i-preserved-then-src-i-lt-MORE : goal.loop-i-preserved-then-src-i-lt-MORE
 loop-i-preserved-then-src-i-lt-MORE c = search (rules, packed_one)
 
-pub returns-then-i-eq0 : goal.returns-then-i-eq0
-returns-then-i-eq0 c = search (rules, packed_none)
+pub returns-in_default : goal.returns-in_default
+returns-in_default c = search (rules, packed_none)
 
 pub loop-i-smaller : goal.loop-i-smaller
 loop-i-smaller c = search (rules, packed_less)

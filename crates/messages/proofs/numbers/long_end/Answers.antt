@@ -1,4 +1,4 @@
-use Prim.Native.Nat.{◌-◌}
+use mathlib.Core.Path.{◌∙◌}
 use borrow.Author.Rules.{rules}
 use Rattle.messages.proofs.Reading.{far_start, far_cut, far_ends, far_turn, far_is, far_not}
 use Rattle.messages.proofs.numbers.long_end.Goals as goal
@@ -6,17 +6,17 @@ use Rattle.messages.proofs.numbers.long_end.Goals as goal
 pub loop-i-init : goal.loop-i-init
 loop-i-init c = search (rules, far_start)
 
-pub returns-then-src-i : goal.returns-then-src-i
-returns-then-src-i c = search (rules, far_cut)
+pub returns-in_err-c : goal.returns-in_err-c
+returns-in_err-c c = c.from_residual.ensures ∙ far_cut _ _ _ c.loop-i.invariant (search rules)
 
-pub returns-then-src-i-lt-MORE : goal.returns-then-src-i-lt-MORE
-returns-then-src-i-lt-MORE c = search (rules, far_ends)
+pub returns-then-c-lt-MORE : goal.returns-then-c-lt-MORE
+returns-then-c-lt-MORE c = far_ends _ _ _ c.loop-i.invariant (search rules) (search rules) (search rules)
 
 pub loop-i-preserved : goal.loop-i-preserved
 loop-i-preserved c = search (rules, far_turn)
 
-pub returns-in-Is : goal.returns-in-Is
-returns-in-Is c = search (rules, far_is)
+pub returns : goal.returns
+returns c = search (rules, far_is)
 
-pub returns-in-Faulty : goal.returns-in-Faulty
-returns-in-Faulty c = search (rules, far_not)
+pub returns-in_err-next : goal.returns-in_err-next
+returns-in_err-next c = search (rules, far_not)

@@ -6,6 +6,3 @@ use Rattle.printed.proofs.vertices.append_vertices.Given as goal
 
 abbrev pub invariant-loop-i : goal.invariant-loop-i
 invariant-loop-i l = Lines l.numbers l.at l.initial.text l.text l.next l.i
-
-abbrev pub decreases-loop-i : goal.decreases-loop-i
-decreases-loop-i l = length l.numbers / 3 - l.i

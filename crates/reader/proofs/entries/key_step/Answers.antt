@@ -13,13 +13,13 @@ pub slice_bounds-first_of-end : goal.slice_bounds-first_of-end
 slice_bounds-first_of-end c = search (rules, part_long)
 
 pub part_of-requires : goal.part_of-requires
-part_of-requires c = search (rules, key_ordered)
+part_of-requires c = search (rules, key_ordered, c.in_ok-f.was)
 
-pub returns-in-Nothing : goal.returns-in-Nothing
-returns-in-Nothing c = search (rules, key_end)
+pub returns-in_default : goal.returns-in_default
+returns-in_default c = search (rules, key_end, c.in_ok-f.was)
 
-pub returns-in-Broken : goal.returns-in-Broken
-returns-in-Broken c = search (rules, key_broken)
+pub returns-in_err-f : goal.returns-in_err-f
+returns-in_err-f c = search (rules, key_broken, c.in_err-f.was)
 
-pub returns-in-At : goal.returns-in-At
-returns-in-At c = search (rules, key_is_lem)
+pub returns : goal.returns
+returns c = search (rules, key_is_lem, c.in_ok-f.was)

@@ -1,4 +1,3 @@
-use Prim.Native.Nat.{◌-◌}
 use borrow.Author.Rules.{rules}
 use Rattle.reader.proofs.Lowest.{keeping_first, keeping_done, keeping_broken, keeping_less, keeping_goes_on}
 use Rattle.reader.proofs.entries.value_in.Goals as goal
@@ -6,8 +5,8 @@ use Rattle.reader.proofs.entries.value_in.Goals as goal
 pub loop-at-init : goal.loop-at-init
 loop-at-init c = search (rules, keeping_first)
 
-pub returns-in-Faulty : goal.returns-in-Faulty
-returns-in-Faulty c = search (rules, keeping_broken)
+pub returns-in_default : goal.returns-in_default
+returns-in_default c = search (rules, keeping_broken)
 
 pub loop-at-smaller : goal.loop-at-smaller
 loop-at-smaller c = search (rules, keeping_less)

@@ -13,13 +13,13 @@ pub slice_bounds-first_of-end : goal.slice_bounds-first_of-end
 slice_bounds-first_of-end c = search (rules, part_long)
 
 pub slice_bounds-value_in-end : goal.slice_bounds-value_in-end
-slice_bounds-value_in-end c = search (rules, value_long)
+slice_bounds-value_in-end c = search (rules, value_long, c.in_ok-f.was)
 
-pub returns-in-Nothing : goal.returns-in-Nothing
-returns-in-Nothing c = search (rules, value_end)
+pub returns-in_default : goal.returns-in_default
+returns-in_default c = search (rules, value_end, c.in_ok-f.was)
 
-pub returns-in-Broken : goal.returns-in-Broken
-returns-in-Broken c = search (rules, value_broken)
+pub returns-in_err-f : goal.returns-in_err-f
+returns-in_err-f c = search (rules, value_broken, c.in_err-f.was)
 
-pub returns-in-At : goal.returns-in-At
-returns-in-At c = search (rules, value_is_lem)
+pub returns : goal.returns
+returns c = search (rules, value_is_lem, c.in_ok-f.was)

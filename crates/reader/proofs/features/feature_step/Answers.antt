@@ -16,16 +16,16 @@ pub slice_bounds-part-end : goal.slice_bounds-part-end
 slice_bounds-part-end c = sym (length-take-le _ _ (omega arith))
 
 pub slice_bounds-feature_head-end : goal.slice_bounds-feature_head-end
-slice_bounds-feature_head-end c = sym (length-take-le _ _ (search (rules, step_within)))
+slice_bounds-feature_head-end c = sym (length-take-le _ _ (search (rules, step_within, c.in_ok-f.was)))
 
-pub returns-in-Nothing : goal.returns-in-Nothing
-returns-in-Nothing c = search (rules, step_end)
+pub returns-in_default : goal.returns-in_default
+returns-in_default c = search (rules, step_end, c.in_ok-f.was)
 
-pub returns-in-Broken : goal.returns-in-Broken
-returns-in-Broken c = search (rules, step_broken)
+pub returns-in_err-f : goal.returns-in_err-f
+returns-in_err-f c = search (rules, step_broken, c.in_err-f.was)
 
-pub returns-in-Broken-feature_head : goal.returns-in-Broken-feature_head
-returns-in-Broken-feature_head c = search (rules, step_unread)
+pub returns-in-None : goal.returns-in-None
+returns-in-None c = search (rules, step_unread, c.in_ok-f.was)
 
-pub returns-in-Is : goal.returns-in-Is
-returns-in-Is c = search (rules, step_read_lem)
+pub returns-in-Some-feature_head : goal.returns-in-Some-feature_head
+returns-in-Some-feature_head c = search (rules, step_read_lem, c.in_ok-f.was)

@@ -1,4 +1,3 @@
-use Prim.Native.Nat.{◌-◌}
 use mathlib.Core.Path.{refl}
 use borrow.Author.Rules.{rules}
 use Rattle.reader.proofs.Finding.{none_left, cannot_read, found_here, goes_on, fewer_left}
@@ -7,8 +6,8 @@ use Rattle.reader.proofs.find.first_of.Goals as goal
 pub loop-at-init : goal.loop-at-init
 loop-at-init c = refl
 
-pub returns-in-Faulty : goal.returns-in-Faulty
-returns-in-Faulty c = search (rules, cannot_read)
+pub returns-in_default : goal.returns-in_default
+returns-in_default c = search (rules, cannot_read)
 
 pub returns-then-f-key : goal.returns-then-f-key
 returns-then-f-key c = search (rules, found_here)

@@ -1,4 +1,3 @@
-use Prim.Native.Nat.{◌-◌}
 use borrow.Author.Rules.{rules}
 use Rattle.reader.proofs.WordsLaid.{fields_start, fields_long, fields_done, fields_never, fields_fit, fields_less, fields_turn}
 use Rattle.reader.proofs.into.lay_fields.Goals as goal
@@ -6,11 +5,11 @@ use Rattle.reader.proofs.into.lay_fields.Goals as goal
 pub loop-at-init : goal.loop-at-init
 loop-at-init c = search (rules, fields_start)
 
-pub shape_of-out-in-Faulty : goal.shape_of-out-in-Faulty
-shape_of-out-in-Faulty c = search (rules, fields_long)
+pub shape_of-out-in_default : goal.shape_of-out-in_default
+shape_of-out-in_default c = search (rules, fields_long)
 
-pub returns-in-Faulty : goal.returns-in-Faulty
-returns-in-Faulty c = search (rules, fields_never)
+pub returns-in_default : goal.returns-in_default
+returns-in_default c = search (rules, fields_never)
 
 pub lay_field-n-requires : goal.lay_field-n-requires
 lay_field-n-requires c = search (rules, fields_fit)

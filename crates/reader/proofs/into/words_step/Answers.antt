@@ -21,8 +21,8 @@ returns-then-out-n c = search (rules, words_no_room)
 pub lay_fields-requires : goal.lay_fields-requires
 lay_fields-requires c = search (rules, words_able)
 
-pub returns-in-Broken : goal.returns-in-Broken
-returns-in-Broken c = search (rules, words_broken)
+pub returns-in_default : goal.returns-in_default
+returns-in_default c = search (rules, words_broken)
 
-pub returns-else-out-n : goal.returns-else-out-n
-returns-else-out-n c = search (rules, words_laid)
+pub returns : goal.returns
+returns c = search (rules, words_laid)

@@ -1,4 +1,3 @@
-use Prim.Native.Nat.{◌-◌}
 use borrow.Author.Rules.{rules}
 use Rattle.reader.proofs.Heading.{heading_first, heading_done, heading_broken, with_taken, heading_less, heading_goes_on}
 use Rattle.reader.proofs.layers.layer_in.Goals as goal
@@ -6,8 +5,8 @@ use Rattle.reader.proofs.layers.layer_in.Goals as goal
 pub loop-at-init : goal.loop-at-init
 loop-at-init c = search (rules, heading_first)
 
-pub returns-in-Faulty : goal.returns-in-Faulty
-returns-in-Faulty c = search (rules, heading_broken)
+pub returns-in_default : goal.returns-in_default
+returns-in_default c = search (rules, heading_broken)
 
 pub with-h-requires : goal.with-h-requires
 with-h-requires c = search (rules, with_taken)

@@ -7,13 +7,13 @@ pub returns-then-src-at : goal.returns-then-src-at
 returns-then-src-at c = search (rules, layer_outside)
 
 pub slice_bounds-layer_in-end : goal.slice_bounds-layer_in-end
-slice_bounds-layer_in-end c = search (rules, layer_long)
+slice_bounds-layer_in-end c = search (rules, layer_long, c.in_ok-f.was)
 
-pub returns-in-Nothing : goal.returns-in-Nothing
-returns-in-Nothing c = search (rules, layer_end)
+pub returns-in_default : goal.returns-in_default
+returns-in_default c = search (rules, layer_end, c.in_ok-f.was)
 
-pub returns-in-Broken : goal.returns-in-Broken
-returns-in-Broken c = search (rules, layer_broken)
+pub returns-in_err-f : goal.returns-in_err-f
+returns-in_err-f c = search (rules, layer_broken, c.in_err-f.was)
 
-pub returns-in-At : goal.returns-in-At
-returns-in-At c = search (rules, layer_is)
+pub returns : goal.returns
+returns c = search (rules, layer_is, c.in_ok-f.was)

@@ -1,4 +1,4 @@
-use Prim.Native.Nat.{◌-◌, ◌<◌}
+use Prim.Native.Nat.{◌<◌}
 use native.Mathlib.Omega.{arith}
 use borrow.Author.Rules.{rules}
 use lib.ListN.{length}
@@ -18,11 +18,11 @@ room c = search (rules, list_room)
 pub loop-i-init : goal.loop-i-init
 loop-i-init c = search (rules, list_start)
 
-pub shape_of-out-in-Faulty : goal.shape_of-out-in-Faulty
-shape_of-out-in-Faulty c = search (rules, list_long)
+pub shape_of-out-in_default : goal.shape_of-out-in_default
+shape_of-out-in_default c = search (rules, list_long)
 
-pub returns-in-Faulty : goal.returns-in-Faulty
-returns-in-Faulty c = search (rules, list_never)
+pub returns-in_default : goal.returns-in_default
+returns-in_default c = search (rules, list_never)
 
 pub offset_bounds-out-n : goal.offset_bounds-out-n
 offset_bounds-out-n c = omega (arith, room c.before, list_long c.loop-i.invariant)

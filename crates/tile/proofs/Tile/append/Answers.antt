@@ -84,4 +84,4 @@ overflow_add-result-2 c =
 
 pub returns : goal.returns
 returns c =
-    layer_added _ _ _ _ _ _ (fit c.before.before.before.before.before.before.before.before.before.before.before) _ c.lay_words.ensures _ _ c.put_layer.ensures
+    layer_added _ _ _ _ _ _ (fit c.before.before.before.before.before.before.before.before.before.before.before) _ c.lay.ensures _ _ c.put_layer.ensures

@@ -2,7 +2,7 @@
 use native.Mathlib.Omega.{arith}
 use mathlib.Core.Path.{sym}
 use lib.Seq.{length-take-le}
-use Rattle.tile.proofs.Standing.{parts, is_named, not_named}
+use Rattle.tile.proofs.Standing.{parts, is_named}
 use borrow.Author.Rules.{rules}
 use Rattle.tile.proofs.Tile.has_name.Goals as goal
 
@@ -15,8 +15,5 @@ slice_bounds-key_pos-end c = sym (length-take-le _ _ (parts _ _ _ c.requires).in
 pub slice_bounds-key_pos-end-2 : goal.slice_bounds-key_pos-end-2
 slice_bounds-key_pos-end-2 c = sym (length-take-le _ _ (parts _ _ _ c.requires).in_bytes)
 
-pub returns-in-At : goal.returns-in-At
-returns-in-At c = search (rules, is_named)
-
-pub returns-in-Nothing : goal.returns-in-Nothing
-returns-in-Nothing c = search (rules, not_named)
+pub returns : goal.returns
+returns c = search (rules, is_named)

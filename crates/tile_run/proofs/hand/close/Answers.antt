@@ -2,8 +2,8 @@
 use Rattle.tile_run.proofs.Handling.{no_layer_lem, on_layer_lem}
 use Rattle.tile_run.proofs.hand.close.Goals as goal
 
-pub returns-in-Nothing : goal.returns-in-Nothing
-returns-in-Nothing c = no_layer_lem _ c.args.h _ c.in-Nothing.is
+pub returns-in-None : goal.returns-in-None
+returns-in-None c = no_layer_lem _ c.args.h _ c.in-None.is
 
-pub returns-in-Holds : goal.returns-in-Holds
-returns-in-Holds c = on_layer_lem _ c.args.h _ _ _ _ _ c.in-Holds.is c.into_layer.ensures c.hold.ensures
+pub returns-in-Some : goal.returns-in-Some
+returns-in-Some c = on_layer_lem _ c.args.h _ _ _ _ _ c.in-Some.is c.into_layer.ensures c.hold.ensures

@@ -1,7 +1,6 @@
--- Each byte is what is left of the number after the bytes before it.
+-- The bytes are those of the number.
 use Rattle.wire.proofs.Fields.{fixed32_put}
 use Rattle.wire.proofs.fixed.put_fixed32.Goals as goal
 
 pub returns : goal.returns
-returns c =
-    fixed32_put _ _ _ _ _ _ c.low_byte.ensures c.low_byte-2.ensures c.low_byte-3.ensures c.low_byte-4.ensures _ _ _ c.put_headed.ensures
+returns c = fixed32_put _ _ _ c.to_le_bytes-float.ensures _ _ _ c.put_headed.ensures

@@ -1,11 +1,10 @@
 use native.Mathlib.Omega.{arith}
-use Prim.Native.Nat.{◌-◌}
 use Rattle.wire.proofs.Packing.{packing_start, packing_inside, packing_long, packing_sum, packing_turn, packing_end}
 use borrow.Author.Rules.{rules}
 use Rattle.wire.proofs.packed.lay_varints.Goals as goal
 
-pub loop-i-init : goal.loop-i-init
-loop-i-init c = packing_start _ _ c.requires
+pub loop-word-init : goal.loop-word-init
+loop-word-init c = packing_start _ _ c.requires
 
 pub slice_bounds-put_varint-count : goal.slice_bounds-put_varint-count
 slice_bounds-put_varint-count c = search (rules, packing_inside)
@@ -15,10 +14,10 @@ slice_bounds-put_varint-start c = search (rules, packing_inside)
 
 pub overflow_add-at : goal.overflow_add-at
 overflow_add-at c =
-    omega (arith, packing_sum _ _ _ _ _ c.loop-i.invariant c.loop-i-test.true _ c.long-word.ensures _ _ c.put_varint-count.ensures)
+    omega (arith, packing_sum _ _ _ _ _ c.loop-word.invariant (search rules) _ (search rules) _ _ c.put_varint-count.ensures)
 
-pub loop-i-preserved : goal.loop-i-preserved
-loop-i-preserved c = search (rules, packing_turn)
+pub loop-word-preserved : goal.loop-word-preserved
+loop-word-preserved c = search (rules, packing_turn)
 
 pub shape_of-out : goal.shape_of-out
 shape_of-out c = search (rules, packing_long)

@@ -1,8 +1,9 @@
 -- No words are no field; too short a list is left alone; in any other the size is put, and the varints behind it.
 use Prim.Native.Nat.{◌+◌, ◌-◌, ◌≤◌}
-use mathlib.Core.Path.{◌≡◌}
+use mathlib.Core.Path.{◌≡◌, sym, ◌∙◌}
 use mathlib.Core.List.{◌++◌}
 use native.Mathlib.Omega.{arith}
+use borrow.Author.Tests.{eqb-true, eqb-false}
 use lib.ListN.{length}
 use borrow.Rule.Slice.PartMut.{mid_of}
 use Rattle.wire.specs.Fields.{varint_field, varints, packed_field}
@@ -22,12 +23,12 @@ After-slice_known-2-1 = lts.After-slice_known2 tie.the-claims reads.Pre reads.Po
 
 -- the size that was reckoned is the field's
 size : (c : After-varint_field_size) → c.varint_field_size.result + c.varints_size-size.result ≡ length (packed_field c.args.field c.args.words.now)
-size c = omega (arith, c.varint_field_size.ensures, packed_long c.args.field c.args.words.now c.if-words-eq0.false c.varints_size-size.result c.varints_size-size.ensures)
+size c = omega (arith, c.varint_field_size.ensures, packed_long c.args.field c.args.words.now (eqb-false (length c.args.words.now) 0 (sym c.is_empty.ensures ∙ c.if-is_empty.false)) c.varints_size-size.result c.varints_size-size.ensures)
 
 -- where the size has been put: the field's two parts, room for both, and for the second behind the first
 module _ (c : After-slice_known-2-1) where
   parts : packed_field c.args.field c.args.words.now ≡ varint_field c.args.field c.varints_size-size.result ++ varints c.args.words.now
-  parts = packed_parts c.args.field c.args.words.now c.if-words-eq0.false c.varints_size-size.result c.varints_size-size.ensures
+  parts = packed_parts c.args.field c.args.words.now (eqb-false (length c.args.words.now) 0 (sym c.is_empty.ensures ∙ c.if-is_empty.false)) c.varints_size-size.result c.varints_size-size.ensures
 
   room : length (packed_field c.args.field c.args.words.now) ≤ length c.args.out.now
   room = omega (arith, size c.before.before.before.before.before)
@@ -35,8 +36,8 @@ module _ (c : After-slice_known-2-1) where
   behind : length (varints c.args.words.now) ≤ length (mid_of c.put_varint_field-at.result (length c.put_varint_field-at.new.out - c.put_varint_field-at.result) c.put_varint_field-at.new.out)
   behind = both_room _ _ _ _ parts c.put_varint_field-at.ensures room
 
-pub returns-then-words-eq0 : goal.returns-then-words-eq0
-returns-then-words-eq0 c = rw (packed_none c.args.field c.args.words.now c.if-words-eq0.true) (put_nothing _)
+pub returns-then-is_empty : goal.returns-then-is_empty
+returns-then-is_empty c = rw (packed_none c.args.field c.args.words.now (eqb-true (length c.args.words.now) 0 (sym c.is_empty.ensures ∙ c.if-is_empty.true))) (put_nothing _)
 
 pub overflow_add-varint_field_size : goal.overflow_add-varint_field_size
 overflow_add-varint_field_size c = omega (arith, c.varint_field_size.ensures, varint_field_short c.args.field c.varints_size-size.result, c.varints_size-size.ensures, varints_few c.args.words.now (λ i. omega (arith, c.shared_slice_known-1.given i)), c.well_formed.1.0.1)

@@ -8,8 +8,5 @@ use Rattle.words.proofs.param.ParamInt.decode.Goals as goal
 pub returns-then-word-eq0 : goal.returns-then-word-eq0
 returns-then-word-eq0 c = half c.args.word (omega arith) ∙ sym (unparam_even _ c.if-word-eq0.true)
 
-pub overflow_sub-result : goal.overflow_sub-result
-overflow_sub-result c = less_fits c.args.word (omega arith)
-
 pub returns : goal.returns
 returns c = to_z-of_z (less_fits c.args.word (omega arith)) ∙ less_half c.args.word (omega arith) ∙ sym (unparam_odd _ c.if-word-eq0.false)

@@ -42,9 +42,6 @@ module _ (s : Start) where
 
 ruleset read = (value, wide, even, odd, less)
 
-pub overflow_cast-n : goal.overflow_cast-n
-overflow_cast-n c = simp read (widened (fit c.before.before))
-
 above : (c : Then-n-ge0) → IsWord c.args.self.value (pos 2 *ℤ c.args.self.value)
 above c =
     let f = fit c.before.before.before in
@@ -54,21 +51,6 @@ below : (c : Else-n-ge0) → IsWord c.args.self.value (negsuc 1 *ℤ c.args.self
 below c =
     let f = fit c.before.before.before in
     odd_is f (le_false w64 (sfits_lit tt) (widened f) (simp value at c.if-n-ge0.false))
-
-pub overflow_mul-result : goal.overflow_mul-result
-overflow_mul-result c = simp read (twice (fit c.before.before.before))
-
-pub overflow_cast-result : goal.overflow_cast-result
-overflow_cast-result c = simp read ((above c).signless, (above c).fits)
-
-pub overflow_mul-result-else-n-ge0 : goal.overflow_mul-result-else-n-ge0
-overflow_mul-result-else-n-ge0 c = simp read (minus_twice (fit c.before.before.before))
-
-pub overflow_sub-result : goal.overflow_sub-result
-overflow_sub-result c = simp read (one_less (fit c.before.before.before))
-
-pub overflow_cast-result-else-n-ge0 : goal.overflow_cast-result-else-n-ge0
-overflow_cast-result-else-n-ge0 c = simp read ((below c).signless, (below c).fits)
 
 pub returns-then-n-ge0 : goal.returns-then-n-ge0
 returns-then-n-ge0 c = simp read (above c).is
