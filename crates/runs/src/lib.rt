@@ -18,5 +18,8 @@ pub fn lay<T: Copy>(run: &[T], dst: &mut [T], at: usize)
     if !has_room(at, run.len(), dst.len()) {
         return;
     }
-    dst[at..at + run.len()].copy_from_slice(run);
+    // Element by element: of `copy_from_slice` the compiler makes a call of memmove, and the C libraries are to need no such name.
+    for i in 0..run.len() {
+        dst[at + i] = run[i];
+    }
 }

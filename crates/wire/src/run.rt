@@ -12,7 +12,10 @@ pub fn put_run(bytes: &[u8], out: &mut [u8]) -> usize
     if out.len() < bytes.len() {
         return 0;
     }
-    out[..bytes.len()].copy_from_slice(bytes);
+    // Byte by byte: of `copy_from_slice` the compiler makes a call of memmove, and the C libraries are to need no such name.
+    for i in 0..bytes.len() {
+        out[i] = bytes[i];
+    }
     bytes.len()
 }
 
