@@ -13,6 +13,7 @@ import checker
 from crates import HEAD, TOP, functions, read_edit
 
 BY_ITSELF = re.compile(r"^(\S+?):\d+:\d+: error: `([^`]+)`(?!.*was not admitted)", re.M)
+ATTRIBUTES = re.compile(r"(?:^[ \t]*#\[[^\]\n]*\]\n)+\Z", re.M)  # the lines in front of a function that are its own, such as a hint on inlining
 IMPORTED = re.compile(r"^((?:pub )?use [\w:]+::)(?:\{([^{}]*)\}|([a-z]\w*));\n", re.M)
 
 
@@ -29,7 +30,7 @@ def without_functions(name, crates):
         plain = re.sub(r"//[^\n]*", lambda m: " " * len(m.group()), text)
         ends = [f.end + 1 for f in functions(name) if f.file == file]
         for head in reversed(list(HEAD.finditer(plain))):
-            text = text[:head.start()] + text[min(e for e in ends if e > head.end()):]
+            text = ATTRIBUTES.sub("", text[:head.start()]) + text[min(e for e in ends if e > head.end()):]
         (folder / file).write_text(IMPORTED.sub(types_alone, text))
     for proof in (folder / "proofs").rglob("*.antt"):
         if proof.stem in ("Answers", "Invariants", "Proof"):

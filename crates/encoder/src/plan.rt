@@ -42,7 +42,16 @@ pub(crate) fn plan_point(d: Draft, ends: Ends, q: Pt) -> Plan
     ensures { Planned result d ends q }
 {
     let first = emit_if(d, ends.end0);
-    let second = emit_if(first, ends.end1);
+    // The second end is asked for here and not by `emit_if` (docs/DECISIONS.md, `encoder`).
+    let Some(c1) = ends.end1 else {
+        let only = emit_point(first, q);
+        return Plan {
+            first,
+            second: first,
+            last: only,
+        };
+    };
+    let second = emit_point(first, c1);
     let last = emit_point(second, q);
     Plan {
         first,

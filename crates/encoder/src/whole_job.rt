@@ -45,7 +45,8 @@ pub fn is_job(points: &[i32], ends: &[u32]) -> bool
     is_job_of(points.len(), ends)
 }
 
-// Adds the points of one part and completes it.
+// Adds the points of one part and completes it. Put into `add_parts`, and that into both whole jobs: a job of a few points costs no calls between them.
+#[inline(always)]
 fn add_part(s: GeomEncoder, points: &[i32], from: usize, to: usize, words: &mut [u32]) -> Course
     requires from_le_to { from ≤ to }
     requires to_in_bounds { to ≤ length points.now / 2 }
@@ -63,6 +64,7 @@ fn add_part(s: GeomEncoder, points: &[i32], from: usize, to: usize, words: &mut 
 }
 
 // Adds the parts one after the other.
+#[inline(always)]
 fn add_parts(s: GeomEncoder, points: &[i32], ends: &[u32], words: &mut [u32]) -> Course
     requires points_value { ends_at 0 ends.now (length points.now / 2) ≡ true }
     requires sound { Sound s (length words.old) }

@@ -113,6 +113,7 @@ fn put_pair(at: usize, end: usize, k: usize, v: usize, features: &mut [u32])
 }
 
 // A tag that has room: the key, then the value, then the two words.
+#[inline(always)]
 pub(crate) fn put_tag(
     u: Figures,
     o: Figures,

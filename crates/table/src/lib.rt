@@ -54,7 +54,8 @@ impl Value {
     pub const BOOL: u32 = 7;
 }
 
-// Whether the text of len bytes at start is key.
+// Whether the text of len bytes at start is key. Put into its callers: of most entries that are looked through the length alone is another.
+#[inline(always)]
 pub fn same_text(texts: &[u8], start: usize, len: usize, key: &[u8]) -> bool
     ensures { result ≡ same_text texts.now start len key.now }
 {
@@ -98,6 +99,7 @@ fn same_content(kind: u32, low: u32, high: u32, low2: u32, high2: u32) -> bool
 }
 
 // Whether the value stored as (kind, low, high) is v, or the text beside it.
+#[inline(always)]
 pub fn same_value(texts: &[u8], kind: u32, low: u32, high: u32, v: Value, text: &[u8]) -> bool
     ensures { result ≡ same_value texts.now kind low high v text.now }
 {

@@ -13,15 +13,15 @@ returns-in_err-q c =
 
 pub complete_valid-requires : goal.complete_valid-requires
 complete_valid-requires c =
-    let A = whole_part_on _ _ _ c.requires.from_le_to _ _ c.requires.sound c.add_run.result _ c.add_run.ensures _ c.in_ok-q.was (omega (arith, c.add_run.auto)) in
-    valid_is _ _ A.sound.valid
+    let ready = whole_part_on _ _ _ c.requires.from_le_to _ _ c.requires.sound c.add_run.result _ c.add_run.ensures _ c.in_ok-q.was (omega (arith, c.add_run.auto)) in
+    valid_is _ _ ready.sound.valid
 
 pub returns-in-Ok : goal.returns-in-Ok
 returns-in-Ok c =
-    let A = whole_part_on _ _ _ c.requires.from_le_to _ _ c.requires.sound c.add_run.result _ c.add_run.ensures _ c.in_ok-q.was (omega (arith, c.add_run.auto)) in
-    part_done _ _ _ _ _ _ _ _ A (omega arith) c.complete_valid.result _ c.complete_valid.ensures.answer _ _ c.in-Ok.is
+    let on = whole_part_on _ _ _ c.requires.from_le_to _ _ c.requires.sound c.add_run.result _ c.add_run.ensures _ c.in_ok-q.was (omega (arith, c.add_run.auto)) in
+    part_done _ _ _ _ _ _ _ _ on (omega arith) c.complete_valid.result _ c.complete_valid.ensures.answer _ _ c.in-Ok.is
 
 pub returns-in-Err : goal.returns-in-Err
 returns-in-Err c =
-    let A = whole_part_on _ _ _ c.requires.from_le_to _ _ c.requires.sound c.add_run.result _ c.add_run.ensures _ c.in_ok-q.was (omega (arith, c.add_run.auto)) in
-    part_stop _ _ _ _ _ _ _ _ A (omega arith) c.complete_valid.result _ c.complete_valid.ensures.answer _ c.in-Err.is
+    let off = whole_part_on _ _ _ c.requires.from_le_to _ _ c.requires.sound c.add_run.result _ c.add_run.ensures _ c.in_ok-q.was (omega (arith, c.add_run.auto)) in
+    part_stop _ _ _ _ _ _ _ _ off (omega arith) c.complete_valid.result _ c.complete_valid.ensures.answer _ c.in-Err.is
