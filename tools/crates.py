@@ -7,6 +7,7 @@ from pathlib import Path
 TOP = Path(__file__).resolve().parent.parent
 # a clause may have a label, or a star: `requires small {`, `ensures* {`, `ghost n: {`
 CLAUSE = re.compile(r"\s*(requires|ensures|ghost)\b\*?\s*\w*\s*:?\s*\{")
+GIVEN = r"\s*(?:::<[^<>()]*>)?\s*\("  # behind a name that is called, with or without types: `is_message::<Layer>(`
 HEAD = re.compile(r'^[ \t]*(?P<pub>pub\s+)?(?:pub\([^)]*\)\s+)?(?:unsafe\s+)?(?:extern\s+"C"\s+)?fn\s+(?P<name>\w+)(?P<types><(?:[^<>]|->|<[^<>]*>)*>)?', re.M)
 ARROW = re.compile(r"\s*->\s*[^{]*?(?=\s*(?:requires|ensures|ghost)\b|\s*\{)", re.S)
 FOLDERS = ["must-fail", "more-edits"]  # both tried by tools/try-edits, and must-fail by rt ci too
@@ -85,7 +86,7 @@ def callers(crate_functions, names):
     found = set(names)
     grown = True
     while grown:
-        called = re.compile(r"\b(?:" + "|".join({n.rsplit("::")[-1] for n in found}) + r")\s*\(")
+        called = re.compile(r"\b(?:" + "|".join({n.rsplit("::")[-1] for n in found}) + r")" + GIVEN)
         more = {f.name for f in crate_functions if f.name not in found and called.search(f.body)}
         grown = bool(more)
         found |= more
@@ -96,7 +97,7 @@ def callees(crate_functions, function, private_only=False):
     """The functions of the crate that a function calls, at first hand or through others."""
     found, bodies = set(), [function.body]
     while bodies:
-        names = set(re.findall(r"\b(\w+)\s*\(", bodies.pop()))
+        names = set(re.findall(r"\b(\w+)" + GIVEN, bodies.pop()))
         for f in crate_functions:
             if f.name not in found and f.name.rsplit("::")[-1] in names and not (private_only and f.public):
                 found.add(f.name)
